@@ -1,0 +1,10 @@
+pub mod Syntax
+pub mod Written
+pub mod Reading
+pub mod Calls
+pub mod Accept
+pub mod WellFormed
+pub mod Settings
+pub mod Verdict
+pub mod Inner
+pub mod Table

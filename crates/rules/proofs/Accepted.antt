@@ -1,23 +1,23 @@
 -- Reading and writing agree: a list of words is read as a program exactly when it is the written form of it, the program is well formed, and the count is in bounds.
-use mathlib.Core.Path.{_≡_, refl, sym, ap, _∙_}
+use mathlib.Core.Path.{_≡_, refl, sym, ap}
 use mathlib.Core.Logic.{_↔_}
-use mathlib.Core.Bool.{Bool, true, false, _&&_}
+use mathlib.Core.Bool.{_&&_}
 use mathlib.Core.List.{List, [], _∷_}
-use Prim.Native.Nat.{ℕ, zero, suc, _+_, _-_, _*_, _<_, _≤_}
+use Prim.Native.Nat.{ℕ, _+_, _*_, _≤_}
 use native.Mathlib.Omega.{arith}
 use lib.Dec.{leb}
 use lib.ListN.{length}
 use borrow.Author.Tests.{leb-true, le-leb}
 use Rattle.rules.specs.Syntax.{Relation, Program}
 use Rattle.rules.specs.Written.{written}
-use Rattle.rules.specs.Reading.{Reading, found, refuse, require, read-relations, read-structure}
+use Rattle.rules.specs.Reading.{Reading, found, refuse, read-relations, read-structure}
 use Rattle.rules.specs.Calls.{Fault, sound, fault, relations-fault}
 use Rattle.rules.specs.WellFormed.{WellFormed, RelationsGood}
-use Rattle.rules.specs.Accept.{Accept, accepted, refused, judge, calls-read, read}
+use Rattle.rules.specs.Accept.{accepted, refused, judge, calls-read, read}
 use Rattle.rules.proofs.Combine.{require-found, and-true}
 use Rattle.rules.specs.Inner.{Stands}
-use Rattle.rules.proofs.Stands.{stands-self, stands-at, stands-whole}
-use Rattle.rules.proofs.Sound.{Found, relations-sound}
+use Rattle.rules.proofs.Stands.{stands-self, stands-whole}
+use Rattle.rules.proofs.Sound.{relations-sound}
 use Rattle.rules.proofs.Complete.{relations-complete}
 use Rattle.rules.proofs.CallLaws.{relations-calls, calls-relations}
 

@@ -1,32 +1,31 @@
 -- The calls of a program have no fault exactly when each is of a relation that is there, with as many arguments as it has parameters.
-use mathlib.Core.Path.{_≡_, refl, sym, ap, _∙_}
+use mathlib.Core.Path.{_≡_, refl}
 use mathlib.Core.Bool.{Bool, true, false}
 use mathlib.Core.Option.{Option, some, none}
 use mathlib.Core.List.{List, [], _∷_}
-use Prim.Native.Nat.{ℕ, zero, suc, _+_, _<_, _≤_}
+use Prim.Native.Nat.{ℕ, _+_}
 use native.Mathlib.Omega.{arith}
 use lib.Dec.{eqb}
-use lib.ListN.{length, getElem?, length-append}
+use lib.ListN.{length, getElem?}
 use borrow.Author.Tests.{eqb-true, eq-eqb}
-use Rattle.rules.specs.Syntax.{Term, Constraint, Goal, Goals, equal, constrain, conj, disj, call, one, more, Relation, Program}
-use Rattle.rules.specs.Written.{goal-words, goals-words, relation-words, written}
+use Rattle.rules.specs.Syntax.{Goal, Goals, equal, constrain, conj, disj, call, one, more, Relation, Program}
+use Rattle.rules.specs.Written.{goal-words, relation-words}
 use Rattle.rules.specs.Calls.{Fault, sound, fault, or-else, counted, call-fault, goal-fault, goals-fault, relations-fault}
 use Rattle.rules.specs.WellFormed.{CallGood, GoalCalls, GoalsCalls, RelationsCalls}
-use Rattle.rules.proofs.Stands.{goal-some}
 
 pub not-sound : {C : Type 0} (c p : ℕ) → fault c p ≡ sound → C
 not-sound c p e = absurd (let z : _≡_ {A = ℕ} 0 1 = cc in omega arith)
 
 pub or-else-sound : (a b : Fault) → or-else a b ≡ sound → (a ≡ sound) × (b ≡ sound)
 or-else-sound sound b e = (refl, e)
-or-else-sound (fault c p) b e = not-sound c p e
+or-else-sound (fault c p) b e = not-sound _ _ e
 
 counted-sound : (t : Bool) (at : ℕ) → counted t at ≡ sound → t ≡ true
 counted-sound true at e = refl
-counted-sound false at e = not-sound 8 at e
+counted-sound false at e = not-sound _ _ e
 
 call-good : (o : Option Relation) (args at : ℕ) → call-fault o args at ≡ sound → CallGood o args
-call-good none args at e = not-sound 7 at e
+call-good none args at e = not-sound _ _ e
 call-good (some R) args at e = eqb-true args (R .params) (counted-sound (eqb args (R .params)) at e)
 
 good-call : (o : Option Relation) (args at : ℕ) → CallGood o args → call-fault o args at ≡ sound

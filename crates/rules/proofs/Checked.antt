@@ -1,19 +1,19 @@
 -- What `check` says, test by test, and that a refusal's place is small.
 use mathlib.Core.Path.{_≡_, refl, sym, ap, _∙_}
-use mathlib.Core.Bool.{Bool, true, false, _&&_}
-use mathlib.Core.List.{List, [], _∷_}
-use Prim.Native.Nat.{ℕ, zero, suc, _+_, _*_, _<_, _≤_}
+use mathlib.Core.Bool.{Bool, true, false}
+use mathlib.Core.List.{List}
+use Prim.Native.Nat.{ℕ, _+_, _*_, _<_, _≤_}
 use native.Mathlib.Omega.{arith}
 use lib.Dec.{leb}
 use lib.ListN.{length}
 use borrow.Author.Tests.{le-leb, lt-leb, leb-true, leb-false}
 use Rattle.rules.specs.Syntax.{Program}
 use Rattle.rules.specs.Written.{written}
-use Rattle.rules.specs.Reading.{Reading, found, refuse, read-relations, read-structure}
+use Rattle.rules.specs.Reading.{found, read-relations, read-structure}
 use Rattle.rules.specs.Calls.{relations-fault}
 use Rattle.rules.specs.Accept.{Accept, accepted, refused, judge, read}
-use Rattle.rules.specs.Verdict.{Said, yes-said, no-said, said}
-use Rattle.rules.specs.Inner.{ends, stops, told, Settles, RelationsAt}
+use Rattle.rules.specs.Verdict.{no-said, said}
+use Rattle.rules.specs.Inner.{ends, stops, Settles, RelationsAt}
 use Rattle.rules.proofs.Combine.{ended, stopped}
 use Rattle.rules.proofs.Stands.{stands-self}
 use Rattle.rules.proofs.Accepted.{structure-written}

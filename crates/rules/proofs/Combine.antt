@@ -1,12 +1,12 @@
 -- Laws of the readers' combinators: what a reading that found something has passed, and what is known of one by where it ended.
 use mathlib.Core.Path.{_≡_, refl, sym, ap, _∙_, subst₂}
 use mathlib.Core.Bool.{Bool, true, false, _&&_}
-use Prim.Native.Nat.{ℕ, zero, suc, _+_, _-_, _<_, _≤_}
+use Prim.Native.Nat.{ℕ, _≤_}
 use native.Mathlib.Omega.{arith}
-use lib.Dec.{eqb, ltb, leb}
+use lib.Dec.{leb}
 use borrow.Author.Tests.{leb-true}
-use Rattle.rules.specs.Reading.{Reading, found, refuse, next, require, choose, filled}
-use Rattle.rules.specs.Inner.{Outcome, ends, stops, told, Settles}
+use Rattle.rules.specs.Reading.{Reading, found, refuse, next, require, choose, filled, fill}
+use Rattle.rules.specs.Inner.{Outcome, ends, stops, told, filled-told, Settles}
 
 pub found-not-refused : {A : Type 0} {C : Type 0} (a : A) (n c p : ℕ) → refuse c p ≡ found a n → C
 found-not-refused a n c p e = absurd (let z : _≡_ {A = ℕ} 0 1 = cc in omega arith)
@@ -35,6 +35,12 @@ next-found (refuse c p) k b n e = found-not-refused b n c p e
 
 pub filled-found : {A : Type 0} (a b : A) (at end n : ℕ) → filled a at end ≡ found b n → (end ≤ at) × (found a at ≡ found b n)
 filled-found a b at end n e = let q = require-found (leb end at) 3 at (λ _. found a at) b n e in (leb-true end at (q .0), q .1)
+
+pub fill-found : {A : Type 0} (r : Reading A) (end : ℕ) (b : A) (n : ℕ) → fill r end ≡ found b n → (r ≡ found b n) × (end ≤ n)
+fill-found {A} (found a m) end b n e =
+    let u = filled-found a b m end n e in
+    (u .1, found-carries (λ (_ : A) n. end ≤ n) (u .1) (u .0))
+fill-found (refuse c p) end b n e = found-not-refused b n c p e
 
 bool-code : Bool → ℕ
 bool-code true = 1
@@ -65,3 +71,15 @@ next-stops r k c p e = rw (stopped r c p e)
 pub told-map : {A B : Type 0} (r : Reading A) (g : A → B) → told (next r (λ a n. found (g a) n)) ≡ told r
 told-map (found a n) g = refl
 told-map (refuse c p) g = refl
+
+-- what is told of a reading that has to fill its part
+pub told-fill : {A : Type 0} (r : Reading A) (end : ℕ) → told (fill r end) ≡ filled-told (told r) end
+told-fill (found a n) end = go (leb end n) refl
+  where
+    go : (t : Bool) → leb end n ≡ t → told (filled a n end) ≡ filled-told (ends n) end
+    go true e = simp e
+    go false e = simp e
+told-fill (refuse c p) end = refl
+
+pub fill-settles : {A : Type 0} (r : ℕ → Reading A) (need end : ℕ) (o q : Outcome) → Settles r need o → q ≡ filled-told o end → Settles (λ f. fill (r f) end) need q
+fill-settles r need end o q h e f d = e ∙ ap (λ o. filled-told o end) (h f d) ∙ sym (told-fill (r f) end)

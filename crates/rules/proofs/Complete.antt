@@ -1,19 +1,18 @@
 -- The written form of what is good is read back: writing goes back to reading.
 use mathlib.Core.Path.{_≡_, refl, sym, ap, _∙_}
-use mathlib.Core.Bool.{Bool, true, false, _&&_}
 use mathlib.Core.List.{List, [], _∷_, _++_}
 use Prim.Native.Nat.{ℕ, zero, suc, _+_, _-_, _*_, _<_, _≤_}
 use native.Mathlib.Omega.{arith}
-use lib.Dec.{eqb, ltb, leb}
+use lib.Dec.{eqb}
 use lib.ListN.{length, getD, length-append}
 use borrow.Author.Tests.{lt-ltb, le-ltb, le-leb, lt-leb, eq-eqb, ne-eqb}
-use Rattle.word.specs.Word.{kind, payload, word}
-use Rattle.rules.specs.Syntax.{Atom, symbol, number, empty, Term, var, atom, pair, Sort, symbols, numbers, Constraint, differ, typed, absento, Goal, Goals, equal, constrain, conj, disj, call, one, more, Relation, Program}
-use Rattle.rules.specs.Written.{atom-word, term-words, terms-words, constraint-words, goal-words, goals-words, relation-words, written, part}
-use Rattle.rules.specs.Reading.{Reading, found, refuse, next, require, choose, filled, present, inside, kind-at, payload-at, after, read-word, read-leaf, term-step, read-term, read-one, read-two, terms-step, read-terms, goal-kind, goal-parts, goal-step, goals-step, read-goal, read-goals, read-absento, read-call, read-body, read-variables, read-relation, read-relations, two-terms, one-term, of-goals}
+use Rattle.word.specs.Word.{word}
+use Rattle.rules.specs.Syntax.{symbol, number, empty, Term, var, atom, pair, symbols, numbers, Constraint, differ, typed, absento, Goal, Goals, equal, constrain, conj, disj, call, one, more, Relation, Program}
+use Rattle.rules.specs.Written.{term-words, terms-words, constraint-words, goal-words, goals-words, relation-words, written, part}
+use Rattle.rules.specs.Reading.{found, kind-at, payload-at, read-word, read-leaf, read-term, read-one, read-two, read-terms, goal-parts, read-goal, read-goals, read-absento, read-call, read-body, read-variables, read-relation, read-relations, two-terms, one-term, of-goals}
 use Rattle.rules.specs.WellFormed.{TermGood, TermsGood, ConstraintGood, GoalGood, GoalsGood, RelationGood, RelationsGood}
 use Rattle.rules.specs.Inner.{Stands}
-use Rattle.rules.proofs.Stands.{stands-at, stands-split, term-some, goal-some, goals-some, kind-of, payload-of}
+use Rattle.rules.proofs.Stands.{stands-split, term-some, goal-some, goals-some, kind-of, payload-of}
 
 -- what enclosing parts are: at most a program
 pub record Room (words vars at end n : ℕ) : Type 0 where

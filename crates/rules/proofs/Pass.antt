@@ -1,21 +1,18 @@
 -- The second pass: what it skips, finds and goes on to, one law for each way in which its functions return or go on.
 use mathlib.Core.Path.{_≡_, refl, sym, ap, _∙_}
-use mathlib.Core.Bool.{Bool, true, false}
 use mathlib.Core.Option.{Option, some, none}
 use mathlib.Core.List.{List, [], _∷_, _++_, append-assoc}
 use Prim.Native.Nat.{ℕ, zero, suc, _+_, _-_, _<_, _≤_}
 use native.Mathlib.Omega.{arith}
-use native.Mathlib.Numerals.{add-one}
-use lib.Dec.{eqb}
 use lib.ListN.{length, getD, getElem?, length-append}
 use borrow.Author.Tests.{eq-eqb, ne-eqb}
 use Rattle.word.specs.Word.{word}
-use Rattle.rules.specs.Syntax.{Atom, symbol, number, empty, Term, var, atom, pair, Sort, symbols, numbers, Constraint, differ, typed, absento, Goal, Goals, equal, constrain, conj, disj, call, one, more, Relation, Program}
-use Rattle.rules.specs.Written.{atom-word, term-words, terms-words, constraint-words, goal-words, goals-words, relation-words, written, part, sort-kind}
-use Rattle.rules.specs.WellFormed.{TermGood, TermsGood, ConstraintGood, GoalGood, GoalsGood, RelationGood, RelationsGood}
-use Rattle.rules.specs.Calls.{Fault, sound, fault, or-else, counted, call-fault, goal-fault, goals-fault, relations-fault}
-use Rattle.rules.specs.Inner.{Stands, PartAt, TermAt, TermsAt, RelationsAt, Item, relation, goal, item-words, ItemGood, item-fault, items-words, ItemsGood, items-fault, Rest, Moves, params-of, Outcome, ends, stops}
-use Rattle.rules.proofs.Stands.{stands-at, stands-append, stands-split, term-some, goal-some, goals-some, kind-of, payload-of}
+use Rattle.rules.specs.Syntax.{symbol, number, empty, Term, var, atom, pair, symbols, numbers, Constraint, differ, typed, absento, Goal, Goals, equal, constrain, conj, disj, call, one, more, Relation, Program}
+use Rattle.rules.specs.Written.{atom-word, term-words, terms-words, goal-words, goals-words, relation-words, written, part, sort-kind}
+use Rattle.rules.specs.WellFormed.{TermGood, TermsGood, GoalGood, GoalsGood, RelationGood, RelationsGood}
+use Rattle.rules.specs.Calls.{Fault, sound, fault, or-else, call-fault, goal-fault, goals-fault, relations-fault}
+use Rattle.rules.specs.Inner.{Stands, PartAt, TermAt, TermsAt, RelationsAt, Item, relation, goal, item-words, item-fault, items-words, ItemsGood, items-fault, Rest, Moves, params-of, ends, stops}
+use Rattle.rules.proofs.Stands.{stands-at, stands-append, stands-split, term-some, kind-of, payload-of}
 
 -- what a part at a place is, where its word is known
 part-kind : (ws : List ℕ) (at k p q n : ℕ) → PartAt ws at k p → getD ws at 0 ≡ word q n → n < 268435456 → k ≡ q

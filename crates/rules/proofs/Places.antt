@@ -1,20 +1,19 @@
 -- A refusal's place is at most the word count, and its number is among 1 to 8.
-use mathlib.Core.Path.{_≡_, refl, sym, ap, _∙_}
+use mathlib.Core.Path.{_≡_, refl, ap}
 use mathlib.Core.Bool.{Bool, true, false, _&&_}
 use mathlib.Core.Option.{Option, some, none}
 use mathlib.Core.List.{List, [], _∷_, _++_}
 use Prim.Native.Nat.{ℕ, zero, suc, _+_, _-_, _*_, _<_, _≤_}
 use native.Mathlib.Omega.{arith}
 use lib.Dec.{eqb, ltb, leb}
-use lib.ListN.{length, getD, getElem?, length-append}
-use borrow.Author.Tests.{ltb-true, ltb-false, leb-true, leb-false}
-use Rattle.rules.specs.Syntax.{Term, Constraint, Goal, Goals, equal, constrain, conj, disj, call, one, more, Relation, Program}
-use Rattle.rules.specs.Written.{goal-words, goals-words, constraint-words, relation-words, written}
-use Rattle.rules.specs.Reading.{Reading, found, refuse, next, require, choose, filled, present, inside, kind-at, payload-at, after, read-word, read-leaf, term-step, read-term, read-one, read-two, terms-step, read-terms, goal-kind, goal-parts, goal-step, goals-step, read-goal, read-goals, read-absento, read-call, read-body, read-variables, read-relation, read-relations, read-structure}
+use lib.ListN.{length, getElem?, length-append}
+use borrow.Author.Tests.{ltb-true, leb-true}
+use Rattle.rules.specs.Syntax.{Goal, Goals, equal, constrain, conj, disj, call, one, more, Relation, Program}
+use Rattle.rules.specs.Written.{goal-words, goals-words, relation-words, written}
+use Rattle.rules.specs.Reading.{Reading, found, refuse, next, require, choose, filled, fill, kind-at, payload-at, after, read-word, read-leaf, read-term, read-one, read-two, read-terms, goal-kind, goal-parts, read-goal, read-goals, read-absento, read-call, read-body, read-variables, read-relation, read-relations, read-structure}
 use Rattle.rules.specs.Calls.{Fault, sound, fault, or-else, counted, call-fault, goal-fault, goals-fault, relations-fault}
-use Rattle.rules.specs.Accept.{Accept, accepted, refused, judge, calls-read, read}
-use Rattle.rules.proofs.Stands.{goal-some}
-use Rattle.rules.proofs.Sound.{Found, term-sound, word-sound, goal-sound, relation-sound}
+use Rattle.rules.specs.Accept.{refused, judge, calls-read, read}
+use Rattle.rules.proofs.Sound.{term-sound, word-sound, goal-sound, relation-sound}
 use Rattle.rules.proofs.Accepted.{structure-written}
 
 pub record Placed (end c p : ℕ) : Type 0 where
@@ -46,6 +45,9 @@ module _ {A : Type 0} where
 
   bounded-filled : (end : ℕ) (a : A) (n stop : ℕ) → n ≤ end → Bounded end (filled a n stop)
   bounded-filled end a n stop l = bounded-require end 3 n (leb stop n) _ (record { from-one = omega arith; to-eight = omega arith; within = l }) (λ _. tt)
+
+  bounded-fill : (end : ℕ) (r : Reading A) → Bounded end r → ((a : A) (n : ℕ) → r ≡ found a n → n ≤ end) → Bounded end (fill r end)
+  bounded-fill end r h f = bounded-next end r (λ a n. filled a n end) h (λ a n e. bounded-filled end a n end (f a n e))
 
 -- every number that a reader gives is in range, at a place up to `end`
 placed : (end c p : ℕ) → 1 ≤ c → c ≤ 8 → p ≤ end → Placed end c p
@@ -80,16 +82,15 @@ term-bounded (suc words) ws vars at end =
     bounded-choose end (eqb (kind-at ws at) 4) _ _
     (λ _. bounded-require end 3 at (leb (payload-at ws at) (end - (at + 1))) _ (placed end 3 at (omega arith) (omega arith) (omega arith)) (λ y.
     let v = after-within ws at end l y in
-    bounded-next end (read-term words ws vars (at + 1) (after ws at)) _ (bounded-more (after ws at) end (read-term words ws vars (at + 1) (after ws at)) v (term-bounded words ws vars (at + 1) (after ws at))) (λ s n e.
-    let f = term-sound words ws vars (at + 1) (after ws at) s n e in
-    bounded-next end (filled s n (after ws at)) _ (bounded-filled end s n (after ws at) (omega (arith, f .within, v))) (λ s m _.
-    bounded-next end (read-term words ws vars (after ws at) end) _ (term-bounded words ws vars (after ws at) end) (λ t e _. tt)))))
+    bounded-next end (fill (read-term words ws vars (at + 1) (after ws at)) (after ws at)) _
+    (bounded-more (after ws at) end (fill (read-term words ws vars (at + 1) (after ws at)) (after ws at)) v
+    (bounded-fill (after ws at) (read-term words ws vars (at + 1) (after ws at)) (term-bounded words ws vars (at + 1) (after ws at)) (λ s n e. term-sound words ws vars (at + 1) (after ws at) s n e .within))) (λ s m _.
+    bounded-next end (read-term words ws vars (after ws at) end) _ (term-bounded words ws vars (after ws at) end) (λ t e _. tt))))
     (λ _. leaf-bounded (kind-at ws at) (payload-at ws at) vars at end (omega arith))))
 
 one-bounded : (words : ℕ) (ws : List ℕ) (vars at end : ℕ) → Bounded end (read-one words ws vars at end)
 unfolding read-one
-one-bounded words ws vars at end =
-    bounded-next end (read-term words ws vars at end) _ (term-bounded words ws vars at end) (λ t n e. bounded-filled end t n end (term-sound words ws vars at end t n e .within))
+one-bounded words ws vars at end = bounded-fill end (read-term words ws vars at end) (term-bounded words ws vars at end) (λ t n e. term-sound words ws vars at end t n e .within)
 
 two-bounded : (words : ℕ) (ws : List ℕ) (vars at end : ℕ) → Bounded end (read-two words ws vars at end)
 unfolding read-two
@@ -140,8 +141,7 @@ variables-bounded words ws params at end l =
     bounded-next end (read-word 2 ws at end) _ (word-bounded 2 ws at end) (λ vars n _.
     bounded-require end 4 at (leb vars 255 && leb params vars) _ (placed end 4 at (omega arith) (omega arith) l) (λ _.
     bounded-next end (read-body words ws vars n end) _
-    (bounded-next end (read-goal words ws vars n end) _ (goals-both-bounded words ws vars .0 n end) (λ g q f.
-    bounded-filled end _ q end (goal-sound words ws vars n end g q f .within)))
+    (bounded-fill end (read-goal words ws vars n end) (goals-both-bounded words ws vars .0 n end) (λ g q f. goal-sound words ws vars n end g q f .within))
     (λ g m _. tt)))
 
 relation-bounded : (words : ℕ) (ws : List ℕ) (before at : ℕ) → at < length ws → Bounded (length ws) (read-relation words ws before at)

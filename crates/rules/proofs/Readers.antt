@@ -1,18 +1,17 @@
 -- What the code's readers tell, test by test: one law for each way in which a reader returns or goes on.
 use mathlib.Core.Path.{_≡_, refl, sym, ap, _∙_}
-use mathlib.Core.Bool.{Bool, true, false, _&&_}
-use mathlib.Core.List.{List, [], _∷_}
+use mathlib.Core.List.{List, _∷_}
 use Prim.Native.Nat.{ℕ, zero, suc, _+_, _-_, _*_, _<_, _≤_}
 use native.Mathlib.Omega.{arith}
-use lib.Dec.{eqb, ltb, leb}
-use lib.ListN.{length, getD}
-use borrow.Author.Tests.{lt-ltb, le-ltb, le-leb, lt-leb, eq-eqb, ne-eqb, ltb-true, eqb-true}
-use Rattle.rules.specs.Syntax.{symbol, Term, var, atom, pair, empty, absento, Goal, Goals, constrain, call, one, more, Relation, Program}
-use Rattle.rules.specs.Reading.{Reading, found, refuse, next, require, choose, filled, kind-at, payload-at, after, read-word, read-leaf, read-term, read-one, read-two, read-terms, read-absento, read-call, goal-parts, read-goal, read-goals, read-body, read-variables, read-relation, read-relations, two-terms, one-term, of-goals}
-use Rattle.rules.specs.Inner.{Outcome, ends, stops, told, Settles, PartAt}
-use Rattle.rules.proofs.Combine.{ended, stopped, next-stops, told-map, require-found}
+use lib.Dec.{eqb, ltb}
+use lib.ListN.{length}
+use borrow.Author.Tests.{lt-ltb, le-ltb, le-leb, lt-leb, eq-eqb, ne-eqb, ltb-true}
+use Rattle.rules.specs.Syntax.{symbol, Term, var, atom, pair, empty, absento, constrain, call, more}
+use Rattle.rules.specs.Reading.{Reading, found, next, require, fill, kind-at, payload-at, read-word, read-leaf, read-term, read-one, read-two, read-terms, read-absento, read-call, goal-parts, read-goal, read-goals, read-body, read-variables, read-relation, read-relations, two-terms, one-term, of-goals}
+use Rattle.rules.specs.Inner.{Outcome, ends, stops, told, filled-told, Settles, PartAt}
+use Rattle.rules.proofs.Combine.{ended, next-stops, told-map, require-found, fill-settles}
 use Rattle.rules.proofs.Stands.{term-some, goal-some}
-use Rattle.rules.proofs.Sound.{Found, term-sound, terms-sound, goal-sound, relation-sound}
+use Rattle.rules.proofs.Sound.{term-sound, goal-sound, relation-sound}
 
 -- any depth over a need is one more than some depth
 pub settle : {A : Type 0} (r : ℕ → Reading A) (need : ℕ) (o : Outcome) → ((g : ℕ) → need < suc g → o ≡ told (r (suc g))) → Settles r need o
@@ -26,12 +25,6 @@ module _ {A B : Type 0} where
 
   next-map : (r : Reading A) (g : A → B) (o : Outcome) → o ≡ told r → o ≡ told (next r (λ a n. found (g a) n))
   next-map r g o e = e ∙ sym (told-map r g)
-
-filled-ends : {A : Type 0} (a : A) (n end : ℕ) → end ≤ n → ends n ≡ told (filled a n end)
-filled-ends a n end l = simp (le-leb end n l)
-
-filled-over : {A : Type 0} (a : A) (n end : ℕ) → n < end → stops 3 n ≡ told (filled a n end)
-filled-over a n end l = simp (lt-leb end n l)
 
 -- words
 pub word-missing : (k : ℕ) (ws : List ℕ) (at end : ℕ) → end ≤ at → stops 3 end ≡ told (read-word k ws at end)
@@ -108,23 +101,24 @@ module _ (ws : List ℕ) (vars at end k p : ℕ) (l : at < end) (s : PartAt ws a
   -- a pair whose first part stays inside
   module _ (e : k ≡ 4) (b : p ≤ end - (at + 1)) where
     pair-reads : (g : ℕ) (o : Outcome)
-        → o ≡ told (next (read-term g ws vars (at + 1) (at + 1 + p)) (λ s n. next (filled s n (at + 1 + p)) (λ s m. next (read-term g ws vars (at + 1 + p) end) (λ t e. found (pair s t) e))))
+        → o ≡ told (next (fill (read-term g ws vars (at + 1) (at + 1 + p)) (at + 1 + p)) (λ s m. next (read-term g ws vars (at + 1 + p) end) (λ t e. found (pair s t) e)))
         → o ≡ told (read-term (suc g) ws vars at end)
     unfolding read-term
     pair-reads g o h = simp (lt-ltb at end l, is-kind ∙ e, is-size, le-leb p (end - (at + 1)) b) h
 
-    pub term-first-stops : (c q : ℕ) → TermTold ws vars (at + 1) (at + 1 + p) (stops c q) → TermTold ws vars at end (stops c q)
-    term-first-stops c q h = settle (λ f. read-term f ws vars at end) (end - at) (stops c q) (λ g d. pair-reads g (stops c q)
-        (next-stops (read-term g ws vars (at + 1) (at + 1 + p)) _ c q (h g (omega arith))))
+    -- the first part has to fill its place
+    first-told : (o q : Outcome) → TermTold ws vars (at + 1) (at + 1 + p) o → q ≡ filled-told o (at + 1 + p)
+        → Settles (λ f. fill (read-term f ws vars (at + 1) (at + 1 + p)) (at + 1 + p)) (at + 1 + p - (at + 1)) q
+    first-told o q h e = fill-settles (λ f. read-term f ws vars (at + 1) (at + 1 + p)) (at + 1 + p - (at + 1)) (at + 1 + p) o q h e
 
-    pub term-left-over : (n : ℕ) → TermTold ws vars (at + 1) (at + 1 + p) (ends n) → n < at + 1 + p → TermTold ws vars at end (stops 3 n)
-    term-left-over n h u = settle (λ f. read-term f ws vars at end) (end - at) (stops 3 n) (λ g d. pair-reads g (stops 3 n)
-        (next-ends (read-term g ws vars (at + 1) (at + 1 + p)) _ n (stops 3 n) (h g (omega arith)) (λ t _. next-stops (filled t n (at + 1 + p)) _ 3 n (filled-over t n (at + 1 + p) u))))
+    pub term-first-stops : (c q : ℕ) (o : Outcome) → TermTold ws vars (at + 1) (at + 1 + p) o → stops c q ≡ filled-told o (at + 1 + p) → TermTold ws vars at end (stops c q)
+    term-first-stops c q o h e = settle (λ f. read-term f ws vars at end) (end - at) (stops c q) (λ g d. pair-reads g (stops c q)
+        (next-stops (fill (read-term g ws vars (at + 1) (at + 1 + p)) (at + 1 + p)) _ c q (first-told o (stops c q) h e g (omega arith))))
 
-    pub term-second : (n : ℕ) → TermTold ws vars (at + 1) (at + 1 + p) (ends n) → at + 1 + p ≤ n → (o : Outcome) → TermTold ws vars (at + 1 + p) end o → TermTold ws vars at end o
-    term-second n h u o r = settle (λ f. read-term f ws vars at end) (end - at) o (λ g d. pair-reads g o
-        (next-ends (read-term g ws vars (at + 1) (at + 1 + p)) _ n o (h g (omega arith)) (λ t _. simp (le-leb (at + 1 + p) n u)
-        (next-map (read-term g ws vars (at + 1 + p) end) (pair t) o (r g (omega arith))))))
+    pub term-second : (n : ℕ) (o : Outcome) → TermTold ws vars (at + 1) (at + 1 + p) o → ends n ≡ filled-told o (at + 1 + p) → (u : Outcome) → TermTold ws vars (at + 1 + p) end u → TermTold ws vars at end u
+    term-second n o h e u r = settle (λ f. read-term f ws vars at end) (end - at) u (λ g d. pair-reads g u
+        (next-ends (fill (read-term g ws vars (at + 1) (at + 1 + p)) (at + 1 + p)) _ n u (first-told o (ends n) h e g (omega arith)) (λ t _.
+        next-map (read-term g ws vars (at + 1 + p) end) (pair t) u (r g (omega arith)))))
 
 pub record Ahead (at end n : ℕ) : Type 0 where
   pub past : at < n
@@ -137,17 +131,9 @@ term-ahead ws vars at end n h =
     record { past = omega (arith, f .to, term-some (q .0)); within = f .within }
 
 -- one term, and two
-pub one-stops : (ws : List ℕ) (vars at end c q : ℕ) → TermTold ws vars at end (stops c q) → Settles (λ f. read-one f ws vars at end) (end - at) (stops c q)
+pub one-told : (ws : List ℕ) (vars at end : ℕ) (o q : Outcome) → TermTold ws vars at end o → q ≡ filled-told o end → Settles (λ f. read-one f ws vars at end) (end - at) q
 unfolding read-one
-one-stops ws vars at end c q h f d = next-stops (read-term f ws vars at end) _ c q (h f d)
-
-pub one-left-over : (ws : List ℕ) (vars at end n : ℕ) → TermTold ws vars at end (ends n) → n < end → Settles (λ f. read-one f ws vars at end) (end - at) (stops 3 n)
-unfolding read-one
-one-left-over ws vars at end n h u f d = next-ends (read-term f ws vars at end) _ n (stops 3 n) (h f d) (λ t _. filled-over t n end u)
-
-pub one-ends : (ws : List ℕ) (vars at end n : ℕ) → TermTold ws vars at end (ends n) → end ≤ n → Settles (λ f. read-one f ws vars at end) (end - at) (ends n)
-unfolding read-one
-one-ends ws vars at end n h u f d = next-ends (read-term f ws vars at end) _ n (ends n) (h f d) (λ t _. filled-ends t n end u)
+one-told ws vars at end o q h e = fill-settles (λ f. read-term f ws vars at end) (end - at) end o q h e
 
 pub two-stops : (ws : List ℕ) (vars at end c q : ℕ) → TermTold ws vars at end (stops c q) → Settles (λ f. read-two f ws vars at end) (end - at) (stops c q)
 unfolding read-two
@@ -273,17 +259,9 @@ goals-next ws vars at end n h u o r = settle (λ f. read-goals f ws vars at end)
     next-ends (read-goal g ws vars at end) _ n o (h g (omega arith)) (λ t _. simp (lt-ltb n end u) (next-map (read-goals g ws vars n end) (more t) o (r g (omega (arith, a .past))))))
 
 -- relations
-pub body-stops : (ws : List ℕ) (vars at end c q : ℕ) → GoalTold ws vars at end (stops c q) → Settles (λ f. read-body f ws vars at end) (2 * (end - at) + 1) (stops c q)
+pub body-told : (ws : List ℕ) (vars at end : ℕ) (o q : Outcome) → GoalTold ws vars at end o → q ≡ filled-told o end → Settles (λ f. read-body f ws vars at end) (2 * (end - at) + 1) q
 unfolding read-body
-body-stops ws vars at end c q h f d = next-stops (read-goal f ws vars at end) _ c q (h f d)
-
-pub body-left-over : (ws : List ℕ) (vars at end n : ℕ) → GoalTold ws vars at end (ends n) → n < end → Settles (λ f. read-body f ws vars at end) (2 * (end - at) + 1) (stops 3 n)
-unfolding read-body
-body-left-over ws vars at end n h u f d = next-ends (read-goal f ws vars at end) _ n (stops 3 n) (h f d) (λ t _. filled-over t n end u)
-
-pub body-ends : (ws : List ℕ) (vars at end n : ℕ) → GoalTold ws vars at end (ends n) → end ≤ n → Settles (λ f. read-body f ws vars at end) (2 * (end - at) + 1) (ends n)
-unfolding read-body
-body-ends ws vars at end n h u f d = next-ends (read-goal f ws vars at end) _ n (ends n) (h f d) (λ t _. filled-ends t n end u)
+body-told ws vars at end o q h e = fill-settles (λ f. read-goal f ws vars at end) (2 * (end - at) + 1) end o q h e
 
 pub variables-stop : (ws : List ℕ) (params at end c q : ℕ) → stops c q ≡ told (read-word 2 ws at end) → Settles (λ f. read-variables f ws params at end) (2 * (end - at) + 1) (stops c q)
 unfolding read-variables

@@ -1,5 +1,5 @@
 -- What a reader has found stands in the words, in its written form, and is good: reading goes back to writing.
-use mathlib.Core.Path.{_≡_, refl, sym, ap, _∙_}
+use mathlib.Core.Path.{_≡_, refl, ap, _∙_}
 use mathlib.Core.Bool.{Bool, true, false, _&&_}
 use mathlib.Core.List.{List, [], _∷_, _++_}
 use Prim.Native.Nat.{ℕ, zero, suc, _+_, _-_, _<_, _≤_}
@@ -7,14 +7,14 @@ use native.Mathlib.Omega.{arith}
 use lib.Dec.{eqb, ltb, leb}
 use lib.ListN.{length, getD, length-append}
 use borrow.Author.Tests.{ltb-true, ltb-false, leb-true, leb-false, eqb-true, eqb-false}
-use Rattle.word.specs.Word.{kind, payload, word}
-use Rattle.rules.specs.Syntax.{Atom, symbol, number, empty, Term, var, atom, pair, Sort, symbols, numbers, Constraint, differ, typed, absento, Goal, Goals, equal, constrain, conj, disj, call, one, more, Relation, Program}
-use Rattle.rules.specs.Written.{term-words, terms-words, constraint-words, goal-words, goals-words, relation-words, written, part}
-use Rattle.rules.specs.Reading.{Reading, found, refuse, next, require, choose, filled, present, inside, kind-at, payload-at, after, read-word, read-leaf, term-step, read-term, read-one, read-two, terms-step, read-terms, goal-kind, goal-parts, goal-step, goals-step, read-goal, read-goals, read-absento, read-call, read-body, read-variables, read-relation, read-relations, two-terms, one-term, of-goals}
-use Rattle.rules.specs.WellFormed.{TermGood, TermsGood, ConstraintGood, GoalGood, GoalsGood, RelationGood, RelationsGood}
-use Rattle.rules.proofs.Combine.{found-not-refused, found-carries, require-found, choose-found, Passed, next-found, filled-found, and-true}
+use Rattle.word.specs.Word.{payload, word}
+use Rattle.rules.specs.Syntax.{Term, pair, Goal, Goals, Relation, Program}
+use Rattle.rules.specs.Written.{term-words, terms-words, goal-words, goals-words, relation-words, written, part}
+use Rattle.rules.specs.Reading.{found, fill, kind-at, payload-at, after, read-word, read-leaf, read-term, read-one, read-two, read-terms, goal-kind, goal-parts, read-goal, read-goals, read-absento, read-call, read-body, read-variables, read-relation, read-relations, two-terms, one-term, of-goals}
+use Rattle.rules.specs.WellFormed.{TermGood, TermsGood, GoalGood, GoalsGood, RelationGood, RelationsGood}
+use Rattle.rules.proofs.Combine.{found-not-refused, found-carries, require-found, choose-found, next-found, fill-found, and-true}
 use Rattle.rules.specs.Inner.{Stands}
-use Rattle.rules.proofs.Stands.{stands-at, stands-append, term-some, goal-some, is-word}
+use Rattle.rules.proofs.Stands.{stands-at, stands-append, is-word}
 
 -- `xs`, which is good, stands from `at` up to `n`, which is not past `end`
 pub record Found (ws : List ℕ) (at end : ℕ) (xs : List ℕ) (Good : Type 0) (n : ℕ) : Type 0 where
@@ -109,25 +109,20 @@ term-sound (suc words) ws vars at end t n e =
     let q₃ = require-found (leb (payload-at ws at) (end - (at + 1))) 3 at _ t n e₃ in
     let v₀ : payload-at ws at ≤ end - (at + 1) = leb-true _ _ (q₃ .0) in
     let v : after ws at ≤ end = omega (arith, l, v₀) in
-    let p₁ = next-found (read-term words ws vars (at + 1) (after ws at)) _ t n (q₃ .1) in
-    let p₂ = next-found (filled (p₁ .value) (p₁ .to) (after ws at)) _ t n (p₁ .rest) in
-    let u = filled-found (p₁ .value) (p₂ .value) (p₁ .to) (after ws at) (p₂ .to) (p₂ .first) in
-    let p₃ = next-found (read-term words ws vars (after ws at) end) _ t n (p₂ .rest) in
-    let f : FoundTerm ws vars (at + 1) (after ws at) (p₁ .value) (p₁ .to) = term-sound words ws vars (at + 1) (after ws at) (p₁ .value) (p₁ .to) (p₁ .first) in
-    let f₂ : FoundTerm ws vars (at + 1) (after ws at) (p₂ .value) (p₂ .to) = found-carries (λ t n. FoundTerm ws vars (at + 1) (after ws at) t n) (u .1) f in
-    let m : after ws at ≤ p₂ .to = found-carries (λ (_ : Term) n. after ws at ≤ n) (u .1) (u .0) in
+    let p₁ = next-found (fill (read-term words ws vars (at + 1) (after ws at)) (after ws at)) _ t n (q₃ .1) in
+    let u = fill-found (read-term words ws vars (at + 1) (after ws at)) (after ws at) (p₁ .value) (p₁ .to) (p₁ .first) in
+    let p₃ = next-found (read-term words ws vars (after ws at) end) _ t n (p₁ .rest) in
+    let f : FoundTerm ws vars (at + 1) (after ws at) (p₁ .value) (p₁ .to) = term-sound words ws vars (at + 1) (after ws at) (p₁ .value) (p₁ .to) (u .0) in
     let g : FoundTerm ws vars (after ws at) end (p₃ .value) (p₃ .to) = term-sound words ws vars (after ws at) end (p₃ .value) (p₃ .to) (p₃ .first) in
     found-carries (λ t n. FoundTerm ws vars at end t n) (p₃ .rest)
-    (paired ws vars at end (p₂ .value) (p₃ .value) (p₂ .to) (p₃ .to) (eqb-true _ _ z) v f₂ m g))
+    (paired ws vars at end (p₁ .value) (p₃ .value) (p₁ .to) (p₃ .to) (eqb-true _ _ z) v f (u .1) g))
     (λ z e₃. leaf-sound ws vars at end t n l (leb-true _ _ (q₂ .0)) (eqb-false _ _ z) e₃)
 
 pub one-sound : (words : ℕ) (ws : List ℕ) (vars at end : ℕ) (t : Term) (n : ℕ) → read-one words ws vars at end ≡ found t n → FoundTerm ws vars at end t n × (end ≤ n)
 unfolding read-one
 one-sound words ws vars at end t n e =
-    let p = next-found (read-term words ws vars at end) _ t n e in
-    let u = filled-found (p .value) t (p .to) end n (p .rest) in
-    found-carries (λ t n. FoundTerm ws vars at end t n × (end ≤ n)) (u .1)
-    (term-sound words ws vars at end (p .value) (p .to) (p .first), u .0)
+    let u = fill-found (read-term words ws vars at end) end t n e in
+    (term-sound words ws vars at end t n (u .0), u .1)
 
 abbrev FoundTwo : List ℕ → ℕ → ℕ → ℕ → Term × Term → ℕ → Type 0
 FoundTwo ws vars at end p n = Found ws at end (term-words (p .0) ++ term-words (p .1)) (TermGood vars (p .0) × TermGood vars (p .1)) n × (end ≤ n)
@@ -282,15 +277,13 @@ variables-sound words ws params at end R n e =
     let q = require-found (leb (p .value) 255 && leb params (p .value)) 4 at _ R n (p .rest) in
     let b = and-true (leb (p .value) 255) (leb params (p .value)) (q .0) in
     let r = next-found (read-body words ws (p .value) (p .to) end) _ R n (q .1) in
-    let g = next-found (read-goal words ws (p .value) (p .to) end) _ (r .value) (r .to) (r .first) in
-    let u = filled-found (g .value) (r .value) (g .to) end (r .to) (g .rest) in
+    let u = fill-found (read-goal words ws (p .value) (p .to) end) end (r .value) (r .to) (r .first) in
     let f = word-sound 2 ws at end (p .value) (p .to) (p .first) in
-    let h : FoundGoal ws (p .value) (p .to) end (r .value) (r .to) × (end ≤ r .to) =
-    found-carries (λ g n. FoundGoal ws (p .value) (p .to) end g n × (end ≤ n)) (u .1) (goal-sound words ws (p .value) (p .to) end (g .value) (g .to) (g .first), u .0) in
-    let j = joined ws at end (word 2 (p .value) ∷ []) (goal-words (r .value)) _ _ (p .to) (r .to) (f .0) (h .0) in
-    let good : RelationGood (record { params = params; vars = p .value; body = r .value }) = record { vars-bound = leb-true _ _ (b .0); params-bound = leb-true _ _ (b .1); body-good = h .0 .good } in
+    let h = goal-sound words ws (p .value) (p .to) end (r .value) (r .to) (u .0) in
+    let j = joined ws at end (word 2 (p .value) ∷ []) (goal-words (r .value)) _ _ (p .to) (r .to) (f .0) h in
+    let good : RelationGood (record { params = params; vars = p .value; body = r .value }) = record { vars-bound = leb-true _ _ (b .0); params-bound = leb-true _ _ (b .1); body-good = h .good } in
     found-carries (λ R n. FoundVariables ws params at end R n) (r .rest)
-    (record { stands = j .stands; to = j .to; within = j .within; good = (good, refl) }, h .1)
+    (record { stands = j .stands; to = j .to; within = j .within; good = (good, refl) }, u .1)
 
 pub relation-sound : (words : ℕ) (ws : List ℕ) (before at : ℕ) (R : Relation) (n : ℕ) → at < length ws → read-relation words ws before at ≡ found R n
     → Found ws at (length ws) (relation-words R) (RelationGood R) n × (before < 256) × (at < n)

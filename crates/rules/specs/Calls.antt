@@ -1,11 +1,11 @@
 -- Conditions 7 and 8 of document 01: "then 7 and 8 in the same way", one pass over the calls in the order of their words.
-use Prim.Native.Nat.{ℕ, zero, suc, _+_}
+use Prim.Native.Nat.{ℕ, _+_}
 use mathlib.Core.Bool.{Bool, true, false}
 use mathlib.Core.Option.{Option, some, none}
 use mathlib.Core.List.{List, [], _∷_}
 use lib.Dec.{eqb}
 use lib.ListN.{length, getElem?}
-use Rattle.rules.specs.Syntax.{Term, Constraint, Goal, Goals, equal, constrain, conj, disj, call, one, more, Relation, Program}
+use Rattle.rules.specs.Syntax.{Goal, Goals, equal, constrain, conj, disj, call, one, more, Relation, Program}
 use Rattle.rules.specs.Written.{goal-words, relation-words}
 
 -- the number and the place of a call's fault, or that there is none

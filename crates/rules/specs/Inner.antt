@@ -3,12 +3,13 @@ use Prim.Native.Nat.{ℕ, _+_, _<_, _≤_}
 use mathlib.Core.Path.{_≡_}
 use mathlib.Core.Option.{Option, some, none}
 use mathlib.Core.List.{List, [], _∷_, _++_}
+use lib.Dec.{leb}
 use lib.ListN.{length, getD}
 use Rattle.rules.specs.Syntax.{Term, Goal, Relation, Program}
 use Rattle.rules.specs.Written.{term-words, terms-words, goal-words, relation-words, written}
 use Rattle.rules.specs.WellFormed.{TermGood, TermsGood, GoalGood, RelationGood, RelationsGood}
 use Rattle.rules.specs.Calls.{Fault, sound, fault, or-else, goal-fault}
-use Rattle.rules.specs.Reading.{Reading, found, refuse, kind-at, payload-at}
+use Rattle.rules.specs.Reading.{Reading, found, refuse, choose, kind-at, payload-at}
 use Rattle.rules.specs.Verdict.{number-of}
 use Rattle.rules.specs.declared.Read.{Read}
 use Rattle.rules.specs.declared.Read.the-variants.{Done, Refused}
@@ -29,6 +30,11 @@ told (refuse c p) = stops c p
 abbrev pub outcome : Read → Outcome
 outcome (Done n) = ends n
 outcome (Refused c p) = stops (number-of c) p
+
+-- what is told of a reading that has to fill its part
+abbrev pub filled-told : Outcome → ℕ → Outcome
+filled-told (ends n) end = choose (leb end n) (λ _. ends n) (λ _. stops 3 n)
+filled-told (stops c p) end = stops c p
 
 -- a reader tells this, whatever the bound on its depth, if it is over `need`
 abbrev pub Settles : {A : Type 0} → (ℕ → Reading A) → ℕ → Outcome → Type 0

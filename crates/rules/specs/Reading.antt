@@ -7,7 +7,7 @@ use mathlib.Core.List.{List, [], _∷_}
 use lib.Dec.{eqb, ltb, leb}
 use lib.ListN.{length, getD}
 use Rattle.word.specs.Word.{kind, payload}
-use Rattle.rules.specs.Syntax.{Atom, symbol, number, empty, Term, var, atom, pair, Sort, symbols, numbers, Constraint, differ, typed, absento, Goal, Goals, equal, constrain, conj, disj, call, one, more, Relation, Program}
+use Rattle.rules.specs.Syntax.{symbol, number, empty, Term, var, atom, pair, symbols, numbers, differ, typed, absento, Goal, Goals, equal, constrain, conj, disj, call, one, more, Relation, Program}
 
 -- what a reader finds: a value and the place after it, or the number and the place of a refusal
 pub data Reading (A : Type 0) : Type 0 where
@@ -50,6 +50,10 @@ inside ws at end = require (leb (payload-at ws at) (end - (at + 1))) 3 at
 abbrev pub filled : {A : Type 0} → A → ℕ → ℕ → Reading A
 filled a at end = require (leb end at) 3 at (λ _. found a at)
 
+-- the same of a reading
+abbrev pub fill : {A : Type 0} → Reading A → ℕ → Reading A
+fill r end = next r (λ a n. filled a n end)
+
 -- a word of one kind, "number word" or "symbol word"; its payload is what is found
 unfoldable pub read-word : ℕ → List ℕ → ℕ → ℕ → Reading ℕ
 read-word k ws at end = present at end (λ _. require (eqb (kind-at ws at) k) 2 at (λ _. found (payload-at ws at) (at + 1)))
@@ -71,9 +75,8 @@ term-step ws vars at end term =
     choose (eqb (kind-at ws at) 4)
     (λ _.
     inside ws at end (λ _.
-    next (term (at + 1) (after ws at)) (λ s n.
-    next (filled s n (after ws at)) (λ s m.
-    next (term (after ws at) end) (λ t e. found (pair s t) e)))))
+    next (fill (term (at + 1) (after ws at)) (after ws at)) (λ s m.
+    next (term (after ws at) end) (λ t e. found (pair s t) e))))
     (λ _. read-leaf (kind-at ws at) (payload-at ws at) vars at)))
 
 unfoldable pub read-term : ℕ → List ℕ → ℕ → ℕ → ℕ → Reading Term
@@ -82,7 +85,7 @@ read-term (suc words) ws vars at end = term-step ws vars at end (λ a e. read-te
 
 -- "one term" that fills its part
 unfoldable pub read-one : ℕ → List ℕ → ℕ → ℕ → ℕ → Reading Term
-read-one words ws vars at end = next (read-term words ws vars at end) (λ t n. filled t n end)
+read-one words ws vars at end = fill (read-term words ws vars at end) end
 
 -- "two terms" that fill their part
 unfoldable pub read-two : ℕ → List ℕ → ℕ → ℕ → ℕ → Reading (Term × Term)
@@ -155,7 +158,7 @@ unfoldable mutual
 
 -- "one goal" that fills its part
 unfoldable pub read-body : ℕ → List ℕ → ℕ → ℕ → ℕ → Reading Goal
-read-body words ws vars at end = next (read-goal words ws vars at end) (λ g n. filled g n end)
+read-body words ws vars at end = fill (read-goal words ws vars at end) end
 
 -- "number word (all variables), one goal", where 4 is "over 255 variables, or more parameters than variables: the variables word"
 unfoldable pub read-variables : ℕ → List ℕ → ℕ → ℕ → ℕ → Reading Relation

@@ -7,7 +7,7 @@ ghost use mathlib.Core.Path.{_≡_};
 ghost use Prim.Native.Nat.{ℕ, _+_, _-_, _*_, _≤_, _<_};
 ghost use lib.ListN.{length};
 ghost use Rattle.rules.specs.Reading.{read-word, read-leaf, read-term, read-one, read-two, read-terms, read-absento, read-call, read-goal, read-goals, read-body, read-variables, read-relation, read-relations};
-ghost use Rattle.rules.specs.Inner.{told, outcome, Settles};
+ghost use Rattle.rules.specs.Inner.{told, outcome, filled-told, Settles};
 
 // A word of one kind at `at`, before `end`.
 fn read_word(program: &[u32], kind: u32, at: usize, end: usize) -> Read
@@ -22,6 +22,21 @@ fn read_word(program: &[u32], kind: u32, at: usize, end: usize) -> Read
         return Read::Refused(Condition::WrongKind, at);
     }
     Read::Done(at + 1)
+}
+
+// What has to fill its part: a word left over is a fault, whatever it is.
+fn fill(read: Read, end: usize) -> Read
+    ensures { λ r. ⌜ outcome r ≡ filled-told (outcome read) end ⌝ }
+{
+    match read {
+        Read::Refused(c, place) => Read::Refused(c, place),
+        Read::Done(next) => {
+            if next < end {
+                return Read::Refused(Condition::WrongExtent, next);
+            }
+            Read::Done(next)
+        }
+    }
 }
 
 // A variable or an atom.
@@ -65,17 +80,14 @@ fn read_term(program: &[u32], vars: usize, start: usize, end: usize) -> Read
                 return Read::Refused(Condition::WrongExtent, at);
             }
             let second = at + 1 + size;
-            match read_term(program, vars, at + 1, second) {
+            match fill(read_term(program, vars, at + 1, second), second) {
                 Read::Refused(c, place) => {
                     return Read::Refused(c, place);
                 }
-                Read::Done(next) => {
-                    if next < second {
-                        return Read::Refused(Condition::WrongExtent, next);
-                    }
+                Read::Done(_) => {
+                    at = second;
                 }
             }
-            at = second;
         } else {
             return read_leaf(kind, size, vars, at);
         }
@@ -87,15 +99,7 @@ fn read_one(program: &[u32], vars: usize, at: usize, end: usize) -> Read
     requires { ⌜ end ≤ length (now program) ⌝ }
     ensures { λ r. ⌜ Settles (λ f. read-one f (now (program .entry)) vars at end) (end - at) (outcome r) ⌝ }
 {
-    match read_term(program, vars, at, end) {
-        Read::Refused(c, place) => Read::Refused(c, place),
-        Read::Done(next) => {
-            if next < end {
-                return Read::Refused(Condition::WrongExtent, next);
-            }
-            Read::Done(next)
-        }
-    }
+    fill(read_term(program, vars, at, end), end)
 }
 
 // Two terms that fill their part.
@@ -212,15 +216,7 @@ fn read_body(program: &[u32], vars: usize, at: usize, end: usize) -> Read
     requires { ⌜ end ≤ length (now program) ⌝ }
     ensures { λ r. ⌜ Settles (λ f. read-body f (now (program .entry)) vars at end) (2 * (end - at) + 1) (outcome r) ⌝ }
 {
-    match read_goal(program, vars, at, end) {
-        Read::Refused(c, place) => Read::Refused(c, place),
-        Read::Done(next) => {
-            if next < end {
-                return Read::Refused(Condition::WrongExtent, next);
-            }
-            Read::Done(next)
-        }
-    }
+    fill(read_goal(program, vars, at, end), end)
 }
 
 // The variables word and the goal of a relation with `params` parameters.

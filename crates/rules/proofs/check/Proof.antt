@@ -5,40 +5,28 @@ use Rattle.rules.proofs.Checked.{count-low, count-high, structure-stops
 use borrow.Author.Needs.{needs}
 use Rattle.rules.proofs.check.Statement.{statement}
 use Rattle.rules.proofs.check.Tie as tie
-use Rattle.rules.proofs.check.Reads as reads
-use Rattle.rules.proofs.check.Lts as lts
-use Rattle.rules.proofs.calls.check_calls.Reads as check-calls-reads
-use Rattle.rules.proofs.structure.read_relations.Reads as read-relations-reads
 
--- src/lib.rt:59:9
 returns : tie.Need-returns
 returns c = sym (ap said (count-low _ (c .if1 .taken)))
 
--- src/lib.rt:62:9
 returns-2 : tie.Need-returns-2
 returns-2 c = sym (ap said (count-high _ (c .if2 .taken)))
 
--- src/lib.rt:64:11
 read-relations-requires : tie.Need-read-relations-requires
 read-relations-requires c κs = search needs
 
--- src/lib.rt:65:23
 enum-known-c : tie.Need-enum-known-c
 enum-known-c c = search needs
 
--- src/lib.rt:66:26
 enum-told : tie.Need-enum-told
 enum-told c = search needs
 
--- src/lib.rt:66:26
 check-calls-requires : tie.Need-check-calls-requires
 check-calls-requires c κs = let q = structure-ends _ (c .before .before .before .before .if1 .left) (c .before .before .before .if2 .left) _ (rw (c .enum-told .given .1) at (c .before .before .read-relations .ensures)) in (q .0, q .1)
 
--- src/lib.rt:55:1
 returns-3 : tie.Need-returns-3
 returns-3 c = sym (ap said (structure-stops _ (c .before .before .before .before .before .if1 .left) (c .before .before .before .before .if2 .left) _ _ (rw (c .before .c .given .1) at (c .before .before .before .read-relations .ensures))))
 
--- src/lib.rt:55:1
 returns-4 : tie.Need-returns-4
 returns-4 c = let q = structure-ends _ (c .before .before .before .before .before .if1 .left) (c .before .before .before .before .if2 .left) _ (rw (c .before .enum-told .given .1) at (c .before .before .before .read-relations .ensures)) in
     c .check-calls .ensures (q .0) (q .1) ∙ sym (ap said (q .2))

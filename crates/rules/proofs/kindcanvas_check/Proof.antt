@@ -1,5 +1,5 @@
 -- `kindcanvas_check` says as one number what `check` says.
-use mathlib.Core.Path.{_≡_, sym, ap, _∙_}
+use mathlib.Core.Path.{ap, _∙_}
 use Prim.Native.Nat.{_+_, _*_}
 use native.Mathlib.Omega.{arith}
 use Rattle.rules.specs.Verdict.{packed}
@@ -7,44 +7,31 @@ use Rattle.rules.proofs.Checked.{place-small}
 use borrow.Author.Needs.{needs}
 use Rattle.rules.proofs.kindcanvas_check.Statement.{statement}
 use Rattle.rules.proofs.kindcanvas_check.Tie as tie
-use Rattle.rules.proofs.kindcanvas_check.Reads as reads
-use Rattle.rules.proofs.kindcanvas_check.Lts as lts
-use Rattle.rules.proofs.Condition.number.Reads as number-reads
-use Rattle.rules.proofs.check.Reads as check-reads
 
--- src/lib.rt:75:11
 check-requires : tie.Need-check-requires
 check-requires c κs = search needs
 
--- src/lib.rt:76:30
 enum-told : tie.Need-enum-told
 enum-told c = search needs
 
--- src/lib.rt:77:26
 enum-known-c : tie.Need-enum-known-c
 enum-known-c c = search needs
 
--- src/lib.rt:77:40
 number-requires : tie.Need-number-requires
 number-requires c κs = search needs
 
--- src/lib.rt:77:40
 cast-result : tie.Need-cast-result
 cast-result c = search needs
 
--- src/lib.rt:77:39
 mul-result : tie.Need-mul-result
 mul-result c = search needs
 
--- src/lib.rt:77:39
 add-result : tie.Need-add-result
 add-result c = omega (arith, c .number .ensures, place-small _ _ _ (rw (c .before .before .c .given .1) at (c .before .before .before .before .check .ensures)) .0, place-small _ _ _ (rw (c .before .before .c .given .1) at (c .before .before .before .before .check .ensures)) .1)
 
--- src/lib.rt:71:1
 returns : tie.Need-returns
 returns c = ap packed (rw (c .enum-told .given .1) at (c .before .before .check .ensures))
 
--- src/lib.rt:71:1
 returns-2 : tie.Need-returns-2
 returns-2 c = ap (λ n. n * 4294967296 + c .before .before .c .given .0 .1 .0) (c .number .ensures) ∙ ap packed (rw (c .before .before .c .given .1) at (c .before .before .before .before .check .ensures))
 

@@ -1,68 +1,50 @@
 -- `check_call` looks a call's relation up and compares the arguments with its parameters.
-use mathlib.Core.Path.{refl, sym, _∙_}
+use mathlib.Core.Path.{sym, _∙_}
 use native.Mathlib.Omega.{arith}
 use Rattle.rules.proofs.Pass.{item-inside, call-inside, call-terms, call-params, call-missing, call-wrong, call-right}
 use borrow.Author.Needs.{needs}
 use Rattle.rules.proofs.calls.check_call.Statement.{statement}
 use Rattle.rules.proofs.calls.check_call.Tie as tie
-use Rattle.rules.proofs.calls.check_call.Reads as reads
-use Rattle.rules.proofs.calls.check_call.Lts as lts
-use Rattle.rules.proofs.calls.count_terms.Reads as count-terms-reads
-use Rattle.rules.proofs.calls.find_params.Reads as find-params-reads
-use Rattle.rules.proofs.part.part_at.Reads as part-at-reads
 
--- src/calls.rt:76:15
 add-end : tie.Need-add-end
 add-end c = search needs
 
--- src/calls.rt:76:24
 part-at-requires : tie.Need-part-at-requires
 part-at-requires c κs = item-inside _ _ _ _ _ (c .before .pre .5)
 
--- src/calls.rt:76:15
 add-end-2 : tie.Need-add-end-2
 add-end-2 c = omega (arith, call-terms _ _ _ _ _ _ (c .before .part-at .ensures) _ _ _ (c .before .before .before .pre .5) .within)
 
--- src/calls.rt:77:35
 add-part-at : tie.Need-add-part-at
 add-part-at c = search needs
 
--- src/calls.rt:77:18
 part-at-requires-2 : tie.Need-part-at-requires-2
 part-at-requires-2 c κs = call-inside _ _ _ _ _ _ (c .before .part-at .ensures) _ _ _ (c .before .before .before .pre .5)
 
--- src/calls.rt:78:11
 find-params-requires : tie.Need-find-params-requires
 find-params-requires c κs = (c .before .before .before .before .pre .0, c .before .before .before .before .pre .5 .whole)
 
--- src/calls.rt:79:41
 enum-told : tie.Need-enum-told
 enum-told c = search needs
 
--- src/calls.rt:80:23
 enum-known-params : tie.Need-enum-known-params
 enum-known-params c = search needs
 
--- src/calls.rt:81:37
 add-count-terms : tie.Need-add-count-terms
 add-count-terms c = search needs
 
--- src/calls.rt:81:16
 count-terms-requires : tie.Need-count-terms-requires
 count-terms-requires c κs = (c .before .before .before .before .before .before .before .before .pre .3, call-terms _ _ _ _ _ _ (c .before .before .before .before .before .before .part-at .ensures) _ _ _ (c .before .before .before .before .before .before .before .before .pre .5))
 
--- src/calls.rt:82:17
 returns : tie.Need-returns
 returns c = λ P vars n ts is h. call-wrong _ P _ _ _ is (c .before .before .before .before .before .before .before .before .part-at .ensures) vars n ts h _
     (call-params _ P _ _ _ is (c .before .before .before .before .before .before .before .before .part-at .ensures) vars n ts h _ _ (c .before .before .before .before .before .before .part-at2 .ensures) _ (rw (c .before .before .before .params .given .1) at (c .before .before .before .before .before .find-params .ensures P (h .whole))))
     (λ y. c .if1 .taken (c .before .count-terms .ensures ts (call-terms _ P _ _ _ is (c .before .before .before .before .before .before .before .before .part-at .ensures) vars n ts h) ∙ y))
 
--- src/calls.rt:72:1
 returns-2 : tie.Need-returns-2
 returns-2 c = λ P vars n ts is h. call-missing _ P _ _ _ is (c .before .before .before .before .before .part-at .ensures) vars n ts h
     (call-params _ P _ _ _ is (c .before .before .before .before .before .part-at .ensures) vars n ts h _ _ (c .before .before .before .part-at2 .ensures) _ (rw (c .enum-told .given .1) at (c .before .before .find-params .ensures P (h .whole))))
 
--- src/calls.rt:72:1
 returns-3 : tie.Need-returns-3
 returns-3 c = λ P vars n ts is h. call-right _ P _ _ _ is (c .before .before .before .before .before .before .before .before .part-at .ensures) vars n ts h _
     (call-params _ P _ _ _ is (c .before .before .before .before .before .before .before .before .part-at .ensures) vars n ts h _ _ (c .before .before .before .before .before .before .part-at2 .ensures) _ (rw (c .before .before .before .params .given .1) at (c .before .before .before .before .before .find-params .ensures P (h .whole))))

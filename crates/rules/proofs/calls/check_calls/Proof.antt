@@ -13,9 +13,6 @@ use Rattle.rules.specs.Inner.{RelationsAt, Item, Rest, items-fault}
 use Rattle.rules.proofs.Pass.{start-items, next-item, items-none}
 use Rattle.rules.proofs.calls.check_calls.Statement.{statement}
 use Rattle.rules.proofs.calls.check_calls.Tie as tie
-use Rattle.rules.proofs.calls.check_calls.Reads as reads
-use Rattle.rules.proofs.calls.check_calls.Lts as lts
-use Rattle.rules.proofs.calls.check_item.Reads as check-item-reads
 
 abbrev Inv-loop : tie.InvT-loop
 Inv-loop program at₀ at = (P : Program) → RelationsAt program 0 P → (is : List Item) × Rest program P at is × (relations-fault P P 0 ≡ items-fault is P at)
@@ -23,30 +20,24 @@ Inv-loop program at₀ at = (P : Program) → RelationsAt program 0 P → (is : 
 abbrev μ-loop : tie.MeasureT-loop
 μ-loop program at₀ at = length program - at
 
--- src/calls.rt:117:5
 loop-holds : tie.Need-loop-holds Inv-loop μ-loop
 loop-holds c = λ P h. start-items _ P h
 
--- src/calls.rt:118:15
 check-item-requires : tie.Need-check-item-requires Inv-loop μ-loop
 check-item-requires c κs = let r = next-item _ _ _ _ (c .before .loop .inv (c .before .before .before .pre .0) (c .before .before .before .pre .1)) (c .loop-test .taken) in (c .before .before .before .pre .0, r .0, r .1, r .2)
 
--- src/calls.rt:119:27
 enum-known-c : tie.Need-enum-known-c Inv-loop μ-loop
 enum-known-c c = search needs
 
--- src/calls.rt:120:17
 returns : tie.Need-returns Inv-loop μ-loop
 returns c = λ P h.
     let r = next-item _ P _ _ (c .before .before .before .before .before .loop .inv P h) (c .before .before .before .before .loop-test .taken) in
     let m = rw (c .before .c .given .1) at (c .before .before .before .check-item .ensures P (r .0) (r .1) (r .2)) in
     sym (ap (λ f. said (judge P f)) (r .3 ∙ m))
 
--- src/calls.rt:122:24
 enum-known-next : tie.Need-enum-known-next Inv-loop μ-loop
 enum-known-next c = search needs
 
--- src/calls.rt:117:5
 loop-less : tie.Need-loop-less Inv-loop μ-loop
 loop-less c =
     let P = c .before .before .before .before .before .before .before .pre .0 in
@@ -54,14 +45,12 @@ loop-less c =
     let m = rw (c .before .next .given .1) at (c .before .before .before .check-item .ensures P (r .0) (r .1) (r .2)) in
     omega (arith, m .1 .to, m .3, c .before .before .before .before .loop-test .taken)
 
--- src/calls.rt:117:5
 loop-again : tie.Need-loop-again Inv-loop μ-loop
 loop-again c = λ P h.
     let r = next-item _ P _ _ (c .before .before .before .before .before .loop .inv P h) (c .before .before .before .before .loop-test .taken) in
     let m = rw (c .before .next .given .1) at (c .before .before .before .check-item .ensures P (r .0) (r .1) (r .2)) in
     (m .0, m .1, r .3 ∙ m .2)
 
--- src/calls.rt:112:1
 returns-2 : tie.Need-returns-2 Inv-loop μ-loop
 returns-2 c = λ P h. let q = c .before .loop .inv P h in sym (ap (λ f. said (judge P f)) (q .2 ∙ items-none _ P _ _ (q .1) (c .loop-test .left)))
 

@@ -1,7 +1,7 @@
 -- `count_terms` counts the terms that fill a part.
-use mathlib.Core.Path.{_≡_, refl}
+use mathlib.Core.Path.{_≡_}
 use mathlib.Core.List.{List}
-use Prim.Native.Nat.{ℕ, _+_, _-_, _≤_}
+use Prim.Native.Nat.{_+_, _-_, _≤_}
 use native.Mathlib.Omega.{arith}
 use lib.ListN.{length}
 use Rattle.rules.specs.Syntax.{Term}
@@ -9,9 +9,6 @@ use Rattle.rules.specs.Inner.{TermsAt}
 use Rattle.rules.proofs.Pass.{term-first, term-rest, terms-none}
 use Rattle.rules.proofs.calls.count_terms.Statement.{statement}
 use Rattle.rules.proofs.calls.count_terms.Tie as tie
-use Rattle.rules.proofs.calls.count_terms.Reads as reads
-use Rattle.rules.proofs.calls.count_terms.Lts as lts
-use Rattle.rules.proofs.calls.skip_term.Reads as skip-term-reads
 
 abbrev Inv-loop : tie.InvT-loop
 Inv-loop program start end at₀ count₀ at count = (count ≤ at) × ((ts : List Term) → TermsAt program start end ts → (us : List Term) × TermsAt program at end us × (count + length us ≡ length ts))
@@ -19,30 +16,24 @@ Inv-loop program start end at₀ count₀ at count = (count ≤ at) × ((ts : Li
 abbrev μ-loop : tie.MeasureT-loop
 μ-loop program start end at₀ count₀ at count = end - at
 
--- src/calls.rt:47:5
 loop-holds : tie.Need-loop-holds Inv-loop μ-loop
 loop-holds c = (omega arith, λ ts h. (ts, h, omega arith))
 
--- src/calls.rt:48:9
 skip-term-requires : tie.Need-skip-term-requires Inv-loop μ-loop
 skip-term-requires c κs = term-first _ _ _ _ (c .before .loop .inv .1 (c .before .before .before .pre .0) (c .before .before .before .pre .1) .1) (c .loop-test .taken)
 
--- src/calls.rt:49:9
 add-count : tie.Need-add-count Inv-loop μ-loop
 add-count c = omega (arith, c .before .before .loop .inv .0, c .before .loop-test .taken)
 
--- src/calls.rt:47:5
 loop-less : tie.Need-loop-less Inv-loop μ-loop
 loop-less c = omega (arith, c .before .loop-test .taken, term-rest _ _ _ _ _ (c .before .before .loop .inv .1 (c .before .before .before .before .pre .0) (c .before .before .before .before .pre .1) .1) (c .before .loop-test .taken) (c .skip-term .ensures) .3)
 
--- src/calls.rt:47:5
 loop-again : tie.Need-loop-again Inv-loop μ-loop
 loop-again c = (
   omega (arith, c .before .before .loop .inv .0, term-rest _ _ _ _ _ (c .before .before .loop .inv .1 (c .before .before .before .before .pre .0) (c .before .before .before .before .pre .1) .1) (c .before .loop-test .taken) (c .skip-term .ensures) .3),
   λ ts h. let q = c .before .before .loop .inv .1 ts h in let r = term-rest _ _ _ _ _ (q .1) (c .before .loop-test .taken) (c .skip-term .ensures) in (r .0, r .1, omega (arith, q .2, r .2)),
 )
 
--- src/calls.rt:41:1
 returns : tie.Need-returns Inv-loop μ-loop
 returns c = λ ts h. let q = c .before .loop .inv .1 ts h in omega (arith, q .2, terms-none _ _ _ _ (q .1) (c .loop-test .left))
 

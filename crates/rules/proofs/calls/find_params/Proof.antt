@@ -8,9 +8,6 @@ use Rattle.rules.specs.Inner.{RelationsAt}
 use Rattle.rules.proofs.Pass.{Seeking, relation-inside, relation-within, seek-here, seek-on, seek-none}
 use Rattle.rules.proofs.calls.find_params.Statement.{statement}
 use Rattle.rules.proofs.calls.find_params.Tie as tie
-use Rattle.rules.proofs.calls.find_params.Reads as reads
-use Rattle.rules.proofs.calls.find_params.Lts as lts
-use Rattle.rules.proofs.part.part_at.Reads as part-at-reads
 
 abbrev Inv-loop : tie.InvT-loop
 Inv-loop program wanted at₀ left₀ at left = (P : Program) → RelationsAt program 0 P → Seeking program P wanted at left
@@ -18,47 +15,36 @@ Inv-loop program wanted at₀ left₀ at left = (P : Program) → RelationsAt pr
 abbrev μ-loop : tie.MeasureT-loop
 μ-loop program wanted at₀ left₀ at left = length program - at
 
--- src/calls.rt:61:5
 loop-holds : tie.Need-loop-holds Inv-loop μ-loop
 loop-holds c = λ P h. (P, h, refl)
 
--- src/calls.rt:63:51
 add-part-at : tie.Need-add-part-at Inv-loop μ-loop
 add-part-at c = omega arith
 
--- src/calls.rt:63:34
 part-at-requires : tie.Need-part-at-requires Inv-loop μ-loop
 part-at-requires c κs = relation-inside _ _ _ (c .before .before .loop .inv (c .before .before .before .before .pre .0) (c .before .before .before .before .pre .1) .1) (c .before .loop-test .taken)
 
--- src/calls.rt:63:13
 returns : tie.Need-returns Inv-loop μ-loop
 returns c = λ P h. seek-here _ P _ _ _ _ _ (c .before .before .before .loop .inv P h) (c .before .before .loop-test .taken) (c .before .if1 .taken) (c .part-at .ensures)
 
--- src/calls.rt:65:14
 add-at : tie.Need-add-at Inv-loop μ-loop
 add-at c = omega arith
 
--- src/calls.rt:65:23
 part-at-requires-2 : tie.Need-part-at-requires-2 Inv-loop μ-loop
 part-at-requires-2 c κs = omega arith
 
--- src/calls.rt:65:14
 add-at-2 : tie.Need-add-at-2 Inv-loop μ-loop
 add-at-2 c = omega (arith, relation-within _ _ _ _ _ (c .before .before .before .before .loop .inv (c .before .before .before .before .before .before .pre .0) (c .before .before .before .before .before .before .pre .1) .1) (c .before .before .before .loop-test .taken) (c .before .part-at2 .ensures))
 
--- src/calls.rt:66:9
 sub-left : tie.Need-sub-left Inv-loop μ-loop
 sub-left c = omega (arith, c .before .before .if1 .left)
 
--- src/calls.rt:61:5
 loop-less : tie.Need-loop-less Inv-loop μ-loop
 loop-less c = omega (arith, relation-within _ _ _ _ _ (c .before .before .before .before .loop .inv (c .before .before .before .before .before .before .pre .0) (c .before .before .before .before .before .before .pre .1) .1) (c .before .before .before .loop-test .taken) (c .before .part-at2 .ensures))
 
--- src/calls.rt:61:5
 loop-again : tie.Need-loop-again Inv-loop μ-loop
 loop-again c = λ P h. seek-on _ P _ _ _ _ _ (c .before .before .before .before .loop .inv P h) (c .before .before .before .loop-test .taken) (c .before .before .if1 .left) (c .before .part-at2 .ensures)
 
--- src/calls.rt:55:1
 returns-2 : tie.Need-returns-2 Inv-loop μ-loop
 returns-2 c = λ P h. seek-none _ P _ _ _ (c .before .loop .inv P h) (c .loop-test .left)
 

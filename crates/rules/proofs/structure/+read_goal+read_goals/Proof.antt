@@ -1,11 +1,11 @@
 -- `read_goal` and `read_goals` read a goal and a sequence of goals, as `read-goal` and `read-goals` say. They call each other with fewer words left.
 use mathlib.Core.List.{List}
-use Prim.Native.Nat.{_≤_, _+_, _*_, _-_}
+use Prim.Native.Nat.{_<_, _≤_, _+_, _*_, _-_}
 use native.Mathlib.Omega.{arith}
 use borrow.Author.Needs.{needs}
 use Rattle.rules.specs.Inner.{Outcome}
 use Rattle.rules.proofs.Readers.{goal-missing, goal-low, goal-high, goal-overrun, goal-two, goal-one, goal-absento, goal-call, goal-nested, goal-ahead, GoalsTold, goals-stop, goals-last, goals-next}
-use Prim.Native.Nat.{ℕ, _<_}
+use Prim.Native.Nat.{ℕ}
 use borrow.Fn.Kinds.{In}
 use borrow.Fn.PlainCycle.{Measures, is, falls, and}
 use Rattle.rules.proofs.structure.read_goal.Reads as read-goal
@@ -56,99 +56,75 @@ read-goals-claims t = (read-goal-below t, read-goal.Post)
 abbrev read-goal-claims : ℕ → read-goal-lts.Claims
 read-goal-claims t = (part-at-reads.Asked, part-at-reads.Learnt, read-two-reads.Asked, read-two-reads.Learnt, read-one-reads.Asked, read-one-reads.Learnt, read-absento-reads.Asked, read-absento-reads.Learnt, read-call-reads.Asked, read-call-reads.Learnt, read-goals-below t, read-goals.Post)
 
--- src/structure.rt:160:9
 read-goal-returns : (t : ℕ) → read-goal-lts.Need-returns (read-goal-claims t) (read-goal-at t) read-goal.Post
 read-goal-returns t c = goal-missing _ _ _ _ (c .if1 .taken)
 
--- src/structure.rt:162:9
 read-goal-part-at-requires : (t : ℕ) → read-goal-lts.Need-part-at-requires (read-goal-claims t) (read-goal-at t) read-goal.Post
 read-goal-part-at-requires t c κs = omega arith
 
--- src/structure.rt:166:9
 read-goal-returns-2 : (t : ℕ) → read-goal-lts.Need-returns-2 (read-goal-claims t) (read-goal-at t) read-goal.Post
 read-goal-returns-2 t c = goal-low _ _ _ _ _ _ (c .before .before .if1 .left) (c .before .part-at .ensures) (c .if2 .taken)
 
--- src/structure.rt:169:9
 read-goal-returns-3 : (t : ℕ) → read-goal-lts.Need-returns-3 (read-goal-claims t) (read-goal-at t) read-goal.Post
 read-goal-returns-3 t c = goal-high _ _ _ _ _ _ (c .before .before .before .if1 .left) (c .before .before .part-at .ensures) (c .before .if2 .left) (c .if3 .taken)
 
--- src/structure.rt:171:15
 read-goal-add-if4 : (t : ℕ) → read-goal-lts.Need-add-if4 (read-goal-claims t) (read-goal-at t) read-goal.Post
 read-goal-add-if4 t c = omega arith
 
--- src/structure.rt:171:8
 read-goal-sub-if4 : (t : ℕ) → read-goal-lts.Need-sub-if4 (read-goal-claims t) (read-goal-at t) read-goal.Post
 read-goal-sub-if4 t c = omega arith
 
--- src/structure.rt:172:9
 read-goal-returns-4 : (t : ℕ) → read-goal-lts.Need-returns-4 (read-goal-claims t) (read-goal-at t) read-goal.Post
 read-goal-returns-4 t c = goal-overrun _ _ _ _ _ _ (c .before .before .before .before .if1 .left) (c .before .before .before .part-at .ensures) (c .before .before .if2 .left) (c .before .if3 .left) (c .if4 .taken)
 
--- src/structure.rt:174:16
 read-goal-add-stop : (t : ℕ) → read-goal-lts.Need-add-stop (read-goal-claims t) (read-goal-at t) read-goal.Post
 read-goal-add-stop t c = omega arith
 
--- src/structure.rt:174:16
 read-goal-add-stop-2 : (t : ℕ) → read-goal-lts.Need-add-stop-2 (read-goal-claims t) (read-goal-at t) read-goal.Post
 read-goal-add-stop-2 t c = omega arith
 
--- src/structure.rt:176:40
 read-goal-add-read-two : (t : ℕ) → read-goal-lts.Need-add-read-two (read-goal-claims t) (read-goal-at t) read-goal.Post
 read-goal-add-read-two t c = omega arith
 
--- src/structure.rt:176:9
 read-goal-read-two-requires : (t : ℕ) → read-goal-lts.Need-read-two-requires (read-goal-claims t) (read-goal-at t) read-goal.Post
 read-goal-read-two-requires t c κs = omega arith
 
--- src/structure.rt:176:9
 read-goal-returns-5 : (t : ℕ) → read-goal-lts.Need-returns-5 (read-goal-claims t) (read-goal-at t) read-goal.Post
 read-goal-returns-5 t c = goal-two _ _ _ _ _ _ (c .before .before .before .before .before .before .if1 .left) (c .before .before .before .before .before .part-at .ensures) (c .before .before .before .before .if2 .left) (c .before .before .before .if3 .left) (c .before .before .if4 .left) (c .before .if5 .taken) _ (c .read-two .ensures)
 
--- src/structure.rt:179:40
 read-goal-add-read-one : (t : ℕ) → read-goal-lts.Need-add-read-one (read-goal-claims t) (read-goal-at t) read-goal.Post
 read-goal-add-read-one t c = omega arith
 
--- src/structure.rt:179:9
 read-goal-read-one-requires : (t : ℕ) → read-goal-lts.Need-read-one-requires (read-goal-claims t) (read-goal-at t) read-goal.Post
 read-goal-read-one-requires t c κs = omega arith
 
--- src/structure.rt:179:9
 read-goal-returns-6 : (t : ℕ) → read-goal-lts.Need-returns-6 (read-goal-claims t) (read-goal-at t) read-goal.Post
 read-goal-returns-6 t c = goal-one _ _ _ _ _ _ (c .before .before .before .before .before .before .before .if1 .left) (c .before .before .before .before .before .before .part-at .ensures) (c .before .before .before .before .before .if2 .left) (c .before .before .before .before .if3 .left) (c .before .before .before .if4 .left) (c .before .before .if5 .left) (c .before .if6 .taken) _ (c .read-one .ensures)
 
--- src/structure.rt:182:44
 read-goal-add-read-absento : (t : ℕ) → read-goal-lts.Need-add-read-absento (read-goal-claims t) (read-goal-at t) read-goal.Post
 read-goal-add-read-absento t c = omega arith
 
--- src/structure.rt:182:9
 read-goal-read-absento-requires : (t : ℕ) → read-goal-lts.Need-read-absento-requires (read-goal-claims t) (read-goal-at t) read-goal.Post
 read-goal-read-absento-requires t c κs = omega arith
 
--- src/structure.rt:182:9
 read-goal-returns-7 : (t : ℕ) → read-goal-lts.Need-returns-7 (read-goal-claims t) (read-goal-at t) read-goal.Post
 read-goal-returns-7 t c = goal-absento _ _ _ _ _ _ (c .before .before .before .before .before .before .before .before .if1 .left) (c .before .before .before .before .before .before .before .part-at .ensures) (c .before .before .before .before .before .before .if2 .left) (c .before .before .before .before .before .if3 .left) (c .before .before .before .before .if4 .left) (c .before .if7 .taken) _ (c .read-absento .ensures)
 
--- src/structure.rt:185:41
 read-goal-add-read-call : (t : ℕ) → read-goal-lts.Need-add-read-call (read-goal-claims t) (read-goal-at t) read-goal.Post
 read-goal-add-read-call t c = omega arith
 
--- src/structure.rt:185:9
 read-goal-read-call-requires : (t : ℕ) → read-goal-lts.Need-read-call-requires (read-goal-claims t) (read-goal-at t) read-goal.Post
 read-goal-read-call-requires t c κs = omega arith
 
--- src/structure.rt:185:9
 read-goal-returns-8 : (t : ℕ) → read-goal-lts.Need-returns-8 (read-goal-claims t) (read-goal-at t) read-goal.Post
 read-goal-returns-8 t c = goal-call _ _ _ _ _ _ (c .before .before .before .before .before .before .before .before .before .if1 .left) (c .before .before .before .before .before .before .before .before .part-at .ensures) (c .before .before .before .before .before .before .before .if2 .left) (c .before .before .before .before .before .before .if3 .left) (c .before .before .before .before .before .if4 .left) (c .before .if8 .taken) _ (c .read-call .ensures)
 
--- src/structure.rt:187:31
 read-goal-add-read-goals : (t : ℕ) → read-goal-lts.Need-add-read-goals (read-goal-claims t) (read-goal-at t) read-goal.Post
 read-goal-add-read-goals t c = omega arith
 
--- src/structure.rt:187:5
 read-goal-read-goals-requires : (t : ℕ) → read-goal-lts.Need-read-goals-requires (read-goal-claims t) (read-goal-at t) read-goal.Post
 read-goal-read-goals-requires t c κs = (omega (arith, c .before .before .before .before .before .before .before .before .before .before .pre .0, c .before .before .before .before .before .before .before .before .if1 .left, c .before .before .before .before .if4 .left), omega arith)
 
--- src/structure.rt:155:1
 read-goal-returns-9 : (t : ℕ) → read-goal-lts.Need-returns-9 (read-goal-claims t) (read-goal-at t) read-goal.Post
 read-goal-returns-9 t c = goal-nested _ _ _ _ _ _ (c .before .before .before .before .before .before .before .before .before .if1 .left) (c .before .before .before .before .before .before .before .before .part-at .ensures) (c .before .before .before .before .before .before .before .if2 .left) (c .before .before .before .before .before .before .if3 .left) (c .before .before .before .before .before .if4 .left) (c .before .before .before .if6 .left) (c .before .before .if7 .left) (c .before .if8 .left) _ (c .read-goals .ensures)
 
@@ -158,19 +134,15 @@ read-goals-Inv-loop program vars start end at₀ at = Going program vars start e
 abbrev read-goals-μ-loop : read-goals-lts.MeasureT-loop
 read-goals-μ-loop program vars start end at₀ at = end - at
 
--- src/structure.rt:196:5
 read-goals-loop-holds : (t : ℕ) → read-goals-lts.Need-loop-holds (read-goals-claims t) (read-goals-at t) read-goals.Post read-goals-Inv-loop read-goals-μ-loop
 read-goals-loop-holds t c = record { forward = omega arith; whole = λ o h. h }
 
--- src/structure.rt:197:15
 read-goals-read-goal-requires : (t : ℕ) → read-goals-lts.Need-read-goal-requires (read-goals-claims t) (read-goals-at t) read-goals.Post read-goals-Inv-loop read-goals-μ-loop
 read-goals-read-goal-requires t c κs = (omega (arith, c .loop .inv .forward, c .before .before .pre .0), omega arith)
 
--- src/structure.rt:198:27
 read-goals-enum-known-c : (t : ℕ) → read-goals-lts.Need-enum-known-c (read-goals-claims t) (read-goals-at t) read-goals.Post read-goals-Inv-loop read-goals-μ-loop
 read-goals-enum-known-c t c = search needs
 
--- src/structure.rt:199:17
 read-goals-returns :
     (t : ℕ) →
     read-goals-lts.Need-returns
@@ -181,11 +153,9 @@ read-goals-returns :
     read-goals-μ-loop
 read-goals-returns t c = c .before .before .before .before .loop .inv .whole _ (goals-stop _ _ _ _ _ _ (rw (c .before .c .given .1) at (c .before .before .before .read-goal .ensures)))
 
--- src/structure.rt:201:24
 read-goals-enum-known-next : (t : ℕ) → read-goals-lts.Need-enum-known-next (read-goals-claims t) (read-goals-at t) read-goals.Post read-goals-Inv-loop read-goals-μ-loop
 read-goals-enum-known-next t c = search needs
 
--- src/structure.rt:203:21
 read-goals-returns-2 :
     (t : ℕ) →
     read-goals-lts.Need-returns-2
@@ -196,7 +166,6 @@ read-goals-returns-2 :
     read-goals-μ-loop
 read-goals-returns-2 t c = c .before .before .before .before .before .loop .inv .whole _ (goals-last _ _ _ _ _ (rw (c .before .before .next .given .1) at (c .before .before .before .before .read-goal .ensures)) (c .if1 .taken))
 
--- src/structure.rt:196:5
 read-goals-loop-less :
     (t : ℕ) →
     read-goals-lts.Need-loop-less
@@ -207,7 +176,6 @@ read-goals-loop-less :
     read-goals-μ-loop
 read-goals-loop-less t c = omega (arith, goal-ahead _ _ _ _ _ (rw (c .before .before .next .given .1) at (c .before .before .before .before .read-goal .ensures)) .past, c .if1 .left)
 
--- src/structure.rt:196:5
 read-goals-loop-again : (t : ℕ) → read-goals-lts.Need-loop-again (read-goals-claims t) (read-goals-at t) read-goals.Post read-goals-Inv-loop read-goals-μ-loop
 read-goals-loop-again t c = record {
   forward = omega (arith, c .before .before .before .before .before .loop .inv .forward, goal-ahead _ _ _ _ _ (rw (c .before .before .next .given .1) at (c .before .before .before .before .read-goal .ensures)) .past);

@@ -1,17 +1,18 @@
 -- `read_term` reads a term as `read-term` says. Recursion falls by the words left, and the loop goes from second part to second part.
 use mathlib.Core.List.{List}
-use Prim.Native.Nat.{_≤_, _-_}
+use Prim.Native.Nat.{_<_, _≤_, _-_}
 use native.Mathlib.Omega.{arith}
 use borrow.Author.Needs.{needs}
 use Rattle.rules.specs.Inner.{Outcome}
-use Rattle.rules.proofs.Readers.{TermTold, term-missing, term-kind, term-leaf, term-overrun, term-first-stops, term-left-over, term-second}
-use Prim.Native.Nat.{ℕ, _<_}
+use Rattle.rules.proofs.Readers.{TermTold, term-missing, term-kind, term-leaf, term-overrun, term-first-stops, term-second}
+use Prim.Native.Nat.{ℕ}
 use borrow.Fn.Kinds.{In}
 use borrow.Fn.PlainCycle.{Measures, is, falls, and}
 use Rattle.rules.proofs.structure.read_term.Reads as read-term
 use Rattle.rules.proofs.structure.read_term.Kinds as read-term-kinds
 use Rattle.rules.proofs.structure.+read_term.Lts-read_term as read-term-lts
 use Rattle.rules.proofs.part.part_at.Reads as part-at-reads
+use Rattle.rules.proofs.structure.fill.Reads as fill-reads
 use Rattle.rules.proofs.structure.read_leaf.Reads as read-leaf-reads
 use Rattle.rules.proofs.structure.+read_term.{statement}
 use Rattle.rules.proofs.structure.+read_term.Tie.{close}
@@ -33,7 +34,7 @@ read-term-below t =
 
 -- what read-term may take of the functions that it calls, below the measure t
 abbrev read-term-claims : ℕ → read-term-lts.Claims
-read-term-claims t = (part-at-reads.Asked, part-at-reads.Learnt, read-term-below t, read-term.Post, read-leaf-reads.Asked, read-leaf-reads.Learnt)
+read-term-claims t = (part-at-reads.Asked, part-at-reads.Learnt, read-term-below t, read-term.Post, fill-reads.Asked, fill-reads.Learnt, read-leaf-reads.Asked, read-leaf-reads.Learnt)
 
 abbrev read-term-Inv-loop : read-term-lts.InvT-loop
 read-term-Inv-loop program vars start end at₀ at = Going program vars start end at
@@ -41,91 +42,70 @@ read-term-Inv-loop program vars start end at₀ at = Going program vars start en
 abbrev read-term-μ-loop : read-term-lts.MeasureT-loop
 read-term-μ-loop program vars start end at₀ at = end - at
 
--- src/structure.rt:54:5
 read-term-loop-holds : (t : ℕ) → read-term-lts.Need-loop-holds (read-term-claims t) (read-term-at t) read-term.Post read-term-Inv-loop read-term-μ-loop
 read-term-loop-holds t c = record { forward = omega arith; whole = λ o h. h }
 
--- src/structure.rt:56:13
 read-term-returns : (t : ℕ) → read-term-lts.Need-returns (read-term-claims t) (read-term-at t) read-term.Post read-term-Inv-loop read-term-μ-loop
 read-term-returns t c = c .before .loop .inv .whole _ (term-missing _ _ _ _ (c .if1 .taken))
 
--- src/structure.rt:58:13
 read-term-part-at-requires : (t : ℕ) → read-term-lts.Need-part-at-requires (read-term-claims t) (read-term-at t) read-term.Post read-term-Inv-loop read-term-μ-loop
 read-term-part-at-requires t c κs = omega arith
 
--- src/structure.rt:62:13
 read-term-returns-2 : (t : ℕ) → read-term-lts.Need-returns-2 (read-term-claims t) (read-term-at t) read-term.Post read-term-Inv-loop read-term-μ-loop
 read-term-returns-2 t c = c .before .before .before .loop .inv .whole _ (term-kind _ _ _ _ _ _ (c .before .before .if1 .left) (c .before .part-at .ensures) (c .if2 .taken))
 
--- src/structure.rt:65:23
 read-term-add-if4 : (t : ℕ) → read-term-lts.Need-add-if4 (read-term-claims t) (read-term-at t) read-term.Post read-term-Inv-loop read-term-μ-loop
 read-term-add-if4 t c = omega arith
 
--- src/structure.rt:65:16
 read-term-sub-if4 : (t : ℕ) → read-term-lts.Need-sub-if4 (read-term-claims t) (read-term-at t) read-term.Post read-term-Inv-loop read-term-μ-loop
 read-term-sub-if4 t c = omega arith
 
--- src/structure.rt:66:17
 read-term-returns-3 : (t : ℕ) → read-term-lts.Need-returns-3 (read-term-claims t) (read-term-at t) read-term.Post read-term-Inv-loop read-term-μ-loop
 read-term-returns-3 t c = c .before .before .before .before .before .loop .inv .whole _
     (term-overrun _ _ _ _ _ _ (c .before .before .before .before .if1 .left) (c .before .before .before .part-at .ensures) (c .before .if3 .taken) (c .if4 .taken))
 
--- src/structure.rt:68:26
 read-term-add-second : (t : ℕ) → read-term-lts.Need-add-second (read-term-claims t) (read-term-at t) read-term.Post read-term-Inv-loop read-term-μ-loop
 read-term-add-second t c = omega arith
 
--- src/structure.rt:68:26
 read-term-add-second-2 : (t : ℕ) → read-term-lts.Need-add-second-2 (read-term-claims t) (read-term-at t) read-term.Post read-term-Inv-loop read-term-μ-loop
 read-term-add-second-2 t c = omega arith
 
--- src/structure.rt:69:44
 read-term-add-read-term : (t : ℕ) → read-term-lts.Need-add-read-term (read-term-claims t) (read-term-at t) read-term.Post read-term-Inv-loop read-term-μ-loop
 read-term-add-read-term t c = omega arith
 
--- src/structure.rt:69:19
 read-term-read-term-requires : (t : ℕ) → read-term-lts.Need-read-term-requires (read-term-claims t) (read-term-at t) read-term.Post read-term-Inv-loop read-term-μ-loop
 read-term-read-term-requires t c κs = (omega (arith, c .before .before .before .before .before .loop .inv .forward, c .before .before .before .before .before .before .before .pre .0), omega arith)
 
--- src/structure.rt:70:31
+read-term-fill-requires : (t : ℕ) → read-term-lts.Need-fill-requires (read-term-claims t) (read-term-at t) read-term.Post read-term-Inv-loop read-term-μ-loop
+read-term-fill-requires t c κs = search needs
+
 read-term-enum-known-c : (t : ℕ) → read-term-lts.Need-enum-known-c (read-term-claims t) (read-term-at t) read-term.Post read-term-Inv-loop read-term-μ-loop
 read-term-enum-known-c t c = search needs
 
--- src/structure.rt:71:21
 read-term-returns-4 : (t : ℕ) → read-term-lts.Need-returns-4 (read-term-claims t) (read-term-at t) read-term.Post read-term-Inv-loop read-term-μ-loop
-read-term-returns-4 t c = c .before .before .before .before .before .before .before .before .before .loop .inv .whole _
-    (term-first-stops _ _ _ _ _ _ (c .before .before .before .before .before .before .before .before .if1 .left) (c .before .before .before .before .before .before .before .part-at .ensures) (c .before .before .before .before .before .if3 .taken) (c .before .before .before .before .if4 .left) _ _
-    (rw (c .before .c .given .1) at (c .before .before .before .read-term .ensures)))
+read-term-returns-4 t c = c .before .before .before .before .before .before .before .before .before .before .loop .inv .whole _
+    (term-first-stops _ _ _ _ _ _ (c .before .before .before .before .before .before .before .before .before .if1 .left) (c .before .before .before .before .before .before .before .before .part-at .ensures) (c .before .before .before .before .before .before .if3 .taken) (c .before .before .before .before .before .if4 .left) _ _ _
+    (c .before .before .before .before .read-term .ensures) (rw (c .before .c .given .1) at (c .before .before .before .fill .ensures)))
 
--- src/structure.rt:73:28
-read-term-enum-known-next : (t : ℕ) → read-term-lts.Need-enum-known-next (read-term-claims t) (read-term-at t) read-term.Post read-term-Inv-loop read-term-μ-loop
-read-term-enum-known-next t c = search needs
+read-term-enum-told : (t : ℕ) → read-term-lts.Need-enum-told (read-term-claims t) (read-term-at t) read-term.Post read-term-Inv-loop read-term-μ-loop
+read-term-enum-told t c = search needs
 
--- src/structure.rt:75:25
-read-term-returns-5 : (t : ℕ) → read-term-lts.Need-returns-5 (read-term-claims t) (read-term-at t) read-term.Post read-term-Inv-loop read-term-μ-loop
-read-term-returns-5 t c = c .before .before .before .before .before .before .before .before .before .before .loop .inv .whole _
-    (term-left-over _ _ _ _ _ _ (c .before .before .before .before .before .before .before .before .before .if1 .left) (c .before .before .before .before .before .before .before .before .part-at .ensures) (c .before .before .before .before .before .before .if3 .taken) (c .before .before .before .before .before .if4 .left) _
-    (rw (c .before .before .next .given .1) at (c .before .before .before .before .read-term .ensures)) (c .if5 .taken))
-
--- src/structure.rt:54:5
 read-term-loop-less : (t : ℕ) → read-term-lts.Need-loop-less (read-term-claims t) (read-term-at t) read-term.Post read-term-Inv-loop read-term-μ-loop
 read-term-loop-less t c = omega arith
 
--- src/structure.rt:54:5
 read-term-loop-again : (t : ℕ) → read-term-lts.Need-loop-again (read-term-claims t) (read-term-at t) read-term.Post read-term-Inv-loop read-term-μ-loop
 read-term-loop-again t c = record {
-  forward = omega (arith, c .before .before .before .before .before .before .before .before .before .before .loop .inv .forward);
-  whole = λ o h. c .before .before .before .before .before .before .before .before .before .before .loop .inv .whole o
-      (term-second _ _ _ _ _ _ (c .before .before .before .before .before .before .before .before .before .if1 .left) (c .before .before .before .before .before .before .before .before .part-at .ensures) (c .before .before .before .before .before .before .if3 .taken) (c .before .before .before .before .before .if4 .left) _
-      (rw (c .before .before .next .given .1) at (c .before .before .before .before .read-term .ensures)) (c .if5 .left) o h);
+  forward = omega (arith, c .before .before .before .before .before .before .before .before .before .loop .inv .forward);
+  whole = λ o h. c .before .before .before .before .before .before .before .before .before .loop .inv .whole o
+      (term-second _ _ _ _ _ _ (c .before .before .before .before .before .before .before .before .if1 .left) (c .before .before .before .before .before .before .before .part-at .ensures) (c .before .before .before .before .before .if3 .taken) (c .before .before .before .before .if4 .left) _ _
+      (c .before .before .before .read-term .ensures) (rw (c .enum-told .given .1) at (c .before .before .fill .ensures)) o h);
 }
 
--- src/structure.rt:81:13
 read-term-read-leaf-requires : (t : ℕ) → read-term-lts.Need-read-leaf-requires (read-term-claims t) (read-term-at t) read-term.Post read-term-Inv-loop read-term-μ-loop
 read-term-read-leaf-requires t c κs = (omega (arith, c .if3 .left), omega arith)
 
--- src/structure.rt:81:13
-read-term-returns-6 : (t : ℕ) → read-term-lts.Need-returns-6 (read-term-claims t) (read-term-at t) read-term.Post read-term-Inv-loop read-term-μ-loop
-read-term-returns-6 t c = c .before .before .before .before .before .loop .inv .whole _
+read-term-returns-5 : (t : ℕ) → read-term-lts.Need-returns-5 (read-term-claims t) (read-term-at t) read-term.Post read-term-Inv-loop read-term-μ-loop
+read-term-returns-5 t c = c .before .before .before .before .before .loop .inv .whole _
     (term-leaf _ _ _ _ _ _ (c .before .before .before .before .if1 .left) (c .before .before .before .part-at .ensures) _ (c .before .before .if2 .left) (c .before .if3 .left) (c .read-leaf .ensures))
 
 pub +read-term-spec : {M : Type 1} → statement M
@@ -143,11 +123,11 @@ pub +read-term-spec : {M : Type 1} → statement M
     (read-term-add-second-2 t)
     (read-term-add-read-term t)
     (read-term-read-term-requires t)
+    (read-term-fill-requires t)
     (read-term-enum-known-c t)
     (read-term-returns-4 t)
-    (read-term-enum-known-next t)
-    (read-term-returns-5 t)
+    (read-term-enum-told t)
     (read-term-loop-less t)
     (read-term-loop-again t)
     (read-term-read-leaf-requires t)
-    (read-term-returns-6 t)
+    (read-term-returns-5 t)

@@ -3,32 +3,22 @@ use Rattle.rules.proofs.Readers.{absento-stops, absento-rest}
 use borrow.Author.Needs.{needs}
 use Rattle.rules.proofs.structure.read_absento.Statement.{statement}
 use Rattle.rules.proofs.structure.read_absento.Tie as tie
-use Rattle.rules.proofs.structure.read_absento.Reads as reads
-use Rattle.rules.proofs.structure.read_absento.Lts as lts
-use Rattle.rules.proofs.structure.read_one.Reads as read-one-reads
-use Rattle.rules.proofs.structure.read_word.Reads as read-word-reads
 
--- src/structure.rt:137:11
 read-word-requires : tie.Need-read-word-requires
 read-word-requires c κs = search needs
 
--- src/structure.rt:138:23
 enum-known-c : tie.Need-enum-known-c
 enum-known-c c = search needs
 
--- src/structure.rt:139:20
 enum-known-next : tie.Need-enum-known-next
 enum-known-next c = search needs
 
--- src/structure.rt:139:29
 read-one-requires : tie.Need-read-one-requires
 read-one-requires c κs = search needs
 
--- src/structure.rt:133:1
 returns : tie.Need-returns
 returns c = absento-stops _ _ _ _ _ _ (rw (c .before .c .given .1) at (c .before .before .before .read-word .ensures))
 
--- src/structure.rt:133:1
 returns-2 : tie.Need-returns-2
 returns-2 c = absento-rest _ _ _ _ _ _ (rw (c .before .before .next .given .1) at (c .before .before .before .before .read-word .ensures)) (c .read-one .ensures)
 

@@ -3,32 +3,22 @@ use Rattle.rules.proofs.Readers.{call-stops, call-rest}
 use borrow.Author.Needs.{needs}
 use Rattle.rules.proofs.structure.read_call.Statement.{statement}
 use Rattle.rules.proofs.structure.read_call.Tie as tie
-use Rattle.rules.proofs.structure.read_call.Reads as reads
-use Rattle.rules.proofs.structure.read_call.Lts as lts
-use Rattle.rules.proofs.structure.read_terms.Reads as read-terms-reads
-use Rattle.rules.proofs.structure.read_word.Reads as read-word-reads
 
--- src/structure.rt:148:11
 read-word-requires : tie.Need-read-word-requires
 read-word-requires c κs = search needs
 
--- src/structure.rt:149:23
 enum-known-c : tie.Need-enum-known-c
 enum-known-c c = search needs
 
--- src/structure.rt:150:20
 enum-known-next : tie.Need-enum-known-next
 enum-known-next c = search needs
 
--- src/structure.rt:150:29
 read-terms-requires : tie.Need-read-terms-requires
 read-terms-requires c κs = search needs
 
--- src/structure.rt:144:1
 returns : tie.Need-returns
 returns c = call-stops _ _ _ _ _ _ (rw (c .before .c .given .1) at (c .before .before .before .read-word .ensures))
 
--- src/structure.rt:144:1
 returns-2 : tie.Need-returns-2
 returns-2 c = call-rest _ _ _ _ _ _ (rw (c .before .before .next .given .1) at (c .before .before .before .before .read-word .ensures)) (c .read-terms .ensures)
 

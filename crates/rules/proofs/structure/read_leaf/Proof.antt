@@ -1,5 +1,4 @@
 -- `read_leaf` reads a variable or an atom as `read-leaf` says.
-use mathlib.Core.Path.{refl}
 use borrow.Author.Needs.{needs}
 use borrow.Author.Tests.{le-ltb, lt-ltb, eq-eqb, ne-eqb}
 use Rattle.rules.proofs.Readers.{leaf-variable, leaf-empty, leaf-atom}

@@ -1,6 +1,5 @@
 -- `read_relations` reads all relations, as `read-relations` says.
-use mathlib.Core.List.{List}
-use Prim.Native.Nat.{ℕ, _≤_, _-_}
+use Prim.Native.Nat.{_-_}
 use native.Mathlib.Omega.{arith}
 use borrow.Author.Needs.{needs}
 use lib.ListN.{length}
@@ -8,9 +7,6 @@ use Rattle.rules.specs.Inner.{Outcome}
 use Rattle.rules.proofs.Readers.{RelationsTold, relations-end, relations-stop, relations-next, relation-ahead}
 use Rattle.rules.proofs.structure.read_relations.Statement.{statement}
 use Rattle.rules.proofs.structure.read_relations.Tie as tie
-use Rattle.rules.proofs.structure.read_relations.Reads as reads
-use Rattle.rules.proofs.structure.read_relations.Lts as lts
-use Rattle.rules.proofs.structure.read_relation.Reads as read-relation-reads
 
 abbrev Inv-loop : tie.InvT-loop
 Inv-loop program at₀ before₀ at before = (o : Outcome) → RelationsTold program before at o → RelationsTold program 0 0 o
@@ -18,39 +14,30 @@ Inv-loop program at₀ before₀ at before = (o : Outcome) → RelationsTold pro
 abbrev μ-loop : tie.MeasureT-loop
 μ-loop program at₀ before₀ at before = length program - at
 
--- src/structure.rt:279:5
 loop-holds : tie.Need-loop-holds Inv-loop μ-loop
 loop-holds c = λ o h. h
 
--- src/structure.rt:280:15
 read-relation-requires : tie.Need-read-relation-requires Inv-loop μ-loop
 read-relation-requires c κs = search needs
 
--- src/structure.rt:281:27
 enum-known-c : tie.Need-enum-known-c Inv-loop μ-loop
 enum-known-c c = search needs
 
--- src/structure.rt:282:17
 returns : tie.Need-returns Inv-loop μ-loop
 returns c = λ f d. c .before .before .before .before .before .loop .inv _ (relations-stop _ _ _ _ _ (c .before .before .before .before .loop-test .taken) (rw (c .before .c .given .1) at (c .before .before .before .read-relation .ensures))) f (omega arith)
 
--- src/structure.rt:284:24
 enum-known-next : tie.Need-enum-known-next Inv-loop μ-loop
 enum-known-next c = search needs
 
--- src/structure.rt:286:17
 add-before : tie.Need-add-before Inv-loop μ-loop
 add-before c = omega (arith, relation-ahead _ _ _ _ (c .before .before .before .before .loop-test .taken) (rw (c .before .next .given .1) at (c .before .before .before .read-relation .ensures)) .1)
 
--- src/structure.rt:279:5
 loop-less : tie.Need-loop-less Inv-loop μ-loop
 loop-less c = omega (arith, relation-ahead _ _ _ _ (c .before .before .before .before .loop-test .taken) (rw (c .before .next .given .1) at (c .before .before .before .read-relation .ensures)) .0 .past, c .before .before .before .before .loop-test .taken)
 
--- src/structure.rt:279:5
 loop-again : tie.Need-loop-again Inv-loop μ-loop
 loop-again c = λ o h. c .before .before .before .before .before .loop .inv o (relations-next _ _ _ _ (c .before .before .before .before .loop-test .taken) (rw (c .before .next .given .1) at (c .before .before .before .read-relation .ensures)) o h)
 
--- src/structure.rt:274:1
 returns-2 : tie.Need-returns-2 Inv-loop μ-loop
 returns-2 c = λ f d. c .before .loop .inv _ (relations-end _ _ _ (c .loop-test .left)) f (omega arith)
 

@@ -1,15 +1,11 @@
 -- `read_terms` reads terms up to the end of their part, as `read-terms` says.
-use mathlib.Core.List.{List}
-use Prim.Native.Nat.{ℕ, _≤_, _-_}
+use Prim.Native.Nat.{_-_}
 use native.Mathlib.Omega.{arith}
 use borrow.Author.Needs.{needs}
 use Rattle.rules.specs.Inner.{Outcome}
 use Rattle.rules.proofs.Readers.{TermsTold, terms-end, terms-stop, terms-next, term-ahead}
 use Rattle.rules.proofs.structure.read_terms.Statement.{statement}
 use Rattle.rules.proofs.structure.read_terms.Tie as tie
-use Rattle.rules.proofs.structure.read_terms.Reads as reads
-use Rattle.rules.proofs.structure.read_terms.Lts as lts
-use Rattle.rules.proofs.structure.read_term.Reads as read-term-reads
 
 abbrev Inv-loop : tie.InvT-loop
 Inv-loop program vars start end at₀ at = (o : Outcome) → TermsTold program vars at end o → TermsTold program vars start end o
@@ -17,35 +13,27 @@ Inv-loop program vars start end at₀ at = (o : Outcome) → TermsTold program v
 abbrev μ-loop : tie.MeasureT-loop
 μ-loop program vars start end at₀ at = end - at
 
--- src/structure.rt:119:5
 loop-holds : tie.Need-loop-holds Inv-loop μ-loop
 loop-holds c = λ o h. h
 
--- src/structure.rt:120:15
 read-term-requires : tie.Need-read-term-requires Inv-loop μ-loop
 read-term-requires c κs = search needs
 
--- src/structure.rt:121:27
 enum-known-c : tie.Need-enum-known-c Inv-loop μ-loop
 enum-known-c c = search needs
 
--- src/structure.rt:122:17
 returns : tie.Need-returns Inv-loop μ-loop
 returns c = c .before .before .before .before .before .loop .inv _ (terms-stop _ _ _ _ _ _ (c .before .before .before .before .loop-test .taken) (rw (c .before .c .given .1) at (c .before .before .before .read-term .ensures)))
 
--- src/structure.rt:124:24
 enum-known-next : tie.Need-enum-known-next Inv-loop μ-loop
 enum-known-next c = search needs
 
--- src/structure.rt:119:5
 loop-less : tie.Need-loop-less Inv-loop μ-loop
 loop-less c = omega (arith, term-ahead _ _ _ _ _ (rw (c .before .next .given .1) at (c .before .before .before .read-term .ensures)) .past, c .before .before .before .before .loop-test .taken)
 
--- src/structure.rt:119:5
 loop-again : tie.Need-loop-again Inv-loop μ-loop
 loop-again c = λ o h. c .before .before .before .before .before .loop .inv o (terms-next _ _ _ _ _ (c .before .before .before .before .loop-test .taken) (rw (c .before .next .given .1) at (c .before .before .before .read-term .ensures)) o h)
 
--- src/structure.rt:114:1
 returns-2 : tie.Need-returns-2 Inv-loop μ-loop
 returns-2 c = c .before .loop .inv _ (terms-end _ _ _ _ (c .loop-test .left))
 

@@ -1,0 +1,146 @@
+//! The static library against the reference: which programs are accepted, and how the others are refused.
+
+use kindcanvas::text::show;
+use kindcanvas::Refusal;
+use reference::gen::{self, Rng};
+use reference::table;
+use reference::word::word;
+use std::thread;
+
+/// The reference's result in the wrapper's type.
+fn expected(words: &[u32]) -> Result<(), Refusal> {
+    match reference::read(words) {
+        Ok(_) => Ok(()),
+        Err(refusal) => Err(Refusal {
+            number: refusal.number,
+            place: refusal.place,
+        }),
+    }
+}
+
+#[test]
+fn table_of_refusals() {
+    for row in table::refusals() {
+        let expected = row.expected.map_err(|refusal| Refusal {
+            number: refusal.number,
+            place: refusal.place,
+        });
+        assert_eq!(
+            kindcanvas::check(&row.words),
+            expected,
+            "refusals.txt line {}",
+            row.line
+        );
+    }
+}
+
+#[test]
+fn random_programs() {
+    const CASES: usize = 240_000;
+    let mut rng = Rng::new(20_240_601);
+    // How often each outcome came: at 0 accepted, else the condition's number.
+    let mut counts = [0; 9];
+    for case in 0..CASES {
+        let words = match case % 10 {
+            0..=2 => gen::accepted(&mut rng),
+            3..=7 => gen::damaged(&mut rng),
+            _ => gen::random_words(&mut rng),
+        };
+        let expected = expected(&words);
+        let result = kindcanvas::check(&words);
+        if result != expected {
+            panic!(
+                "case {case}: the library says {result:?}, the reference {expected:?}\n{}",
+                show(&words)
+            );
+        }
+        counts[expected.map_or_else(|refusal| refusal.number as usize, |()| 0)] += 1;
+        if case % 10 <= 2 {
+            assert_eq!(expected, Ok(()), "case {case}\n{}", show(&words));
+        }
+    }
+    println!("accepted, refused 1 to 8: {counts:?}");
+    for (outcome, &count) in counts.iter().enumerate() {
+        assert!(count >= 1000, "outcome {outcome} came only {count} times");
+    }
+}
+
+fn relation(goal: Vec<u32>) -> Vec<u32> {
+    gen::relation(0, 0, goal)
+}
+
+/// An equality inside `depth` goals, each holding the next alone.
+fn nested_goals(depth: u32, kinds: [u32; 2]) -> Vec<u32> {
+    let innermost = [word(5, 2), word(3, 0), word(3, 0)];
+    let around = (0..depth).map(|level| word(kinds[level as usize % 2], depth - level + 2));
+    relation(around.chain(innermost).collect())
+}
+
+/// Pairs nested in first parts.
+fn first_parts(depth: u32) -> Vec<u32> {
+    let mut goal = vec![word(7, 2 * depth + 1)];
+    goal.extend((0..depth).map(|level| word(4, 2 * (depth - level) - 1)));
+    goal.extend(vec![word(3, 0); depth as usize + 1]);
+    relation(goal)
+}
+
+fn list(length: usize) -> Vec<u32> {
+    let mut goal = vec![word(7, 2 * length as u32 + 1)];
+    goal.extend([word(4, 1), word(1, 7)].repeat(length));
+    goal.push(word(3, 0));
+    relation(goal)
+}
+
+/// `check` in a thread with half of the usual stack.
+fn check_in_4_mib(words: &[u32]) -> Result<(), Refusal> {
+    let words = words.to_vec();
+    thread::Builder::new()
+        .stack_size(4 << 20)
+        .spawn(move || kindcanvas::check(&words))
+        .unwrap()
+        .join()
+        .unwrap()
+}
+
+/// However deep a program, half of the usual stack is enough to read it.
+#[test]
+fn deep_programs_need_little_stack() {
+    let programs = [
+        ("conjunctions", nested_goals(16_000, [10, 10])),
+        (
+            "disjunctions and conjunctions",
+            nested_goals(16_000, [11, 10]),
+        ),
+        ("as many goals as fit", nested_goals(16_378, [10, 11])),
+        ("first parts", first_parts(8_000)),
+        ("a list", list(8_000)),
+    ];
+    for (name, words) in programs {
+        assert_eq!(check_in_4_mib(&words), Ok(()), "{name}");
+    }
+}
+
+#[test]
+fn the_whole_range_of_places() {
+    // The last word of a full-length program can be the place, and the word count itself.
+    let mut words = nested_goals(16_378, [10, 10]);
+    assert_eq!(words.len(), 16_384);
+    words[16_383] = word(0, 0);
+    assert_eq!(
+        check_in_4_mib(&words),
+        Err(Refusal {
+            number: 5,
+            place: 16_383
+        })
+    );
+    words[16_381] = word(10, 2);
+    words[16_382] = word(7, 1);
+    words[16_383] = word(4, 0);
+    assert_eq!(
+        check_in_4_mib(&words),
+        Err(Refusal {
+            number: 3,
+            place: 16_384
+        })
+    );
+}

@@ -1,0 +1,14 @@
+//! A separate implementation of the rule language, written from document 01 alone and for obviousness, not
+//! speed: the verified engine is compared with it on random programs.
+
+pub mod cases;
+pub mod gen;
+pub mod read;
+pub mod run;
+pub mod syntax;
+pub mod table;
+pub mod word;
+
+pub use read::{read, Refusal};
+pub use run::{run, End, Outcome};
+pub use syntax::{written, Program};

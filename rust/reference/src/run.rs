@@ -1,0 +1,642 @@
+//! The search: rounds, paths, constraints, steps and answers.
+//!
+//! A path is one value that holds everything, and a choice point keeps a whole copy of it, so nothing is ever undone.
+
+use crate::read::{read, Refusal};
+use crate::syntax::*;
+use crate::word::*;
+
+/// How a run ended.
+#[derive(Clone, Copy, Debug, PartialEq, Eq)]
+pub enum End {
+    Finished,
+    Rounds,
+    Steps,
+    Output,
+    /// Which of the five bounds on a path, from 1.
+    Path(u32),
+}
+
+#[derive(Clone, Debug, PartialEq, Eq)]
+pub struct Outcome {
+    pub end: End,
+    /// The last round completed, or the one broken off.
+    pub round: u32,
+    pub steps: u32,
+    pub answers: usize,
+    /// The round of each answer.
+    pub answer_rounds: Vec<u32>,
+    /// All answers, one after the other.
+    pub words: Vec<u32>,
+}
+
+pub const ROUND_LIMIT: u32 = 255;
+pub const SCRATCH_WORDS: usize = 16_384;
+/// More output words than these are not used.
+pub const OUTPUT_WORDS: usize = 268_435_455;
+
+// The bounds on one path.
+pub const VARIABLES: usize = 2_048;
+pub const GOALS: usize = 1_024;
+pub const DISJUNCTIONS: usize = 256;
+pub const CONSTRAINTS: usize = 512;
+/// Of waiting term pairs, and of waiting nodes.
+pub const WAITING: usize = 512;
+
+/// Runs a program with the limits given, and as many output and scratch words as are lent.
+pub fn run(
+    words: &[u32],
+    rounds: u32,
+    steps: u32,
+    output_len: usize,
+    scratch_len: usize,
+) -> Result<Outcome, Refusal> {
+    if rounds > ROUND_LIMIT || scratch_len < SCRATCH_WORDS {
+        return Err(Refusal {
+            number: 9,
+            place: 0,
+        });
+    }
+    let program = read(words)?;
+    let mut search = Search {
+        program: &program,
+        step_limit: steps,
+        room: output_len.min(OUTPUT_WORDS),
+        steps: 0,
+        answer_rounds: Vec::new(),
+        words: Vec::new(),
+    };
+    let mut round = 0;
+    let end = loop {
+        match search.round(round) {
+            Err(end) => break end,
+            Ok(Cut(false)) => break End::Finished,
+            Ok(Cut(true)) if round == rounds => break End::Rounds,
+            Ok(Cut(true)) => round += 1,
+        }
+    };
+    Ok(Outcome {
+        end,
+        round,
+        steps: search.steps,
+        answers: search.answer_rounds.len(),
+        answer_rounds: search.answer_rounds,
+        words: search.words,
+    })
+}
+
+/// Whether a round cut some branch.
+struct Cut(bool);
+
+/// A term on a path, not followed further. A pair's parts are terms of the program in the variables that begin at
+/// `base`.
+#[derive(Clone, Copy, Debug, PartialEq, Eq)]
+enum Value {
+    /// A variable of the path.
+    Variable(usize),
+    Symbol(u32),
+    Number(u32),
+    Empty,
+    Pair {
+        first: TermId,
+        second: TermId,
+        base: usize,
+    },
+}
+
+/// What each variable of a path is bound to.
+#[derive(Clone)]
+struct Substitution(Vec<Option<Value>>);
+
+impl Substitution {
+    /// The value with its bindings followed: an open variable, an atom or a pair.
+    fn walk(&self, mut value: Value) -> Value {
+        while let Value::Variable(variable) = value {
+            match self.0[variable] {
+                Some(bound) => value = bound,
+                None => break,
+            }
+        }
+        value
+    }
+
+    fn bind(&mut self, variable: usize, value: Value) {
+        assert_eq!(self.0[variable], None, "only open variables are bound");
+        self.0[variable] = Some(value);
+    }
+}
+
+/// A goal of the program in the variables that begin at `base`.
+#[derive(Clone, Copy)]
+struct Task {
+    goal: GoalId,
+    base: usize,
+}
+
+#[derive(Clone)]
+struct Path {
+    substitution: Substitution,
+    /// The first waiting goal is the last here.
+    waiting: Vec<Task>,
+    /// Goals put to wait so far, the query's own and taken ones included.
+    put: usize,
+    /// Constraints taken so far, in order.
+    constraints: Vec<Task>,
+    calls: u32,
+}
+
+impl Path {
+    /// Puts goals to wait ahead of all others, the first one first.
+    fn put(&mut self, goals: &[GoalId], base: usize) {
+        self.put += goals.len();
+        for &goal in goals.iter().rev() {
+            self.waiting.push(Task { goal, base });
+        }
+    }
+}
+
+/// A disjunction with alternatives left, and the path as it was when the disjunction had been taken.
+struct Choice {
+    path: Path,
+    alternatives: Vec<GoalId>,
+    base: usize,
+}
+
+/// How a path went on after a goal was taken.
+enum Taken {
+    Goes(Path),
+    Failed,
+    Cut,
+}
+
+/// Nodes still to be looked at: one next, and second parts waiting, the last of them first.
+struct Nodes {
+    next: Option<Value>,
+    waiting: Vec<Value>,
+}
+
+struct Search<'p> {
+    program: &'p Program,
+    step_limit: u32,
+    /// Output words that may be used.
+    room: usize,
+    steps: u32,
+    answer_rounds: Vec<u32>,
+    words: Vec<u32>,
+}
+
+impl Search<'_> {
+    /// One step, unless the limit is used up or the step would exceed the bound given.
+    fn step(&mut self, exceeds: Option<u32>) -> Result<(), End> {
+        if self.steps == self.step_limit {
+            return Err(End::Steps);
+        }
+        if let Some(bound) = exceeds {
+            return Err(End::Path(bound));
+        }
+        self.steps += 1;
+        Ok(())
+    }
+
+    fn value(&self, term: TermId, base: usize) -> Value {
+        match self.program[term] {
+            Term::Variable(number) => Value::Variable(base + number),
+            Term::Symbol(payload) => Value::Symbol(payload),
+            Term::Number(payload) => Value::Number(payload),
+            Term::Empty => Value::Empty,
+            Term::Pair(first, second) => Value::Pair {
+                first,
+                second,
+                base,
+            },
+        }
+    }
+
+    /// All paths of a round, depth first, alternatives left to right.
+    fn round(&mut self, round: u32) -> Result<Cut, End> {
+        let query = &self.program.relations[0];
+        let mut path = Path {
+            substitution: Substitution(vec![None; query.variables]),
+            waiting: Vec::new(),
+            put: 0,
+            constraints: Vec::new(),
+            calls: 0,
+        };
+        path.put(&[query.goal], 0);
+        let mut choices: Vec<Choice> = Vec::new();
+        let mut cut = Cut(false);
+        loop {
+            // To the end of this path ...
+            loop {
+                let Some(task) = path.waiting.pop() else {
+                    if path.calls == round {
+                        self.answer(&path, round)?;
+                    }
+                    break;
+                };
+                match self.take(task, path, round, &mut choices)? {
+                    Taken::Goes(on) => path = on,
+                    Taken::Failed => break,
+                    Taken::Cut => {
+                        cut = Cut(true);
+                        break;
+                    }
+                }
+            }
+            // ... and on with the next alternative of the latest disjunction that has one left.
+            let Some(mut choice) = choices.pop() else {
+                return Ok(cut);
+            };
+            let alternative = choice.alternatives.remove(0);
+            path = choice.path.clone();
+            path.put(&[alternative], choice.base);
+            if !choice.alternatives.is_empty() {
+                choices.push(choice);
+            }
+        }
+    }
+
+    /// Takes a goal, which was the first waiting.
+    fn take(
+        &mut self,
+        task: Task,
+        mut path: Path,
+        round: u32,
+        choices: &mut Vec<Choice>,
+    ) -> Result<Taken, End> {
+        let base = task.base;
+        match &self.program[task.goal] {
+            Goal::Equal(left, right) => {
+                self.step(None)?;
+                let (left, right) = (self.value(*left, base), self.value(*right, base));
+                match self.unify(&mut path.substitution, left, right)? {
+                    None => return Ok(Taken::Failed),
+                    Some(bound) if bound.is_empty() => (),
+                    Some(_) => {
+                        for &constraint in &path.constraints {
+                            if !self.review(constraint, &path)? {
+                                return Ok(Taken::Failed);
+                            }
+                        }
+                    }
+                }
+            }
+            Goal::Differ(..) | Goal::Symbolo(_) | Goal::Numbero(_) | Goal::Absento(..) => {
+                self.step((path.constraints.len() == CONSTRAINTS).then_some(4))?;
+                path.constraints.push(task);
+                if !self.review(task, &path)? {
+                    return Ok(Taken::Failed);
+                }
+            }
+            Goal::Conjunction(goals) => {
+                self.step((path.put + goals.len() > GOALS).then_some(2))?;
+                path.put(goals, base);
+            }
+            Goal::Disjunction(goals) => {
+                let too_many_put = (path.put + 1 > GOALS).then_some(2);
+                let more = goals.len() > 1;
+                let too_many_left = (more && choices.len() == DISJUNCTIONS).then_some(3);
+                self.step(too_many_put.or(too_many_left))?;
+                if more {
+                    choices.push(Choice {
+                        path: path.clone(),
+                        alternatives: goals[1..].to_vec(),
+                        base,
+                    });
+                }
+                path.put(&goals[..1], base);
+            }
+            Goal::Call(_, _) if path.calls == round => {
+                self.step(None)?;
+                return Ok(Taken::Cut);
+            }
+            Goal::Call(number, arguments) => {
+                let called = &self.program.relations[*number];
+                let made = path.substitution.0.len();
+                let too_many_made = (made + called.variables > VARIABLES).then_some(1);
+                let too_many_put = (path.put + 1 > GOALS).then_some(2);
+                self.step(too_many_made.or(too_many_put))?;
+                path.calls += 1;
+                path.substitution.0.resize(made + called.variables, None);
+                for (parameter, &argument) in arguments.iter().enumerate() {
+                    let argument = self.value(argument, base);
+                    path.substitution.bind(made + parameter, argument);
+                }
+                path.put(&[called.goal], made);
+            }
+        }
+        Ok(Taken::Goes(path))
+    }
+
+    /// Makes both sides equal and tells which variables were bound, in order; none if that fails.
+    fn unify(
+        &mut self,
+        substitution: &mut Substitution,
+        left: Value,
+        right: Value,
+    ) -> Result<Option<Vec<usize>>, End> {
+        let mut bound = Vec::new();
+        let mut next = Some((left, right));
+        let mut waiting: Vec<(Value, Value)> = Vec::new();
+        while let Some((left, right)) = next.take().or_else(|| waiting.pop()) {
+            let (left, right) = (substitution.walk(left), substitution.walk(right));
+            if let (
+                Value::Pair {
+                    first: left_first,
+                    second: left_second,
+                    base: left_base,
+                },
+                Value::Pair {
+                    first: right_first,
+                    second: right_second,
+                    base: right_base,
+                },
+            ) = (left, right)
+            {
+                self.step((waiting.len() == WAITING).then_some(5))?;
+                waiting.push((
+                    self.value(left_second, left_base),
+                    self.value(right_second, right_base),
+                ));
+                next = Some((
+                    self.value(left_first, left_base),
+                    self.value(right_first, right_base),
+                ));
+                continue;
+            }
+            self.step(None)?;
+            let (variable, other) = match (left, right) {
+                // The same variable, or atoms of the same kind and payload.
+                _ if left == right => continue,
+                (Value::Variable(variable), _) => (variable, right),
+                (_, Value::Variable(variable)) => (variable, left),
+                _ => return Ok(None),
+            };
+            if self.occurs(variable, other, substitution)? {
+                return Ok(None);
+            }
+            substitution.bind(variable, other);
+            bound.push(variable);
+        }
+        Ok(Some(bound))
+    }
+
+    fn occurs(
+        &mut self,
+        variable: usize,
+        value: Value,
+        substitution: &Substitution,
+    ) -> Result<bool, End> {
+        let mut nodes = Nodes::of(value);
+        while let Some(node) = self.look(&mut nodes, substitution)? {
+            if node == Value::Variable(variable) {
+                return Ok(true);
+            }
+        }
+        Ok(false)
+    }
+
+    /// Looks at the next node, if there is one more.
+    fn look(
+        &mut self,
+        nodes: &mut Nodes,
+        substitution: &Substitution,
+    ) -> Result<Option<Value>, End> {
+        let Some(value) = nodes.next.take().or_else(|| nodes.waiting.pop()) else {
+            return Ok(None);
+        };
+        let node = substitution.walk(value);
+        if let Value::Pair {
+            first,
+            second,
+            base,
+        } = node
+        {
+            self.step((nodes.waiting.len() == WAITING).then_some(5))?;
+            nodes.waiting.push(self.value(second, base));
+            nodes.next = Some(self.value(first, base));
+        } else {
+            self.step(None)?;
+        }
+        Ok(Some(node))
+    }
+
+    fn all_nodes(&mut self, value: Value, substitution: &Substitution) -> Result<Vec<Value>, End> {
+        let mut nodes = Nodes::of(value);
+        let mut all = Vec::new();
+        while let Some(node) = self.look(&mut nodes, substitution)? {
+            all.push(node);
+        }
+        Ok(all)
+    }
+
+    /// Whether a constraint of the path still may hold.
+    fn review(&mut self, constraint: Task, path: &Path) -> Result<bool, End> {
+        self.step(None)?;
+        let base = constraint.base;
+        match self.program[constraint.goal] {
+            Goal::Symbolo(term) => Ok(match path.substitution.walk(self.value(term, base)) {
+                Value::Symbol(_) => true,
+                Value::Variable(variable) => !self.reached_by_numbero(variable, path),
+                _ => false,
+            }),
+            Goal::Numbero(term) => Ok(match path.substitution.walk(self.value(term, base)) {
+                Value::Number(_) => true,
+                Value::Variable(variable) => !self.reached_by_symbolo(variable, path),
+                _ => false,
+            }),
+            Goal::Absento(tag, term) => {
+                let mut nodes = Nodes::of(self.value(term, base));
+                while let Some(node) = self.look(&mut nodes, &path.substitution)? {
+                    if node == Value::Symbol(tag) {
+                        return Ok(false);
+                    }
+                }
+                Ok(true)
+            }
+            Goal::Differ(left, right) => {
+                let (left, right) = (self.value(left, base), self.value(right, base));
+                let mut trial = path.substitution.clone();
+                let bound = self.unify(&mut trial, left, right)?;
+                Ok(bound.is_none_or(|bound| !bound.is_empty()))
+            }
+            _ => unreachable!("no constraint"),
+        }
+    }
+
+    fn reached_by_symbolo(&self, variable: usize, path: &Path) -> bool {
+        path.constraints
+            .iter()
+            .any(|other| match self.program[other.goal] {
+                Goal::Symbolo(term) => {
+                    path.substitution.walk(self.value(term, other.base))
+                        == Value::Variable(variable)
+                }
+                _ => false,
+            })
+    }
+
+    fn reached_by_numbero(&self, variable: usize, path: &Path) -> bool {
+        path.constraints
+            .iter()
+            .any(|other| match self.program[other.goal] {
+                Goal::Numbero(term) => {
+                    path.substitution.walk(self.value(term, other.base))
+                        == Value::Variable(variable)
+                }
+                _ => false,
+            })
+    }
+
+    /// Writes the answer of a path that has no goal waiting.
+    fn answer(&mut self, path: &Path, round: u32) -> Result<(), End> {
+        let mut names = Names(vec![None; path.substitution.0.len()], 0);
+        let mut inside: Vec<u32> = Vec::new();
+        for parameter in 0..self.program.relations[0].parameters {
+            let nodes = self.all_nodes(Value::Variable(parameter), &path.substitution)?;
+            for &node in &nodes {
+                names.give(node);
+            }
+            let words = names.words(&nodes).expect("all have names");
+            inside.extend(words);
+        }
+        let mut lines: Vec<Vec<u32>> = Vec::new();
+        for &constraint in &path.constraints {
+            for line in self.lines(constraint, path, &names)? {
+                if !lines.contains(&line) {
+                    lines.push(line);
+                }
+            }
+        }
+        inside.extend(lines.concat());
+        if 1 + inside.len() > self.room - self.words.len() {
+            return Err(End::Output);
+        }
+        self.words.push(word(ANSWER, inside.len() as u32));
+        self.words.extend(inside);
+        self.answer_rounds.push(round);
+        Ok(())
+    }
+
+    /// What an answer says of a constraint, without what holds already and what mentions a variable with no name.
+    fn lines(
+        &mut self,
+        constraint: Task,
+        path: &Path,
+        names: &Names,
+    ) -> Result<Vec<Vec<u32>>, End> {
+        let base = constraint.base;
+        match self.program[constraint.goal] {
+            Goal::Symbolo(term) | Goal::Numbero(term) => {
+                self.step(None)?;
+                let kind = match self.program[constraint.goal] {
+                    Goal::Symbolo(_) => SYMBOLO,
+                    _ => NUMBERO,
+                };
+                let node = path.substitution.walk(self.value(term, base));
+                Ok(match (node, names.words(&[node])) {
+                    (Value::Variable(_), Some(variable)) => vec![part(kind, &[variable])],
+                    _ => vec![],
+                })
+            }
+            Goal::Absento(tag, term) => {
+                let nodes = self.all_nodes(self.value(term, base), &path.substitution)?;
+                let mut seen: Vec<Value> = Vec::new();
+                let mut lines = Vec::new();
+                for node in nodes {
+                    if !matches!(node, Value::Variable(_)) || seen.contains(&node) {
+                        continue;
+                    }
+                    seen.push(node);
+                    if let Some(variable) = names.words(&[node]) {
+                        lines.push(part(ABSENTO, &[vec![word(SYMBOL, tag)], variable]));
+                    }
+                }
+                Ok(lines)
+            }
+            Goal::Differ(left, right) => {
+                let (left, right) = (self.value(left, base), self.value(right, base));
+                let mut trial = path.substitution.clone();
+                let Some(bound) = self.unify(&mut trial, left, right)? else {
+                    return Ok(vec![]);
+                };
+                // All right sides are looked at, also if an earlier one has made the constraint irrelevant.
+                let mut differs: Vec<Option<Vec<u32>>> = Vec::new();
+                for variable in bound {
+                    let right = trial.0[variable].expect("the trial bound it");
+                    let right = self.all_nodes(right, &path.substitution)?;
+                    let left = names.words(&[Value::Variable(variable)]);
+                    let right = names.words(&right);
+                    differs.push(match (left, right) {
+                        (Some(left), Some(right)) => Some(part(DIFFER, &[left, right])),
+                        _ => None,
+                    });
+                }
+                let differs: Option<Vec<Vec<u32>>> = differs.into_iter().collect();
+                Ok(match differs {
+                    None => vec![],
+                    Some(differs) if differs.len() == 1 => differs,
+                    Some(differs) => vec![part(DISJUNCTION, &differs)],
+                })
+            }
+            _ => unreachable!("no constraint"),
+        }
+    }
+}
+
+impl Nodes {
+    fn of(value: Value) -> Nodes {
+        Nodes {
+            next: Some(value),
+            waiting: Vec::new(),
+        }
+    }
+}
+
+/// The numbers that an answer gives to open variables, and how many there are.
+struct Names(Vec<Option<u32>>, u32);
+
+impl Names {
+    /// A number for an open variable that has none.
+    fn give(&mut self, node: Value) {
+        if let Value::Variable(variable) = node {
+            if self.0[variable].is_none() {
+                self.0[variable] = Some(self.1);
+                self.1 += 1;
+            }
+        }
+    }
+
+    /// The words of the term with these nodes, unless it holds a variable with no name.
+    fn words(&self, nodes: &[Value]) -> Option<Vec<u32>> {
+        // From the last node to the first, each pair finds the sizes of its two parts on the stack.
+        let mut first_sizes = vec![0; nodes.len()];
+        let mut sizes: Vec<u32> = Vec::new();
+        for (at, node) in nodes.iter().enumerate().rev() {
+            let mut size = 1;
+            if let Value::Pair { .. } = node {
+                first_sizes[at] = sizes.pop().expect("a first part");
+                size += first_sizes[at] + sizes.pop().expect("a second part");
+            }
+            sizes.push(size);
+        }
+        let mut words = Vec::new();
+        for (node, first_size) in nodes.iter().zip(first_sizes) {
+            words.push(match *node {
+                Value::Variable(variable) => word(VARIABLE, self.0[variable]?),
+                Value::Symbol(payload) => word(SYMBOL, payload),
+                Value::Number(payload) => word(NUMBER, payload),
+                Value::Empty => word(EMPTY, 0),
+                Value::Pair { .. } => word(PAIR, first_size),
+            });
+        }
+        Some(words)
+    }
+}
+
+fn part(kind: u32, parts: &[Vec<u32>]) -> Vec<u32> {
+    let inside = parts.concat();
+    let mut words = vec![word(kind, inside.len() as u32)];
+    words.extend(inside);
+    words
+}

@@ -1,0 +1,44 @@
+//! The rule files under examples/ and what they answer.
+
+use reference::run::SCRATCH_WORDS;
+use reference::table;
+use reference::word::show;
+use reference::{run, End};
+use std::fs;
+use std::path::Path;
+
+/// File, round of the end, rounds of the answers, answers.
+const EXAMPLES: [(&str, u32, &[u32], &str); 3] = [
+    ("abo.kp", 8, &[4, 6], "15:1 1:1 15:1 1:2"),
+    (
+        "open-typing.kp",
+        0,
+        &[0],
+        "15:13 4:1 1:24 4:1 0:0 3:0 9:2 1:2 0:0 6:2 0:0 1:107 7:1 0:0",
+    ),
+    ("unacceptable.kp", 1, &[1, 1], "15:1 2:2 15:1 2:4"),
+];
+
+#[test]
+fn examples_give_their_answers() {
+    let folder = Path::new(env!("CARGO_MANIFEST_DIR")).join("../../examples");
+    let mut files: Vec<String> = fs::read_dir(&folder)
+        .expect("examples/ at the repository's root")
+        .map(|entry| entry.unwrap().file_name().into_string().unwrap())
+        .filter(|name| name.ends_with(".kp"))
+        .collect();
+    files.sort();
+    assert_eq!(files, EXAMPLES.map(|(file, ..)| file));
+    for (file, round, answer_rounds, answers) in EXAMPLES {
+        let words = table::words(&fs::read_to_string(folder.join(file)).unwrap());
+        let outcome = run(&words, 16, 1_000_000, 4_096, SCRATCH_WORDS)
+            .unwrap_or_else(|refusal| panic!("{file}: {refusal:?}"));
+        assert_eq!(show(&outcome.words), answers, "{file}");
+        assert_eq!(outcome.answer_rounds, answer_rounds, "{file}");
+        assert_eq!(
+            (outcome.end, outcome.round),
+            (End::Finished, round),
+            "{file}"
+        );
+    }
+}

@@ -1,0 +1,84 @@
+//! What must hold between runs of the same random program with different limits.
+
+use reference::gen::{self, Rng};
+use reference::run::SCRATCH_WORDS;
+use reference::word::show;
+use reference::{read, run, written, End, Outcome};
+
+const STEPS: u32 = 1_500;
+const OUTPUT: usize = 4_000;
+
+fn run_with(words: &[u32], rounds: u32, steps: u32, output: usize) -> Outcome {
+    run(words, rounds, steps, output, SCRATCH_WORDS).unwrap()
+}
+
+#[test]
+fn accepted_programs_are_written_as_they_were() {
+    let mut rng = Rng::new(1);
+    for _ in 0..3_000 {
+        let words = gen::accepted(&mut rng);
+        let program =
+            read(&words).unwrap_or_else(|refusal| panic!("{refusal:?}: {}", show(&words)));
+        assert!(written(&program) == words, "{}", show(&words));
+        let damaged = gen::damaged(&mut rng);
+        if let Ok(program) = read(&damaged) {
+            assert!(written(&program) == damaged, "{}", show(&damaged));
+        }
+    }
+}
+
+#[test]
+fn limits_break_off_where_they_must() {
+    let mut rng = Rng::new(2);
+    for at in 0..6_000 {
+        let words = match at % 4 {
+            0 => gen::constrained(&mut rng),
+            _ => gen::program(&mut rng),
+        };
+        let rounds = rng.below(5) as u32;
+        let full = run_with(&words, rounds, STEPS, OUTPUT);
+        let text = show(&words);
+
+        // As many steps as were taken are enough, unless something else broke the run off: steps are tested first.
+        let exact = run_with(&words, rounds, full.steps, OUTPUT);
+        match full.end {
+            End::Path(_) => assert_eq!(exact.end, End::Steps, "{text}"),
+            _ => assert_eq!(exact, full, "{text}"),
+        }
+        if full.steps > 0 {
+            let limit = match at % 2 {
+                0 => full.steps - 1,
+                _ => rng.below(full.steps as usize) as u32,
+            };
+            let short = run_with(&words, rounds, limit, OUTPUT);
+            assert_eq!((short.end, short.steps), (End::Steps, limit), "{text}");
+            assert!(short.round <= full.round, "{text}");
+            assert!(full.words.starts_with(&short.words), "{text}");
+        }
+
+        // Output just long enough, and one word short.
+        let used = full.words.len();
+        if full.end != End::Output {
+            assert_eq!(run_with(&words, rounds, STEPS, used), full, "{text}");
+        }
+        if used > 0 {
+            let short = run_with(&words, rounds, STEPS, used - 1);
+            assert_eq!(short.end, End::Output, "{text}");
+            assert_eq!(short.answers, full.answers - 1, "{text}");
+            assert!(full.words.starts_with(&short.words), "{text}");
+        }
+
+        // A lower round limit gives the answers of its rounds.
+        if rounds > 0 {
+            let fewer = run_with(&words, rounds - 1, STEPS, OUTPUT);
+            assert!(
+                full.answer_rounds.starts_with(&fewer.answer_rounds),
+                "{text}"
+            );
+            assert!(full.words.starts_with(&fewer.words), "{text}");
+            if fewer.end != End::Rounds {
+                assert_eq!(fewer, full, "{text}");
+            }
+        }
+    }
+}

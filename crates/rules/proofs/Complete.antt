@@ -14,11 +14,11 @@ use Rattle.rules.specs.WellFormed.{TermGood, TermsGood, ConstraintGood, 
 use Rattle.rules.specs.Inner.{Stands}
 use Rattle.rules.proofs.Stands.{stands-split, term-some, goal-some, goals-some, kind-of, payload-of}
 
--- what enclosing parts are: at most a program
+-- where a part is read: deep enough, with variables and places below 2^28, and not past its end
 pub record Room (words vars at end n : ℕ) : Type 0 where
   pub deep : end - at < words
-  pub few : vars ≤ 255
-  pub short : end ≤ 16384
+  pub few : vars ≤ 268435456
+  pub short : end ≤ 268435456
   pub fits : at + n ≤ end
 
 leaf-word : (words : ℕ) (ws : List ℕ) (vars at end k p : ℕ) → getD ws at 0 ≡ word k p → p < 268435456 → k < 4 → at < end
@@ -106,7 +106,7 @@ unfolding read-word
 word-complete k ws at end p e l r =
     simp (lt-ltb at end r, eq-eqb (kind-at ws at) k (kind-of ws at k p e l), payload-of ws at k p e l)
 
-goal-word : (words : ℕ) (ws : List ℕ) (vars at end k n : ℕ) → getD ws at 0 ≡ word k n → 5 ≤ k → k ≤ 12 → at + 1 + n ≤ end → end ≤ 16384
+goal-word : (words : ℕ) (ws : List ℕ) (vars at end k n : ℕ) → getD ws at 0 ≡ word k n → 5 ≤ k → k ≤ 12 → at + 1 + n ≤ end → end ≤ 268435456
     → read-goal (suc words) ws vars at end ≡ goal-parts words ws vars k (at + 1) (at + 1 + n) (λ a e. read-goals words ws vars a e)
 unfolding read-goal
 goal-word words ws vars at end k n e l u r s =
@@ -116,7 +116,7 @@ goal-word words ws vars at end k n e l u r s =
 
 -- a goal that holds a sequence, from the reading of the sequence
 nested : (words : ℕ) (ws : List ℕ) (vars at end k : ℕ) (gs : Goals) → getD ws at 0 ≡ word k (length (goals-words gs)) → 10 ≤ k → k ≤ 11
-    → at + 1 + length (goals-words gs) ≤ end → end ≤ 16384
+    → at + 1 + length (goals-words gs) ≤ end → end ≤ 268435456
     → read-goals words ws vars (at + 1) (at + 1 + length (goals-words gs)) ≡ found gs (at + 1 + length (goals-words gs))
     → read-goal (suc words) ws vars at end ≡ found (of-goals (eqb k 10) gs) (at + 1 + length (goals-words gs))
 nested words ws vars at end k gs e l u r s f =
@@ -129,8 +129,8 @@ ends-at at n = omega arith
 
 pub record GoalRoom (words vars at end n : ℕ) : Type 0 where
   pub deep : 2 * (end - at) + 1 < words
-  pub few : vars ≤ 255
-  pub short : end ≤ 16384
+  pub few : vars ≤ 268435456
+  pub short : end ≤ 268435456
   pub fits : at + n ≤ end
 
 -- the room of what follows a goal's word
@@ -236,10 +236,15 @@ goals-both (suc words) ws vars =
     let ih = goals-both words ws vars in
     (goal-now words ws vars (ih .1), goals-now words ws vars (ih .0) (ih .1))
 
+pub goal-complete : (words : ℕ) (ws : List ℕ) (vars at end : ℕ) (g : Goal) → GoalGood vars g → Stands ws at (goal-words g) → GoalRoom words vars at end (length (goal-words g))
+    → read-goal words ws vars at end ≡ found g (at + length (goal-words g))
+unfolding ReadsGoal
+goal-complete words ws vars = goals-both words ws vars .0
+
 pub relation-complete : (words : ℕ) (ws : List ℕ) (before at : ℕ) (R : Relation) → RelationGood R → Stands ws at (relation-words R) → before < 256
     → at + length (relation-words R) ≤ length ws → length ws ≤ 16384 → 2 * (length ws - at) < words
     → read-relation words ws before at ≡ found R (at + length (relation-words R))
-unfolding read-relation read-variables read-body Stands ReadsGoal
+unfolding read-relation read-variables read-body Stands
 relation-complete words ws before at R g h b l s d =
     let m : ℕ = length (goal-words (R .body)) in
     let n : ℕ = suc (suc m) in
@@ -251,8 +256,8 @@ relation-complete words ws before at R g h b l s d =
     let p : read-word 2 ws (at + 1) (at + 1 + n) ≡ found (R .params) (at + 1 + 1) = word-complete 2 ws (at + 1) (at + 1 + n) (R .params) (h .1 .0) pv (omega arith) in
     let v : read-word 2 ws (at + 1 + 1) (at + 1 + n) ≡ found (R .vars) (at + 1 + 1 + 1) = word-complete 2 ws (at + 1 + 1) (at + 1 + n) (R .vars) (h .1 .1 .0) vv (omega arith) in
     let q : read-goal words ws (R .vars) (at + 1 + 1 + 1) (at + 1 + n) ≡ found (R .body) (at + 1 + 1 + 1 + m) =
-    goals-both words ws (R .vars) .0 (at + 1 + 1 + 1) (at + 1 + n) (R .body) (g .body-good) (h .1 .1 .1)
-    (record { deep = omega arith; few = g .vars-bound; short = omega arith; fits = omega arith }) in
+    goal-complete words ws (R .vars) (at + 1 + 1 + 1) (at + 1 + n) (R .body) (g .body-good) (h .1 .1 .1)
+    (record { deep = omega arith; few = omega (arith, g .vars-bound); short = omega arith; fits = omega arith }) in
     let z : at + 1 + 1 + 1 + m ≡ at + suc n = omega arith in
     simp (
       x,

@@ -1,7 +1,7 @@
-//! Programs with limits, on and around the places where a run's end changes, and the reference's result as text.
+//! Programs with limits, on and around the places where a run's end changes.
 
 use crate::gen::{self, pair, part, relation, Rng};
-use crate::run::{run, End, Outcome, ROUND_LIMIT, SCRATCH_WORDS};
+use crate::run::{run, Outcome, ROUND_LIMIT, SCRATCH_WORDS};
 use crate::table;
 use crate::word::*;
 
@@ -14,45 +14,7 @@ pub struct Case {
     pub scratch: usize,
 }
 
-/// The number that stands for an end in a case's line.
-pub fn end_number(end: End) -> u32 {
-    match end {
-        End::Finished => 0,
-        End::Rounds => 1,
-        End::Steps => 2,
-        End::Output => 3,
-        End::Path(bound) => 10 + bound,
-    }
-}
-
 impl Case {
-    /// `program | rounds steps output scratch | end round steps answers | words`, all decimal, words as numbers; for a
-    /// refusal `refused N P` and no words. No words at all leave their column empty.
-    pub fn line(&self) -> String {
-        let limits = format!(
-            "{} {} {} {}",
-            self.rounds, self.steps, self.output, self.scratch
-        );
-        let (result, words) = match self.run() {
-            Err(refusal) => (
-                format!("refused {} {}", refusal.number, refusal.place),
-                String::new(),
-            ),
-            Ok(outcome) => (
-                format!(
-                    "{} {} {} {}",
-                    end_number(outcome.end),
-                    outcome.round,
-                    outcome.steps,
-                    outcome.answers
-                ),
-                decimal(&outcome.words),
-            ),
-        };
-        let line = format!("{} | {limits} | {result} | {words}", decimal(&self.words));
-        line.trim().to_string()
-    }
-
     pub fn run(&self) -> Result<Outcome, crate::Refusal> {
         run(
             &self.words,
@@ -62,11 +24,6 @@ impl Case {
             self.scratch,
         )
     }
-}
-
-fn decimal(words: &[u32]) -> String {
-    let words: Vec<String> = words.iter().map(u32::to_string).collect();
-    words.join(" ")
 }
 
 /// Small random programs are at most this long.

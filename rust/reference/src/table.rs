@@ -1,8 +1,10 @@
 //! Tables of programs in text: `k:p` words, `k:p*N` and `(...)*N` for repetition, `#` for comments.
 //! For files of this repository only, so a fault in one is a panic.
 
+use crate::cases::Case;
 use crate::read::Refusal;
-use crate::word::word;
+use crate::run::{End, Outcome};
+use crate::word::{show, word};
 
 /// A line of the table of refusals.
 pub struct Row {
@@ -18,6 +20,82 @@ pub fn refusals() -> Vec<Row> {
         .enumerate()
         .filter(|(_, line)| !without_comment(line).is_empty())
         .map(|(at, line)| row(at + 1, without_comment(line)))
+        .collect()
+}
+
+/// A program on which a reading of docs/DECISIONS.md shows, and what it says of the run.
+pub struct Decision {
+    pub number: u32,
+    pub case: Case,
+    /// What is said, `end`, `round`, `steps` or `words`, with the value.
+    pub expected: Vec<(String, String)>,
+}
+
+impl Decision {
+    /// The value of what is said, in an outcome.
+    pub fn found(&self, what: &str, outcome: &Outcome) -> String {
+        match what {
+            "end" => match outcome.end {
+                End::Finished => "finished".to_string(),
+                End::Rounds => "rounds".to_string(),
+                End::Steps => "steps".to_string(),
+                End::Output => "output".to_string(),
+                End::Path(bound) => format!("path {bound}"),
+            },
+            "round" => outcome.round.to_string(),
+            "steps" => outcome.steps.to_string(),
+            "words" => show(&outcome.words),
+            _ => panic!("reading {}: {what}", self.number),
+        }
+    }
+}
+
+/// The readings' programs, worked out by hand.
+pub fn decisions() -> Vec<Decision> {
+    let lines = include_str!("../tests/decisions.txt")
+        .lines()
+        .map(without_comment);
+    lines
+        .filter(|line| !line.is_empty())
+        .map(decision)
+        .collect()
+}
+
+fn decision(line: &str) -> Decision {
+    let (label, rest) = line.split_once(": ").expect("a line without a number");
+    let (program, outcome) = rest.split_once("=>").expect("a line without =>");
+    let (program, limits) = program.split_once(';').unwrap_or((program, ""));
+    let mut case = Case {
+        words: words(program),
+        rounds: 16,
+        steps: 1_000_000,
+        output: 4_096,
+        scratch: 16_384,
+    };
+    for (what, value) in items(limits) {
+        match &what[..] {
+            "rounds" => case.rounds = number(&value),
+            "steps" => case.steps = number(&value),
+            "output" => case.output = number(&value) as usize,
+            _ => panic!("reading {label}: {what}"),
+        }
+    }
+    Decision {
+        number: number(label),
+        case,
+        expected: items(outcome),
+    }
+}
+
+/// `what value, what value`
+fn items(text: &str) -> Vec<(String, String)> {
+    let items = text
+        .split(',')
+        .map(str::trim)
+        .filter(|item| !item.is_empty());
+    items
+        .map(|item| item.split_once(' ').unwrap_or((item, "")))
+        .map(|(what, value)| (what.to_string(), value.to_string()))
         .collect()
 }
 

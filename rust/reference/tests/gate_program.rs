@@ -44,9 +44,10 @@ fn input_and_output_are_those_of_the_table() {
         }
         match &row.expected {
             Ok(()) => output.push_str("accepted\n"),
-            Err(refusal) => {
-                output.push_str(&format!("refused {} at {}\n", refusal.number, refusal.place))
-            }
+            Err(refusal) => output.push_str(&format!(
+                "refused {} at {}\n",
+                refusal.number, refusal.place
+            )),
         }
     }
     assert!(input.len() <= 4 * 65_536);

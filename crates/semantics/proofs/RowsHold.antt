@@ -1,0 +1,39 @@
+-- The starred runs: one computed test of all rows, and what it says of every lent output and scratch.
+use Prim.Native.Nat.{ℕ, _≤_}
+use mathlib.Core.Path.{_≡_, refl, ap}
+use mathlib.Core.List.{List, [], _∷_, map}
+use lib.ListN.{length}
+use Rattle.semantics.specs.Shows.{Each}
+use Rattle.semantics.proofs.Basics.{each-map}
+use borrow.Author.Tests.{le-leb}
+use Rattle.rules.specs.Reading.{read-word, read-leaf, read-term, read-one, read-two, read-terms, read-absento, read-call, read-goal, read-goals, read-body, read-variables, read-relation, read-relations}
+use Rattle.rules.specs.Written.{term-words, terms-words, goal-words, goals-words}
+use Rattle.rules.specs.Calls.{goal-fault, goals-fault, relations-fault}
+use Rattle.rules.specs.Accept.{read}
+use Rattle.semantics.specs.Run.{Report, ran, returns, leave, run}
+use Rattle.semantics.specs.Rows.{Row, rows}
+
+abbrev pub computed : Row → Report
+computed r = returns (r .words) (r .round-limit) (r .step-limit) (r .output) 16384
+
+-- the one computed test
+pub rows-hold : map computed rows ≡ map (λ r. ran (r .expected)) rows
+unfolding read read-word read-leaf read-term read-one read-two read-terms read-absento read-call read-goal read-goals read-body read-variables read-relation read-relations term-words terms-words goal-words goals-words goal-fault goals-fault relations-fault
+rows-hold = refl
+
+-- what a row says: a run with these settings, of any lent output of that length and any scratch that is long enough, leaves just this
+abbrev pub RowRuns : Row → Type 0
+RowRuns r = (output scratch : List ℕ) → length output ≡ r .output → 16384 ≤ length scratch → run (r .words) (r .round-limit) (r .step-limit) output scratch ≡ leave (ran (r .expected)) output scratch
+
+row-runs : (r : Row) → computed r ≡ ran (r .expected) → RowRuns r
+row-runs r h output scratch e l =
+    let q : returns (r .words) (r .round-limit) (r .step-limit) (length output) (length scratch) ≡ ran (r .expected) = rw (e, le-leb 16384 (length scratch) l) h in
+    ap (λ (x : Report). leave x output scratch) q
+
+same-all : {A B : Type 0} (f g : A → B) (xs : List A) → map f xs ≡ map g xs → Each (λ x. f x ≡ g x) xs
+same-all f g [] e = tt
+same-all f g (x ∷ xs) e = (cc, same-all f g xs (cc))
+
+-- the one law: every row
+pub rows-run : Each RowRuns rows
+rows-run = each-map row-runs rows (same-all computed (λ (r : Row). ran (r .expected)) rows rows-hold)

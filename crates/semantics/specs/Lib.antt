@@ -1,0 +1,12 @@
+pub mod Logic
+pub mod Substitution
+pub mod Steps
+pub mod Unify
+pub mod Review
+pub mod Path
+pub mod Answer
+pub mod Round
+pub mod Run
+pub mod Rows
+pub mod Shows
+pub mod Demand

@@ -1,0 +1,152 @@
+//! `rows N SEED FOLDER`: the programs of docs/DECISIONS.md and N random programs with limits, with the reference's results, as
+//! theorems over the definitions of crate semantics, in a crate `rows` below FOLDER. Each is proved by computing both sides, so a difference is an error at its row.
+
+use reference::cases::{case, Case};
+use reference::gen::Rng;
+use reference::run::{End, Outcome};
+use reference::table::decisions;
+use reference::Refusal;
+use std::collections::BTreeMap;
+use std::env;
+use std::fs;
+use std::io;
+use std::path::Path;
+use std::process::ExitCode;
+
+/// Rows in a file: the checker takes a file at a time.
+const ROWS: usize = 50;
+
+const HEADER: &str = "\
+use Prim.Native.Nat.{ℕ}
+use mathlib.Core.Path.{_≡_, refl}
+use mathlib.Core.List.{List, [], _∷_}
+use Rattle.rules.specs.Reading.{read-word, read-leaf, read-term, read-one, read-two, read-terms, read-absento, read-call, read-goal, read-goals, read-body, read-variables, read-relation, read-relations}
+use Rattle.rules.specs.Written.{term-words, terms-words, goal-words, goals-words}
+use Rattle.rules.specs.Calls.{goal-fault, goals-fault, relations-fault}
+use Rattle.rules.specs.Accept.{read}
+use Rattle.semantics.specs.Steps.{variables, goals, disjunctions, constraints, waiting}
+use Rattle.semantics.specs.Round.{finished, rounds-used, steps-used, output-full, path-limit}
+use Rattle.semantics.specs.Run.{refusal, ran, returns}
+";
+
+const UNFOLDING: &str = "unfolding read read-word read-leaf read-term read-one read-two read-terms read-absento read-call read-goal read-goals \
+read-body read-variables read-relation read-relations term-words terms-words goal-words goals-words goal-fault goals-fault relations-fault";
+
+fn main() -> ExitCode {
+    let arguments: Vec<String> = env::args().skip(1).collect();
+    let [count, seed, folder] = &arguments[..] else {
+        return usage();
+    };
+    let (Ok(count), Ok(seed)) = (count.parse(), seed.parse()) else {
+        return usage();
+    };
+    match write(count, seed, Path::new(folder)) {
+        Ok(()) => ExitCode::SUCCESS,
+        Err(error) => {
+            eprintln!("rows: {error}");
+            ExitCode::from(1)
+        }
+    }
+}
+
+fn usage() -> ExitCode {
+    eprintln!("usage: rows N SEED FOLDER");
+    ExitCode::from(2)
+}
+
+/// Writes the crate and prints how many rows end in which way.
+fn write(count: usize, seed: u64, folder: &Path) -> io::Result<()> {
+    let specs = folder.join("crates/rows/specs");
+    fs::create_dir_all(&specs)?;
+    fs::create_dir_all(folder.join("crates/rows/src"))?;
+    fs::write(
+        folder.join("crates/rows/src/lib.rt"),
+        "// No code: the rows are theorems.\n",
+    )?;
+    let mut rng = Rng::new(seed);
+    let fixed = decisions().into_iter().map(|decision| decision.case);
+    let cases: Vec<Case> = fixed.chain((0..count).map(|_| case(&mut rng))).collect();
+    let mut ends: BTreeMap<String, usize> = BTreeMap::new();
+    let mut modules = String::new();
+    for (file, chunk) in cases.chunks(ROWS).enumerate() {
+        let mut text = HEADER.to_string();
+        for (at, case) in chunk.iter().enumerate() {
+            let result = case.run();
+            *ends.entry(name(&result)).or_default() += 1;
+            text.push_str(&row(file * ROWS + at, case, &result));
+        }
+        fs::write(specs.join(format!("Rows{file}.antt")), text)?;
+        modules.push_str(&format!("pub mod Rows{file}\n"));
+    }
+    fs::write(specs.join("Lib.antt"), modules)?;
+    for (end, count) in ends {
+        println!("{count:6} {end}");
+    }
+    Ok(())
+}
+
+fn name(result: &Result<Outcome, Refusal>) -> String {
+    match result {
+        Err(refusal) => format!("refused by {}", refusal.number),
+        Ok(outcome) => end(outcome.end),
+    }
+}
+
+fn row(number: usize, case: &Case, result: &Result<Outcome, Refusal>) -> String {
+    let report = match result {
+        Err(refusal) => format!("refusal {} {}", refusal.number, refusal.place),
+        Ok(outcome) => format!(
+            "ran (record {{ end = {}; round = {}; steps = {}; answers = {} }})",
+            end(outcome.end),
+            outcome.round,
+            outcome.steps,
+            answers(outcome)
+        ),
+    };
+    format!(
+        "\nrow-{number} : returns ({}) {} {} {} {} ≡ {report}\n{UNFOLDING}\nrow-{number} = refl\n",
+        list(&case.words),
+        case.rounds,
+        case.steps,
+        case.output,
+        case.scratch
+    )
+}
+
+fn end(end: End) -> String {
+    let bounds = [
+        "variables",
+        "goals",
+        "disjunctions",
+        "constraints",
+        "waiting",
+    ];
+    match end {
+        End::Finished => "finished".to_string(),
+        End::Rounds => "rounds-used".to_string(),
+        End::Steps => "steps-used".to_string(),
+        End::Output => "output-full".to_string(),
+        End::Path(bound) => format!("path-limit {}", bounds[bound as usize - 1]),
+    }
+}
+
+/// The answers, each with its round; they follow one another in the words, and the first word of each counts the others.
+fn answers(outcome: &Outcome) -> String {
+    let mut rest = &outcome.words[..];
+    let mut text = String::new();
+    for round in &outcome.answer_rounds {
+        let (answer, later) = rest.split_at(1 + (rest[0] & 0x0fff_ffff) as usize);
+        text.push_str(&format!("({round}, {}) ∷ ", list(answer)));
+        rest = later;
+    }
+    assert!(rest.is_empty());
+    text + "[]"
+}
+
+fn list(words: &[u32]) -> String {
+    let mut text = String::new();
+    for word in words {
+        text.push_str(&format!("{word} ∷ "));
+    }
+    text + "[]"
+}

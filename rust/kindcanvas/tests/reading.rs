@@ -65,32 +65,6 @@ fn random_programs() {
     }
 }
 
-fn relation(goal: Vec<u32>) -> Vec<u32> {
-    gen::relation(0, 0, goal)
-}
-
-/// An equality inside `depth` goals, each holding the next alone.
-fn nested_goals(depth: u32, kinds: [u32; 2]) -> Vec<u32> {
-    let innermost = [word(5, 2), word(3, 0), word(3, 0)];
-    let around = (0..depth).map(|level| word(kinds[level as usize % 2], depth - level + 2));
-    relation(around.chain(innermost).collect())
-}
-
-/// Pairs nested in first parts.
-fn first_parts(depth: u32) -> Vec<u32> {
-    let mut goal = vec![word(7, 2 * depth + 1)];
-    goal.extend((0..depth).map(|level| word(4, 2 * (depth - level) - 1)));
-    goal.extend(vec![word(3, 0); depth as usize + 1]);
-    relation(goal)
-}
-
-fn list(length: usize) -> Vec<u32> {
-    let mut goal = vec![word(7, 2 * length as u32 + 1)];
-    goal.extend([word(4, 1), word(1, 7)].repeat(length));
-    goal.push(word(3, 0));
-    relation(goal)
-}
-
 /// `check` in a thread with half of the usual stack.
 fn check_in_4_mib(words: &[u32]) -> Result<(), Refusal> {
     let words = words.to_vec();
@@ -106,14 +80,14 @@ fn check_in_4_mib(words: &[u32]) -> Result<(), Refusal> {
 #[test]
 fn deep_programs_need_little_stack() {
     let programs = [
-        ("conjunctions", nested_goals(16_000, [10, 10])),
+        ("conjunctions", gen::nested_goals(16_000, [10, 10])),
         (
             "disjunctions and conjunctions",
-            nested_goals(16_000, [11, 10]),
+            gen::nested_goals(16_000, [11, 10]),
         ),
-        ("as many goals as fit", nested_goals(16_378, [10, 11])),
-        ("first parts", first_parts(8_000)),
-        ("a list", list(8_000)),
+        ("as many goals as fit", gen::nested_goals(16_378, [10, 11])),
+        ("first parts", gen::first_parts(8_000)),
+        ("a list", gen::list(8_000)),
     ];
     for (name, words) in programs {
         assert_eq!(check_in_4_mib(&words), Ok(()), "{name}");
@@ -123,7 +97,7 @@ fn deep_programs_need_little_stack() {
 #[test]
 fn the_whole_range_of_places() {
     // The last word of a full-length program can be the place, and the word count itself.
-    let mut words = nested_goals(16_378, [10, 10]);
+    let mut words = gen::nested_goals(16_378, [10, 10]);
     assert_eq!(words.len(), 16_384);
     words[16_383] = word(0, 0);
     assert_eq!(

@@ -59,6 +59,29 @@ pub fn relation(parameters: usize, variables: usize, goal: Vec<u32>) -> Vec<u32>
     part(RELATION, inside)
 }
 
+/// An equality inside `depth` goals of two kinds in turn, each holding the next alone.
+pub fn nested_goals(depth: u32, kinds: [u32; 2]) -> Vec<u32> {
+    let innermost = [word(5, 2), word(3, 0), word(3, 0)];
+    let around = (0..depth).map(|level| word(kinds[level as usize % 2], depth - level + 2));
+    relation(0, 0, around.chain(innermost).collect())
+}
+
+/// Pairs nested in first parts.
+pub fn first_parts(depth: u32) -> Vec<u32> {
+    let mut goal = vec![word(7, 2 * depth + 1)];
+    goal.extend((0..depth).map(|level| word(4, 2 * (depth - level) - 1)));
+    goal.extend(vec![word(3, 0); depth as usize + 1]);
+    relation(0, 0, goal)
+}
+
+/// A list of so many symbols.
+pub fn list(length: usize) -> Vec<u32> {
+    let mut goal = vec![word(7, 2 * length as u32 + 1)];
+    goal.extend([word(4, 1), word(1, 7)].repeat(length));
+    goal.push(word(3, 0));
+    relation(0, 0, goal)
+}
+
 /// A small well-formed program: several relations, recursion, all kinds of goals.
 pub fn program(rng: &mut Rng) -> Vec<u32> {
     let count = rng.pick(&[1, 1, 2, 2, 3, 3, 4]);

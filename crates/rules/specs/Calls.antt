@@ -27,7 +27,7 @@ abbrev pub call-fault : Option Relation → ℕ → ℕ → Fault
 call-fault none args at = fault 7 at
 call-fault (some R) args at = counted (eqb args (R .params)) at
 
--- the first fault of the calls in a goal that is written from `at` on
+-- The first fault of the calls in a goal that is written from `at` on. Places are counted in the written form, which is what was read (proofs, `structure-written`).
 unfoldable mutual
   pub goal-fault : Goal → Program → ℕ → Fault
   goal-fault (equal s t) P at = sound

@@ -1,6 +1,8 @@
 -- Reading a program's words, after document 01, "Turning a program away": conditions 1 to 6, the first fault met from word 0 up.
 -- Places are word numbers. A part is read between `at` and `end`, the end of what encloses it.
--- A reader's first number, `words`, bounds how deep it goes: twice the words of the program is always enough.
+-- A reader's first number, `words`, bounds how deep it goes: each word goes through two readers at most, so `read-structure` gives twice the words and a few more.
+-- It is never used up: a reader's clause for 0 is never met (proofs, `written-is-read`: every written form is read).
+-- A reader is written as its cases (`term-step`, ..), which take the reader itself as an argument, and then the reader.
 use Prim.Native.Nat.{ℕ, zero, suc, _+_, _-_, _*_}
 use mathlib.Core.Bool.{Bool, true, false, _&&_}
 use mathlib.Core.List.{List, [], _∷_}
@@ -24,6 +26,7 @@ abbrev pub require : {A : Type 0} → Bool → ℕ → ℕ → (Unit {0} → Rea
 require true c p k = k tt
 require false c p k = refuse c p
 
+-- x if the test holds, else y; both are functions, so that only one is computed
 abbrev pub choose : {A : Type 0} → Bool → (Unit {0} → A) → (Unit {0} → A) → A
 choose true x y = x tt
 choose false x y = y tt

@@ -1,4 +1,4 @@
--- What `check` answers, in document 01's numbers.
+-- What `check` answers, in document 01's numbers. `Condition` and `Verdict` are the enums of src/lib.rt; condition 9 is about settings, which `check` is not given.
 use Prim.Native.Nat.{ℕ, _+_, _*_}
 use Rattle.rules.specs.Accept.{Accept, accepted, refused}
 use Rattle.rules.specs.declared.Condition.{Condition}

@@ -1,4 +1,4 @@
--- The programs that have a written form which is accepted: document 01, "Words", "Bounds" and the conditions of "Turning a program away", over the syntax.
+-- The programs whose written form is accepted, if it has 1 to 16,384 words: document 01, "Words", "Bounds" and the conditions of "Turning a program away", over the syntax.
 use Prim.Native.Nat.{ℕ, _<_, _≤_}
 use mathlib.Core.Path.{_≡_}
 use mathlib.Core.Option.{Option, some, none}
@@ -6,13 +6,13 @@ use mathlib.Core.List.{List, [], _∷_}
 use lib.ListN.{length, getElem?}
 use Rattle.rules.specs.Syntax.{Atom, symbol, number, empty, Term, var, atom, pair, Constraint, differ, typed, absento, Goal, Goals, equal, constrain, conj, disj, call, one, more, Relation, Program}
 
--- "payloads below 2^28"
+-- payloads are below 2^28
 abbrev pub AtomGood : Atom → Type 0
 AtomGood (symbol p) = p < 268435456
 AtomGood (number p) = p < 268435456
 AtomGood empty = Unit {0}
 
--- "variable number below the relation's count"
+-- variable numbers are below the relation's count
 unfoldable pub TermGood : ℕ → Term → Type 0
 TermGood vars (var x) = x < vars
 TermGood vars (atom a) = AtomGood a

@@ -67,7 +67,7 @@ abbrev pub differ-goals : ℕ × Term → List (ℕ × Term) → Goals
 differ-goals b [] = one (differ-goal b)
 differ-goals b (c ∷ bs) = more (differ-goal b) (differ-goals c bs)
 
--- A line as a goal: "several put under one 11". A trial that binds nothing has no line, as its constraint fails.
+-- A line as a goal: "several put under one 11". A trial that binds nothing has no line, as its constraint fails: that clause is never met, and its goal never holds.
 abbrev pub line-goal : Line → Goal
 line-goal (is-sort k x) = constrain (typed k (var x))
 line-goal (lacks a x) = constrain (absento a (var x))

@@ -1,3 +1,4 @@
+-- In the order to read them. A recursive definition is written as its cases, which take the recursion as an argument (`go`), and then the definition.
 pub mod Logic
 pub mod Substitution
 pub mod Steps

@@ -49,18 +49,18 @@ abbrev pub trial-fails : Substitution → Option Substitution → Bool
 trial-fails bs none = false
 trial-fails bs (some bs′) = eqb (length bs′) (length bs)
 
--- does the constraint c fail, among the constraints cs of its path? "Differ: the two terms are unified on trial and the bindings undone. .. Absento fails
+-- Does the constraint c fail, among the constraints cs of its path? `true` says that it fails. "Differ: the two terms are unified on trial and the bindings undone. .. Absento fails
 -- if the tag occurs anywhere in the term."
 abbrev pub reviewed : Substitution → List Constraint → Constraint → ℕ → Outcome Bool
 reviewed bs cs (differ s t) left = and-then (unify-terms bs s t left) (λ r l. done (trial-fails bs r) l)
 reviewed bs cs (typed k t) left = done (sort-fails bs cs k (walk bs t)) left
 reviewed bs cs (absento a t) left = scan (is-atom a) bs [] t left
 
--- a step for "each constraint reviewed"
+-- a step for "each constraint reviewed"; `true` says that it fails
 abbrev pub review : Substitution → List Constraint → Constraint → ℕ → Outcome Bool
 review bs cs c left = step left (λ l. reviewed bs cs c l)
 
--- "all of its path in order .., up to the first that fails"
+-- "all of its path in order .., up to the first that fails"; `true` says that one fails
 abbrev pub review-all : Substitution → List Constraint → List Constraint → ℕ → Outcome Bool
 review-all bs cs [] left = done false left
 review-all bs cs (c ∷ later) left = and-then (review bs cs c left) (λ broken l. choose broken (λ _. done true l) (λ _. review-all bs cs later l))

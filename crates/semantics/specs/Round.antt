@@ -140,7 +140,7 @@ module _ (limit : ℕ) where
   after-round k (completed t) next = after-cuts (t .cuts) k t next
 
   module _ (P : Program) (R : Relation) where
-    -- "Rounds run 0, 1, 2 and so on, each from the start": round k, and as many after it as `later` says. "Rounds used up: round R, the limit, is completed
+    -- "Rounds run 0, 1, 2 and so on, each from the start": round k, and as many after it as `later` says, of the query relation R. "Rounds used up: round R, the limit, is completed
     -- and cut some branch."
     abbrev pub rounds : ℕ → ℕ → ℕ → ℕ → List Answer → Result
     rounds zero k room left written = after-round k (one-round P R k room left written) (λ t. result rounds-used k t)

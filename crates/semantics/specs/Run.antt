@@ -31,18 +31,22 @@ report-read (refused number place) round-limit step-limit output = refusal numbe
 abbrev pub returns : List ℕ → ℕ → ℕ → ℕ → ℕ → Report
 returns words round-limit step-limit output scratch = report-read (read-with round-limit scratch words) round-limit step-limit output
 
--- the answers' words, one answer after the other: "output words used" is its length
+-- the answers' words, one answer after the other
 abbrev pub page : List Answer → List ℕ
 page [] = []
 page (a ∷ later) = a .1 ++ page later
 
--- the counts of a result: "answers"
-abbrev pub answers-count : Result → ℕ
-answers-count r = length (r .answers)
+-- "With it come the round (the last completed, or the one broken off), steps, answers and output words used."
+pub record Counts : Type 0 where
+  pub round : ℕ
+  pub steps : ℕ
+  pub answers : ℕ
+  pub words : ℕ
 
--- "output words used"
-abbrev pub words-used : Result → ℕ
-words-used r = length (page (r .answers))
+-- the counts that a call returns: "number and place with all counts 0" for a refusal
+abbrev pub counts : Report → Counts
+counts (refusal number place) = record { round = 0; steps = 0; answers = 0; words = 0 }
+counts (ran r) = record { round = r .round; steps = r .steps; answers = length (r .answers); words = length (page (r .answers)) }
 
 -- the answers on a page, found by their first words 15:n; what is beyond the last begins with no such word
 abbrev pub split-page : ℕ → List ℕ → List (List ℕ)

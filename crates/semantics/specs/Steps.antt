@@ -19,7 +19,8 @@ pub data Stop : Type 0 where
   no-steps : Stop
   at-bound : Bound → Stop
 
--- a value with the steps left, or a stop with the steps left: a step that would exceed the limit or a bound is not taken, and not counted
+-- A value with the steps left, or a stop with the steps left. A step that would exceed the limit or a bound is not taken, and not counted: where a bound is met, the step
+-- that was paid for is given back (`stop (at-bound b) (suc left)`).
 pub data Outcome (A : Type 0) : Type 0 where
   done : A → ℕ → Outcome A
   stop : Stop → ℕ → Outcome A

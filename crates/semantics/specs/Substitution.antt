@@ -64,7 +64,8 @@ put x u (var y) = choose (eqb x y) u (λ _. var y)
 put x u (atom a) = atom a
 put x u (pair s t) = pair (put x u s) (put x u t)
 
--- the whole term "with bindings followed": all that is bound in it is put in
+-- The whole term "with bindings followed": all that is bound in it is put in. The newest binding goes in last: an older binding's term may hold its variable, and its own
+-- term, once the older ones are in it, holds no bound variable.
 abbrev pub resolve : Substitution → Term → Term
 resolve [] t = t
 resolve (b ∷ bs) t = put (b .0) (λ _. resolve bs (b .1)) (resolve bs t)

@@ -26,18 +26,18 @@ abbrev pub scan-node : (Term → Bool) → Term → List Term → ℕ → (List 
 scan-node test f ws left go = choose (test f) (λ _. done true left) (λ _. scan-parts f ws left go)
 
 -- "A node is a term with its bindings followed, an open variable too. Nodes go first part before second, up to the first find."
--- The one traversal of the occurs check, of an absento review and of the writer: does a node of t, or of one that waits, pass the test?
+-- The one traversal of the occurs check, of an absento review and of the writer: does a node of t, or of one that waits, pass the test? Each node looked at is a step.
 abbrev pub scan : (Term → Bool) → Substitution → List Term → Term → ℕ → Outcome Bool
 scan test bs ws t zero = stop no-steps zero
 scan test bs ws t (suc left) = scan-node test (walk bs t) ws left (λ vs v. scan test bs vs v left)
 
--- the tests: this variable, this atom, none
+-- the tests: of the occurs check, this variable
 abbrev pub is-var : ℕ → Term → Bool
 is-var x (var y) = eqb x y
 is-var x (atom a) = false
 is-var x (pair s t) = false
 
--- of an absento review
+-- of an absento review, this atom
 abbrev pub is-atom : Atom → Term → Bool
 is-atom a (var y) = false
 is-atom a (atom b) = same-atom a b

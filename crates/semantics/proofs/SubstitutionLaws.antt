@@ -287,7 +287,7 @@ walk-open bs x o = walk-for-open (length bs) bs x o
 abbrev pub Last : Substitution → ℕ → Type 0
 Last bs x = (y : ℕ) → ¬ (lookup bs x ≡ some (var y))
 
-last-here : (n : ℕ) (bs : Substitution) (x : ℕ) → Last bs x → last-variable n bs x ≡ x
+pub last-here : (n : ℕ) (bs : Substitution) (x : ℕ) → Last bs x → last-variable n bs x ≡ x
 last-here zero bs x h = refl
 last-here (suc n) bs x h = go (lookup bs x) refl
   where
@@ -320,6 +320,23 @@ lasts bs g (suc k) n y h c = go (lookup bs y) refl n c (lasts bs g k)
 -- `last-variable` arrives there
 pub last-arrives : (bs : Substitution) → Good bs → (x : ℕ) → Last bs (last-variable (length bs) bs x)
 last-arrives bs g x = lasts bs g (suc (rank bs x)) (length bs) x (omega arith) (count-length (rank bs) (suc (rank bs x)) bs)
+
+last-enough : (n : ℕ) (bs : Substitution) (x : ℕ) → Last bs (last-variable n bs x) → last-variable (suc n) bs x ≡ last-variable n bs x
+last-enough zero bs x h = last-here 1 bs x h
+last-enough (suc n) bs x h = go (lookup bs x) refl (last-enough n bs)
+  where
+    here : Last bs x → last-variable (suc (suc n)) bs x ≡ last-variable (suc n) bs x
+    here l = last-here (suc (suc n)) bs x l ∙ sym (last-here (suc n) bs x l)
+
+    go : (o : Option Term) → lookup bs x ≡ o → ((y : ℕ) → Last bs (last-variable n bs y) → last-variable (suc n) bs y ≡ last-variable n bs y) → last-variable (suc (suc n)) bs x ≡ last-variable (suc n) bs x
+    go none e ih = here (λ z q. clash (cc))
+    go (some (atom a)) e ih = here (λ z q. clash (cc))
+    go (some (pair s t)) e ih = here (λ z q. clash (cc))
+    go (some (var y)) e ih = last-on (suc n) bs x y e ∙ ih y (subst (Last bs) (last-on n bs x y e) h) ∙ sym (last-on n bs x y e)
+
+-- one step on the way leads to the same last variable
+pub last-some : (bs : Substitution) → Good bs → (x y : ℕ) → lookup bs x ≡ some (var y) → last-variable (length bs) bs x ≡ last-variable (length bs) bs y
+last-some bs g x y e = sym (last-enough (length bs) bs x (last-arrives bs g x)) ∙ last-on (length bs) bs x y e
 
 -- what the found term tells of the resolved one
 abbrev pub Seen : Substitution → Term → Term → Type 0

@@ -1,0 +1,103 @@
+-- Taking a disjunction, as the code does it: one law for each way in which `take_disj` returns.
+use Prim.Native.Nat.{ℕ, suc, _+_, _*_, _≤_, _<_}
+use mathlib.Core.Path.{_≡_, refl, sym, ap, ap₂, subst, _∙_}
+use mathlib.Core.Bool.{true, false}
+use mathlib.Core.List.{List, [], _∷_}
+use native.Mathlib.Omega.{arith}
+use native.Mathlib.Numerals.{add-one}
+use lib.Dec.{leb}
+use lib.ListN.{length, set, length-set}
+use lib.Seq.{sets}
+use borrow.Author.Tests.{le-leb, lt-leb}
+use Rattle.rules.specs.Syntax.{Goals, one, more, disj, Program}
+use Rattle.rules.specs.Reading.{after}
+use Rattle.semantics.specs.Path.{Path, ChoicePoint, take-disj, waiting-on}
+use Rattle.engine.specs.Reference.{pos-of, beyond, TaskAt, RestAt}
+use Rattle.engine.specs.Memory.{Registers, point-at, Stored, cell, point}
+use Rattle.engine.specs.Walk.{NodeAt}
+use Rattle.engine.specs.Taking.{registers, Taking, TookAs, one-waits, one-choice-more}
+use Rattle.engine.specs.declared.state.State.{State}
+use Rattle.engine.specs.declared.state.Bound.the-variants.{Goals as GoalsBound, Disjunctions}
+use Rattle.engine.specs.declared.state.Stop.the-variants.{Path as PathLimit}
+use Rattle.engine.specs.declared.state.Took.the-variants.{Goes, Stops}
+use Rattle.engine.proofs.GoalLaws.{disj-rest, task-one, task-more}
+use Rattle.engine.proofs.StepLaws.{disj-one, disj-more}
+use Rattle.engine.proofs.ConjLaws.{Next, next-goal}
+
+-- the eight stores of a choice point as the code writes them
+pub point-stores : (s : List ℕ) (n w to : ℕ) (r : Registers)
+    → set (set (set (set (set (set (set (set s (point-at n) w) (point-at n + 1) to) (point-at n + 2) (r .head)) (point-at n + 3) (r .trail)) (point-at n + 4) (r .made)) (point-at n + 5) (r .put)) (point-at n + 6) (r .kept)) (point-at n + 7) (r .calls)
+    ≡ point s n w to r
+point-stores s n w to r =
+    let i : ℕ = point-at n in
+    let e₁ : suc i ≡ i + 1 = omega arith in
+    let e₂ : suc (suc i) ≡ i + 2 = omega arith in
+    let e₃ : suc (suc (suc i)) ≡ i + 3 = omega arith in
+    let e₄ : suc (suc (suc (suc i))) ≡ i + 4 = omega arith in
+    let e₅ : suc (suc (suc (suc (suc i)))) ≡ i + 5 = omega arith in
+    let e₆ : suc (suc (suc (suc (suc (suc i))))) ≡ i + 6 = omega arith in
+    let e₇ : suc (suc (suc (suc (suc (suc (suc i)))))) ≡ i + 7 = omega arith in
+    rw (e₇, e₆, e₅, e₄, e₃, e₂, e₁) refl
+
+module _ {P : Program} {ws s₀ : List ℕ} {st : State} {w : ℕ} {p : Path} {cs : List ChoicePoint} {base : ℕ} {gs : Goals} (t : Taking P ws s₀ st w p cs (base, disj gs)) where
+  put-is : st .put ≡ p .put
+  put-is = t .stored .path-in .put
+
+  first-goals : {b k n : ℕ} → NodeAt ws w b k n → RestAt ws (w + 1) (pos-of w + 1 + n) base gs
+  first-goals {n = n} i = subst (λ z. RestAt ws (w + 1) (pos-of w + 1 + z) base gs) (sym (i .is-payload)) (disj-rest ws w base gs (t .task-at) .1)
+
+  -- no goal fits any more
+  pub disj-full : (s′ : List ℕ) → 1024 ≤ st .put → TookAs P ws s′ cs (take-disj p cs base gs (st .left)) (Stops (PathLimit GoalsBound) (st .left + 1))
+  unfolding TookAs
+  disj-full s′ full = go gs
+    where
+      f : leb (suc (p .put)) 1024 ≡ false
+      f = lt-leb (suc (p .put)) 1024 (omega (arith, put-is))
+
+      go : (us : Goals) → TookAs P ws s′ cs (take-disj p cs base us (st .left)) (Stops (PathLimit GoalsBound) (st .left + 1))
+      go (one g) = rw f (refl, omega arith)
+      go (more g us) = rw f (refl, omega arith)
+
+module _ {P : Program} {ws s₀ : List ℕ} {st : State} {w : ℕ} {p : Path} {cs : List ChoicePoint} {base : ℕ} where
+  -- the first alternative is there
+  pub disj-inside : {gs : Goals} {b k n : ℕ} → Taking P ws s₀ st w p cs (base, disj gs) → NodeAt ws w b k n → pos-of (w + 1) < length ws
+  disj-inside {gs} t i = next-goal ws (w + 1) _ base gs (first-goals t i) .inside
+
+  -- and the cell for it is
+  pub disj-room : {gs : Goals} {pushed : State} {s₁ : List ℕ} (v to : ℕ) → Taking P ws s₀ st w p cs (base, disj gs) → st .put < 1024
+      → pushed ≡ one-choice-more st → s₁ ≡ point s₀ (st .choices) v to (registers st) → (12288 ≤ length s₁) × (pushed .put < 1024)
+  disj-room v to t fits q z = rw (q, z) (simp length-set (t .stored .roomy .long), omega (arith, fits))
+
+  -- one alternative only
+  pub disj-last : (gs : Goals) {b k n c l m : ℕ} {r : State} {s′ : List ℕ} → Taking P ws s₀ st w p cs (base, disj gs) → NodeAt ws w b k n → st .put < 1024
+      → NodeAt ws (w + 1) c l m → pos-of (w + 1) + 1 + m ≡ pos-of w + 1 + n → r ≡ one-waits st → s′ ≡ cell s₀ (st .put + 1) (w + 1) (st .head) → TookAs P ws s′ cs (take-disj p cs base gs (st .left)) (Goes r)
+  unfolding TookAs
+  disj-last (one g) {n = n} t i fits j e q z =
+      let f : leb (suc (p .put)) 1024 ≡ true = le-leb (suc (p .put)) 1024 (omega (arith, fits, put-is t)) in
+      rw (f, q, z) (refl, disj-one base g (w + 1) (pos-of w + 1 + n) (omega (arith, fits)) (first-goals t i) (t .stored))
+  disj-last (more g us) {n = n} t i fits j e q z =
+      absurd (omega (arith, e, j .is-payload, task-more ws (w + 1) (pos-of w + 1 + n) base g us (first-goals t i) .not-last))
+
+  -- no choice point fits any more
+  pub disj-many : (gs : Goals) {b k n c l m : ℕ} (s′ : List ℕ) → Taking P ws s₀ st w p cs (base, disj gs) → NodeAt ws w b k n → st .put < 1024
+      → NodeAt ws (w + 1) c l m → (pos-of (w + 1) + 1 + m ≡ pos-of w + 1 + n → ⊥) → 256 ≤ st .choices → TookAs P ws s′ cs (take-disj p cs base gs (st .left)) (Stops (PathLimit Disjunctions) (st .left + 1))
+  unfolding TookAs
+  disj-many (one g) {n = n} s′ t i fits j e full =
+      absurd (e (subst (λ z. pos-of (w + 1) + 1 + z ≡ pos-of w + 1 + n) (sym (j .is-payload)) (task-one ws (w + 1) (pos-of w + 1 + n) base g (first-goals t i) .0)))
+  disj-many (more g us) s′ t i fits j e full =
+      let f : leb (suc (p .put)) 1024 ≡ true = le-leb (suc (p .put)) 1024 (omega (arith, fits, put-is t)) in
+      let h : leb (suc (length cs)) 256 ≡ false = lt-leb (suc (length cs)) 256 (omega (arith, t .stored .choices-are)) in
+      rw (f, h) (refl, omega arith)
+
+  -- more than one, and room for a choice point
+  pub disj-goes : (gs : Goals) {b k n c l m : ℕ} {pushed r : State} {s₁ s₂ : List ℕ} → Taking P ws s₀ st w p cs (base, disj gs) → NodeAt ws w b k n → st .put < 1024
+      → NodeAt ws (w + 1) c l m → (pos-of (w + 1) + 1 + m ≡ pos-of w + 1 + n → ⊥) → st .choices < 256
+      → pushed ≡ one-choice-more st → s₁ ≡ point s₀ (st .choices) (w + 1 + 1 + m) (pos-of w + 1 + n) (registers st)
+      → r ≡ one-waits pushed → s₂ ≡ cell s₁ (pushed .put + 1) (w + 1) (pushed .head) → TookAs P ws s₂ cs (take-disj p cs base gs (st .left)) (Goes r)
+  unfolding TookAs
+  disj-goes (one g) {n = n} t i fits j e few q z a b =
+      absurd (e (subst (λ z. pos-of (w + 1) + 1 + z ≡ pos-of w + 1 + n) (sym (j .is-payload)) (task-one ws (w + 1) (pos-of w + 1 + n) base g (first-goals t i) .0)))
+  disj-goes (more g us) {n = n} t i fits j e few q z a b =
+      let f : leb (suc (p .put)) 1024 ≡ true = le-leb (suc (p .put)) 1024 (omega (arith, fits, put-is t)) in
+      let h : leb (suc (length cs)) 256 ≡ true = le-leb (suc (length cs)) 256 (omega (arith, few, t .stored .choices-are)) in
+      rw (f, h, b, a, z, q, j .is-payload) (refl, disj-more base g us (w + 1) (pos-of w + 1 + n) (omega (arith, fits)) (omega (arith, few)) (first-goals t i) (t .stored))

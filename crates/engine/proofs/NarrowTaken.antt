@@ -1,0 +1,218 @@
+-- Taking equalities and constraints, as the code does it: one law for each way in which `take_equal` and `take_constraint` return, and what they need on the way.
+use Prim.Native.Nat.{ℕ, zero, suc, _+_, _≤_, _<_}
+use mathlib.Core.Path.{_≡_, refl, sym, ap, subst, _∙_}
+use mathlib.Core.Bool.{Bool, true, false}
+use mathlib.Core.Option.{Option, none, some}
+use mathlib.Core.List.{List, [], _∷_, _++_}
+use native.Mathlib.Omega.{arith}
+use lib.Dec.{eqb, leb}
+use lib.ListN.{length, set, length-set, length-append}
+use borrow.Author.Tests.{eq-eqb, ne-eqb, le-leb, lt-leb}
+use Rattle.rules.specs.Syntax.{Term, Constraint, differ, typed, absento, equal, constrain, Program}
+use Rattle.rules.specs.Reading.{choose, after}
+use Rattle.semantics.specs.Substitution.{shift, shift-constraint, Substitution}
+use Rattle.semantics.specs.Steps.{Outcome, done, stop, no-steps, at-bound, waiting, and-then}
+use Rattle.semantics.specs.Unify.{unify-terms}
+use Rattle.semantics.specs.Review.{review, review-all}
+use Rattle.semantics.specs.Path.{Path, ChoicePoint, Taken, leaves, goes, bound-to, keeping, equal-taken, take-equal, take-constraint}
+use Rattle.semantics.proofs.TermLaws.{TermIn, ConstraintIn, shift-in, shift-constraint-in}
+use Rattle.semantics.proofs.SubstitutionLaws.{Good}
+use Rattle.engine.specs.Reference.{TermAt, pos-of, base-of, Stands, TaskAt, VarsC, KeepsAt}
+use Rattle.engine.specs.Memory.{Registers, kept-at, Stored}
+use Rattle.engine.specs.Unify.{Meets, Went, UnifiedAs}
+use Rattle.engine.specs.Review.{Kept, review-says, ReviewedAs}
+use Rattle.engine.specs.Taking.{registers, Holds, Ready, TookAs, narrow, review-took}
+use Rattle.engine.specs.declared.state.State.{State}
+use Rattle.engine.specs.declared.state.Bound.the-variants.{Constraints, Waiting}
+use Rattle.engine.specs.declared.state.Stop.the-variants.{Steps, Path as PathLimit}
+use Rattle.engine.specs.declared.state.Took.{Took}
+use Rattle.engine.specs.declared.state.Took.the-variants.{Leaves, Goes, Stops}
+use Rattle.engine.specs.declared.review.Reviewed.{Reviewed}
+use Rattle.engine.specs.declared.review.Reviewed.the-variants as reviewed
+use Rattle.engine.specs.declared.unify.Unified.{Unified}
+use Rattle.engine.specs.declared.unify.Unified.the-variants as unified
+use Rattle.engine.proofs.ReferenceLaws.{term-longer}
+use Rattle.engine.proofs.GoalLaws.{term-shift, keeps-task}
+use Rattle.engine.proofs.ArgumentLaws.{term-vars}
+use Rattle.engine.proofs.StoredLaws.{trailed, stored-meets, stored-kept, unified-stored, reviewed-stored}
+use Rattle.engine.proofs.ClaimLaws.{constrained}
+use Rattle.engine.proofs.ConjLaws.{keep}
+
+-- each case of a review
+pub review-fails : (st : State) {r : State} {q : Reviewed} {l : ℕ} → q ≡ reviewed.Fails l → r ≡ narrow st (st .trail) (st .kept) l → Leaves r ≡ review-took st q
+review-fails st e f = rw (e, f) refl
+
+pub review-holds : (st : State) {r : State} {q : Reviewed} {l : ℕ} → q ≡ reviewed.Holds l → r ≡ narrow st (st .trail) (st .kept) l → Goes r ≡ review-took st q
+review-holds st e f = rw (e, f) refl
+
+pub review-steps : (st : State) {q : Reviewed} → q ≡ reviewed.StepsOut → Stops Steps 0 ≡ review-took st q
+review-steps st e = rw e refl
+
+pub review-path : (st : State) {q : Reviewed} {l : ℕ} → q ≡ reviewed.PathOut l → Stops (PathLimit Waiting) l ≡ review-took st q
+review-path st e = rw e refl
+
+-- a path after a review
+reviewed-took : {P : Program} {ws s : List ℕ} {p : Path} {cs : List ChoicePoint} (st : State) (q : Reviewed) (o : Outcome Bool) → Holds P ws s st p cs → o ≡ review-says q
+    → TookAs P ws s cs (and-then o (λ broken l. choose broken (λ _. done leaves l) (λ _. done (goes p cs) l))) (review-took st q)
+unfolding TookAs review-says
+reviewed-took {p = p} st (reviewed.Fails l) o h e = rw e (refl, (p, h))
+reviewed-took st (reviewed.Holds l) o h e = rw e (refl, h)
+reviewed-took st reviewed.StepsOut o h e = rw e (refl, refl)
+reviewed-took st (reviewed.PathOut l) o h e = rw e (refl, refl)
+
+-- Equal.
+
+module _ {P : Program} {ws s : List ℕ} {st : State} {w : ℕ} {p : Path} {cs : List ChoicePoint} {base : ℕ} {u v : Term} (k : Ready P ws s st w p cs (base, equal u v)) where
+  stored : Stored P ws s (registers st) (st .choices) p cs
+  stored = k .taking .stored
+
+  in-range : TermIn (p .made) (shift base u) × TermIn (p .made) (shift base v)
+  in-range = let t = k .task-in in (shift-in base (t .0) (p .made) u (t .1) (t .2 .0), shift-in base (t .0) (p .made) v (t .1) (t .2 .1))
+
+  few-made : p .made ≤ 2048
+  few-made = k .sound .few-made
+
+  -- the two terms: the second is past the first
+  pub equal-first : Stands ws (w + 1) (shift base u)
+  equal-first =
+      let t : TaskAt ws w (base, equal u v) = k .taking .task-at in
+      let mid : ℕ = t .goal .1 .0 in
+      let end : ℕ = t .goal .1 .2 .0 in
+      let l = term-longer ws 0 (pos-of w + 1) mid u (t .goal .1 .1) in
+      let m = term-longer ws 0 mid end v (t .goal .1 .2 .1) in
+      let e : end ≡ after ws (pos-of w) = t .goal .1 .2 .2 in
+      let small : after ws (pos-of w) ≤ 16384 = t .small in
+      let is-pos : pos-of (w + 1) ≡ pos-of w + 1 = omega (arith, l, m) in
+      let is-base : base-of (w + 1) ≡ base = omega (arith, l, m, t .base) in
+      record {
+        to = mid;
+        reads = subst (λ b. TermAt ws b (pos-of (w + 1)) mid (shift base u)) (sym is-base) (subst (λ i. TermAt ws base i mid (shift base u)) (sym is-pos) (term-shift ws base (pos-of w + 1) mid u (t .goal .1 .1)));
+        inside = omega (arith, m, t .inside);
+        small = omega (arith, m);
+        below = omega (arith, l, m, t .below);
+        in-range = term-vars (p .made) (shift base u) few-made (in-range .0);
+      }
+
+  equal-second : (q : ℕ) → q + pos-of (w + 1) ≡ w + 1 + equal-first .to → Stands ws q (shift base v)
+  unfolding equal-first
+  equal-second q z =
+      let t : TaskAt ws w (base, equal u v) = k .taking .task-at in
+      let mid : ℕ = t .goal .1 .0 in
+      let end : ℕ = t .goal .1 .2 .0 in
+      let l = term-longer ws 0 (pos-of w + 1) mid u (t .goal .1 .1) in
+      let m = term-longer ws 0 mid end v (t .goal .1 .2 .1) in
+      let e : end ≡ after ws (pos-of w) = t .goal .1 .2 .2 in
+      let small : after ws (pos-of w) ≤ 16384 = t .small in
+      let is-pos : pos-of q ≡ mid = omega (arith, l, m, z) in
+      let is-base : base-of q ≡ base = omega (arith, l, m, z, t .base) in
+      record {
+        to = end;
+        reads = subst (λ b. TermAt ws b (pos-of q) end (shift base v)) (sym is-base) (subst (λ i. TermAt ws base i end (shift base v)) (sym is-pos) (term-shift ws base mid end v (t .goal .1 .2 .1)));
+        inside = omega (arith, t .inside);
+        small = omega arith;
+        below = omega (arith, l, m, z, t .below);
+        in-range = term-vars (p .made) (shift base v) few-made (in-range .1);
+      }
+
+  pub equal-meets : {q : ℕ} → ((t : Term) (h : Stands ws (w + 1) t) → q + pos-of (w + 1) ≡ w + 1 + h .to) → Meets ws s (p .bindings) (w + 1) (shift base u) q (shift base v) (st .trail)
+  equal-meets {q} skips = stored-meets stored (k .short) (k .sound .good) equal-first (equal-second q (skips (shift base u) equal-first))
+
+  abbrev pub says : List ℕ → Took → Type 0
+  says s″ took = TookAs P ws s″ cs (take-equal p cs (shift base u) (shift base v) (st .left)) took
+
+  module _ (s′ : List ℕ) (r : Unified) (told : UnifiedAs ws s s′ (p .bindings) (unify-terms (p .bindings) (shift base u) (shift base v) (st .left)) r) where
+    pub equal-fails : {n l : ℕ} {st′ : State} → r ≡ unified.Failed n l → st′ ≡ narrow st n (st .kept) l → says s′ (Leaves st′)
+    unfolding TookAs UnifiedAs
+    equal-fails {n} {l} {st′} e f =
+        let q : (g : Went ws s (p .bindings) s′ n) × (unify-terms (p .bindings) (shift base u) (shift base v) (st .left) ≡ done none l) = rw e at told in
+        rw (q .1, f) (refl, (bound-to p (q .0 .next), unified-stored stored (q .0)))
+
+    pub equal-steps : {n : ℕ} → r ≡ unified.StepsOut n → says s′ (Stops Steps 0)
+    unfolding TookAs UnifiedAs
+    equal-steps {n} e =
+        let q : (g : Went ws s (p .bindings) s′ n) × (unify-terms (p .bindings) (shift base u) (shift base v) (st .left) ≡ stop no-steps 0) = rw e at told in
+        rw (q .1) (refl, refl)
+
+    pub equal-path : {n l : ℕ} → r ≡ unified.PathOut n l → says s′ (Stops (PathLimit Waiting) l)
+    unfolding TookAs UnifiedAs
+    equal-path {n} {l} e =
+        let q : (g : Went ws s (p .bindings) s′ n) × (unify-terms (p .bindings) (shift base u) (shift base v) (st .left) ≡ stop (at-bound waiting) l) = rw e at told in
+        rw (q .1) (refl, refl)
+
+    module _ {n l : ℕ} (joined : r ≡ unified.Joined n l) where
+      pub went : (g : Went ws s (p .bindings) s′ n) × (unify-terms (p .bindings) (shift base u) (shift base v) (st .left) ≡ done (some (g .next)) l)
+      unfolding UnifiedAs
+      went = rw joined at told
+
+      -- nothing was bound
+      pub equal-same : {st′ : State} → st′ ≡ narrow st n (st .kept) l → n ≡ st .trail → says s′ (Goes st′)
+      unfolding TookAs
+      equal-same {st′} f z =
+          let g : Went ws s (p .bindings) s′ n = went .0 in
+          let many : length (g .next) ≡ length (p .bindings) = sym (g .trail-is) ∙ z ∙ stored .path-in .trail in
+          let y : eqb (length (g .next)) (length (p .bindings)) ≡ true = eq-eqb (length (g .next)) (length (p .bindings)) many in
+          let same : g .next ≡ p .bindings = none-new (g .new) (g .grows) many in
+          let h : Stored P ws s′ (trailed (registers st) n) (st .choices) p cs = subst (λ bs. Stored P ws s′ (trailed (registers st) n) (st .choices) (bound-to p bs) cs) same (unified-stored stored g) in
+          rw (went .1, y, f) (refl, h)
+        where
+          none-new : {bs : Substitution} (new : Substitution) → bs ≡ new ++ p .bindings → length bs ≡ length (p .bindings) → bs ≡ p .bindings
+          none-new [] e q = e
+          none-new (b ∷ new) e q = absurd (let z = length-append (b ∷ new) (p .bindings) in omega (arith, ap length e))
+
+      after-join : Stored P ws s′ (trailed (registers st) n) (st .choices) (bound-to p (went .0 .next)) cs
+      after-join = unified-stored stored (went .0)
+
+      pub equal-kept : Kept ws s′ (went .0 .next) (p .kept) n (st .kept)
+      equal-kept = stored-kept after-join (k .short) (went .0 .held .good)
+
+      -- and where something was
+      pub equal-reviewed : {joint : State} {q : Reviewed} {took : Took} {s″ : List ℕ} → joint ≡ narrow st n (st .kept) l → (n ≡ st .trail → ⊥)
+          → ((bs : Substitution) (ds : List Constraint) → Kept ws s′ bs ds n (st .kept) → ReviewedAs ws s′ s″ bs (review-all bs ds ds l) q) → took ≡ review-took joint q → says s″ took
+      equal-reviewed {joint} {q} {took} {s″} f z reviews t =
+          let g : Went ws s (p .bindings) s′ n = went .0 in
+          let v′ = reviews (g .next) (p .kept) equal-kept in
+          let y : eqb (length (g .next)) (length (p .bindings)) ≡ false = ne-eqb (length (g .next)) (length (p .bindings)) (λ e. z (g .trail-is ∙ e ∙ sym (stored .path-in .trail))) in
+          rw (went .1, y, t, f) (reviewed-took (narrow st n (st .kept) l) q (review-all (g .next) (p .kept) (p .kept) l) (reviewed-stored after-join v′) (v′ .says))
+
+-- A constraint.
+
+constraint-vars : (m : ℕ) (c : Constraint) → m ≤ 2048 → ConstraintIn m c → VarsC (λ x. x < 2048) c
+constraint-vars m (differ s t) le h = (term-vars m s le (h .0), term-vars m t le (h .1))
+constraint-vars m (typed k t) le h = term-vars m t le h
+constraint-vars m (absento a t) le h = term-vars m t le (h .1)
+
+module _ {P : Program} {ws s : List ℕ} {st : State} {w : ℕ} {p : Path} {cs : List ChoicePoint} {base : ℕ} {c : Constraint} (k : Ready P ws s st w p cs (base, constrain c)) where
+  held : Stored P ws s (registers st) (st .choices) p cs
+  held = k .taking .stored
+
+  pub constraint-full : (s′ : List ℕ) → 512 ≤ st .kept → TookAs P ws s′ cs (take-constraint p cs (shift-constraint base c) (st .left)) (Stops (PathLimit Constraints) (st .left + 1))
+  unfolding TookAs
+  constraint-full s′ full =
+      let f : leb (suc (length (p .kept))) 512 ≡ false = lt-leb (suc (length (p .kept))) 512 (omega (arith, held .path-in .kept)) in
+      rw f (refl, omega arith)
+
+  pub constraint-keeps : KeepsAt ws w (shift-constraint base c)
+  constraint-keeps =
+      let t = k .task-in in
+      keeps-task ws w base c (k .taking .task-at) (constraint-vars (p .made) (shift-constraint base c) (k .sound .few-made) (shift-constraint-in base (t .0) (p .made) c (t .1) (t .2)))
+
+  module _ (fits : st .kept < 512) where
+    now-kept : Stored P ws (set s (kept-at (st .kept)) w) (constrained (registers st)) (st .choices) (keeping p (shift-constraint base c)) cs
+    now-kept = keep (shift-constraint base c) w fits constraint-keeps held
+
+    pub constraint-kept : Kept ws (set s (kept-at (st .kept)) w) (p .bindings) (p .kept ++ (shift-constraint base c ∷ [])) (st .trail) (st .kept + 1)
+    constraint-kept = stored-kept now-kept (k .short) (k .sound .good)
+
+    pub constraint-long : {s″ : List ℕ} {q : Reviewed}
+        → ((bs : Substitution) (ds : List Constraint) (d : Constraint) → Kept ws (set s (kept-at (st .kept)) w) bs ds (st .trail) (st .kept + 1) → KeepsAt ws w d
+        → ReviewedAs ws (set s (kept-at (st .kept)) w) s″ bs (review bs ds d (st .left)) q) → length s″ ≡ length s
+    constraint-long reviews = reviews (p .bindings) (p .kept ++ (shift-constraint base c ∷ [])) (shift-constraint base c) constraint-kept constraint-keeps .apart .long ∙ length-set s (kept-at (st .kept)) w
+
+    pub constraint-took : {q : Reviewed} {joint : State} {took : Took} {s″ : List ℕ}
+        → ((bs : Substitution) (ds : List Constraint) (d : Constraint) → Kept ws (set s (kept-at (st .kept)) w) bs ds (st .trail) (st .kept + 1) → KeepsAt ws w d
+        → ReviewedAs ws (set s (kept-at (st .kept)) w) s″ bs (review bs ds d (st .left)) q)
+        → joint ≡ narrow st (st .trail) (st .kept + 1) (st .left) → took ≡ review-took joint q → TookAs P ws s″ cs (take-constraint p cs (shift-constraint base c) (st .left)) took
+    constraint-took {q} {joint} {took} {s″} reviews f t =
+        let v′ = reviews (p .bindings) (p .kept ++ (shift-constraint base c ∷ [])) (shift-constraint base c) constraint-kept constraint-keeps in
+        let y : leb (suc (length (p .kept))) 512 ≡ true = le-leb (suc (length (p .kept))) 512 (omega (arith, held .path-in .kept)) in
+        rw (y, t, f) (reviewed-took (narrow st (st .trail) (st .kept + 1) (st .left)) q (review (p .bindings) (p .kept ++ (shift-constraint base c ∷ [])) (shift-constraint base c) (st .left)) (reviewed-stored now-kept v′) (v′ .says))

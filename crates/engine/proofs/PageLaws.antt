@@ -1,0 +1,264 @@
+-- Lines that stay: one law for each way in which the code returns or goes on, and what the definition lists.
+use Prim.Native.Nat.{ℕ, zero, suc, _+_, _*_, _%_, _/_, _-_, _<_, _≤_}
+use mathlib.Core.Path.{_≡_, refl, sym, ap, ap₂, subst, _∙_}
+use mathlib.Core.Bool.{Bool, true, false, _&&_, _||_, not, true≢false, false≢true}
+use mathlib.Core.List.{List, [], _∷_, _++_, append-assoc, append-nil}
+use native.Mathlib.Omega.{arith}
+use lib.Dec.{eqb}
+use lib.ListN.{length, length-append}
+use borrow.Author.Tests.{eq-eqb, eqb-true}
+use Rattle.word.specs.Word.{word, payload, payload-word}
+use Rattle.rules.specs.Reading.{choose}
+use Rattle.rules.specs.Syntax.{empty, var, atom}
+use Rattle.rules.specs.Written.{part, sort-kind, atom-word, term-words, goal-words, goals-words}
+use Rattle.rules.specs.Inner.{Stands as Spells}
+use Rattle.rules.proofs.Stands.{stands-at as spells-at, stands-append as spells-append, stands-split as spells-split}
+use Rattle.semantics.specs.Answer.{index, reify, reify-bindings, differ-goals, Line, is-sort, lacks, not-all, line-in, line-words, lines-words, same-words, any-same, listed}
+use Rattle.semantics.proofs.Basics.{clash, and-true, by-choose, or-right}
+use Rattle.engine.specs.Reference.{at}
+use Rattle.engine.specs.Put.{Touched, Laid, Missing, Placed, all-laid, some-missing}
+use Rattle.engine.specs.Page.{joined, add-line, add-lines, Whole, Wholes, Rows, Page}
+use Rattle.engine.specs.declared.put.Put.{Put}
+use Rattle.engine.specs.declared.put.Put.the-variants.{End, Missed}
+use Rattle.engine.proofs.PutLaws.{laid-of, missing-of, laid-then, touched-then}
+
+-- the same words
+same-self : (v : List ℕ) → same-words v v ≡ true
+same-self [] = refl
+same-self (x ∷ v) = rw (eq-eqb x x refl) (same-self v)
+
+same-is : (v w : List ℕ) → same-words v w ≡ true → v ≡ w
+same-is [] [] e = refl
+same-is [] (y ∷ w) e = absurd (false≢true e)
+same-is (x ∷ v) [] e = absurd (false≢true e)
+same-is (x ∷ v) (y ∷ w) e = let a = and-true (eqb x y) (same-words v w) e in ap₂ _∷_ (eqb-true x y (a .0)) (same-is v w (a .1))
+
+spells-one : (o : List ℕ) (place : ℕ) (v w : List ℕ) → Spells o place v → Spells o place w → length v ≡ length w → v ≡ w
+unfolding Spells
+spells-one o place [] [] h i e = refl
+spells-one o place [] (y ∷ w) h i e = absurd (omega arith)
+spells-one o place (x ∷ v) [] h i e = absurd (omega arith)
+spells-one o place (x ∷ v) (y ∷ w) h i e = ap₂ _∷_ (sym (h .0) ∙ i .0) (spells-one o (place + 1) v w (h .1) (i .1) (omega arith))
+
+module _ {o o′ : List ℕ} {place next : ℕ} {v : List ℕ} {r : Put} (w : List ℕ) (p : Placed o o′ place next false v r) (there : Spells o place w) (to : next ≡ place + length w) where
+  pub same-missed : r ≡ Missed → false ≡ same-words v w
+  same-missed e = go (same-words v w) refl
+    where
+      go : (b : Bool) → same-words v w ≡ b → false ≡ same-words v w
+      go false q = sym q
+      go true q = let z : v ≡ w = same-is v w q in absurd (missing-of p e .differs refl (omega (arith, ap length z)) (subst (Spells o place) (sym z) there))
+
+  pub same-found : {e : ℕ} → r ≡ End e → e ≡ next → true ≡ same-words v w
+  same-found {e} q k =
+      let d = laid-of p q in
+      let z : v ≡ w = spells-one o place v w (subst (λ x. Spells x place v) (d .read-only refl) (d .words)) there (omega (arith, d .is)) in
+      subst (λ x. true ≡ same-words x w) (sym z) (sym (same-self w))
+
+  pub same-short : {e : ℕ} → r ≡ End e → ¬ (e ≡ next) → false ≡ same-words v w
+  same-short {e} q n = go (same-words v w) refl
+    where
+      go : (b : Bool) → same-words v w ≡ b → false ≡ same-words v w
+      go false z = sym z
+      go true z = absurd (n (omega (arith, laid-of p q .is, ap length (same-is v w z))))
+
+pub read-back : {o o′ : List ℕ} {place next : ℕ} {v : List ℕ} {r : Put} → Placed o o′ place next false v r → o′ ≡ o
+read-back (all-laid h) = h .read-only refl
+read-back (some-missing h) = h .read-only refl
+
+-- earlier lines, one after the other
+pub record Row (o : List ℕ) (place to : ℕ) (v : List ℕ) (goal : Bool) : Type 0 where
+  pub rows : List (List ℕ)
+  pub here : Rows o place to rows
+  pub same : any-same v rows ≡ goal
+
+pub record RowNext (o : List ℕ) (place to size : ℕ) (v : List ℕ) (goal : Bool) : Type 0 where
+  pub one : List ℕ
+  pub rest : List (List ℕ)
+  pub here : Spells o place one
+  pub length-is : place + 1 + size ≡ place + length one
+  pub later : Rows o (place + 1 + size) to rest
+  pub inside : place + 1 + size ≤ to
+  pub same : (same-words v one || any-same v rest) ≡ goal
+
+module _ {o : List ℕ} {place to : ℕ} {v : List ℕ} {goal : Bool} (g : Row o place to v goal) where
+  pub row-next : {bits size : ℕ} → place < to → bits ≡ at o place → size ≡ payload bits → RowNext o place to size v goal
+  unfolding joined Wholes Spells
+  row-next {bits} {size} l is-bits is-size = go (g .rows) (g .here) (g .same)
+    where
+      go : (ws : List (List ℕ)) → Rows o place to ws → any-same v ws ≡ goal → RowNext o place to size v goal
+      go [] h e = absurd (omega (arith, h .ends))
+      go (w ∷ ws) h e =
+          let k = h .whole .0 in
+          let d = spells-split o place w (joined ws) (h .words) in
+          let f : Spells o place (part (k .kind) (k .rest)) = subst (Spells o place) (k .is) (d .0) in
+          let n : size ≡ length (k .rest) = is-size ∙ ap payload (is-bits ∙ f .0) ∙ payload-word (k .kind) (length (k .rest)) (k .short) in
+          let m : length w ≡ suc (length (k .rest)) = ap length (k .is) in
+          let a : length (w ++ joined ws) ≡ length w + length (joined ws) = length-append w (joined ws) in
+          let t : to ≡ place + length (w ++ joined ws) = h .ends in
+          record {
+            one = w;
+            rest = ws;
+            here = d .0;
+            length-is = omega arith;
+            later = record { words = spells-at o (place + length w) (place + 1 + size) (joined ws) (omega arith) (d .1); ends = omega arith; whole = h .whole .1 };
+            inside = omega arith;
+            same = e;
+          }
+
+  pub row-end : to ≤ place → false ≡ goal
+  unfolding joined Wholes
+  row-end l = go (g .rows) (g .here) (g .same)
+    where
+      go : (ws : List (List ℕ)) → Rows o place to ws → any-same v ws ≡ goal → false ≡ goal
+      go [] h e = e
+      go (w ∷ ws) h e = absurd (omega (arith, h .ends, length-append w (joined ws), ap length (h .whole .0 .is)))
+
+module _ {o : List ℕ} {place to size : ℕ} {v : List ℕ} {goal r : Bool} (g : RowNext o place to size v goal) (f : r ≡ same-words v (g .one)) where
+  pub row-found : r ≡ true → true ≡ goal
+  row-found e = ap (λ b. b || any-same v (g .rest)) (sym e ∙ f) ∙ g .same
+
+  pub row-on : r ≡ false → Row o (place + 1 + size) to v goal
+  row-on e = record { rows = g .rest; here = g .later; same = ap (λ b. b || any-same v (g .rest)) (sym e ∙ f) ∙ g .same }
+
+-- one line more
+joined-snoc : (ws : List (List ℕ)) (v : List ℕ) → joined (ws ++ (v ∷ [])) ≡ joined ws ++ v
+unfolding joined
+joined-snoc [] v = append-nil v
+joined-snoc (w ∷ ws) v = ap (λ x. w ++ x) (joined-snoc ws v) ∙ sym (append-assoc w (joined ws) v)
+
+wholes-snoc : (ws : List (List ℕ)) (v : List ℕ) → Wholes ws → Whole v → Wholes (ws ++ (v ∷ []))
+unfolding Wholes
+wholes-snoc [] v h k = (k, tt)
+wholes-snoc (w ∷ ws) v h k = (h .0, wholes-snoc ws v (h .1) k)
+
+line-part : (names : List ℕ) (l : Line) → (k : ℕ) × (rest : List ℕ) × (line-words names l ≡ part k rest)
+unfolding goal-words
+line-part names (is-sort k x) = (sort-kind k, term-words (var (index x names)), refl)
+line-part names (lacks a x) = (9, atom-word a ∷ term-words (var (index x names)), refl)
+line-part names (not-all []) = (6, term-words (atom empty) ++ term-words (atom empty), refl)
+line-part names (not-all (b ∷ [])) = (6, term-words (var (index (b .0) names)) ++ term-words (reify names (b .1)), refl)
+line-part names (not-all (b ∷ c ∷ bs)) = (11, goals-words (differ-goals (index (b .0) names, reify names (b .1)) (reify-bindings names (c ∷ bs))), refl)
+
+module _ (names : List ℕ) (ws : List (List ℕ)) (l : Line) where
+  line-added : line-in names l ≡ true → any-same (line-words names l) ws ≡ false → add-line names ws l ≡ ws ++ (line-words names l ∷ [])
+  unfolding add-line
+  line-added e f = rw (e, f)
+
+  line-dropped : line-in names l ≡ false → add-line names ws l ≡ ws
+  unfolding add-line
+  line-dropped e = rw e
+
+  line-repeats : line-in names l ≡ true → any-same (line-words names l) ws ≡ true → add-line names ws l ≡ ws
+  unfolding add-line
+  line-repeats e f = rw (e, f)
+
+  add-longer : length (joined ws) ≤ length (joined (add-line names ws l))
+  unfolding add-line
+  add-longer = by-choose (λ (xs : List (List ℕ)). length (joined ws) ≤ length (joined xs)) (line-in names l && not (any-same (line-words names l) ws)) _ _
+      (λ q. omega (arith, ap length (joined-snoc ws (line-words names l)), length-append (joined ws) (line-words names l))) (λ q. omega arith)
+
+module _ {o₀ o : List ℕ} {begin first end place : ℕ} {full : Bool} {head : List ℕ} {ws : List (List ℕ)} (h : Page o₀ o begin first end place full head ws) where
+  pub page-at : full ≡ false → place ≤ end
+  page-at e = h .stands e .fits
+
+  pub page-rows : full ≡ false → Rows o first place ws
+  page-rows e =
+      let d = h .stands e in
+      let a : length (head ++ joined ws) ≡ length head + length (joined ws) = length-append head (joined ws) in
+      let b : first ≡ begin + length head = h .begins e in
+      let c : place ≡ begin + length (head ++ joined ws) = d .is in
+      record { words = spells-at o (begin + length head) first (joined ws) (sym b) (spells-split o begin head (joined ws) (d .words) .1); ends = omega arith; whole = h .whole e }
+
+  module _ (names : List ℕ) (l : Line) where
+    -- nothing more fits
+    pub page-full : full ≡ true → Page o₀ o begin first end place true head (add-line names ws l)
+    page-full e =
+        let a = length-append head (joined ws) in
+        let b = length-append head (joined (add-line names ws l)) in
+        record {
+          stands = λ q. absurd (true≢false q);
+          whole = λ q. absurd (true≢false q);
+          begins = λ q. absurd (true≢false q);
+          over = λ _. omega (arith, h .over e, a, b, add-longer names ws l);
+          touched = h .touched;
+        }
+
+    as-before : full ≡ false → add-line names ws l ≡ ws → Page o₀ o begin first end place false head (add-line names ws l)
+    as-before e q = subst (λ xs. Page o₀ o begin first end place false head xs) (sym q) (subst (λ b. Page o₀ o begin first end place b head ws) e h)
+
+    pub page-dropped : {named : Bool} → full ≡ false → named ≡ line-in names l → named ≡ false → Page o₀ o begin first end place false head (add-line names ws l)
+    page-dropped e f g = as-before e (line-dropped names ws l (sym f ∙ g))
+
+    module _ {o₁ : List ℕ} {named again : Bool} (e : full ≡ false) (f : named ≡ line-in names l) (g : named ≡ true) (unread : o₁ ≡ o) (i : again ≡ any-same (line-words names l) ws) where
+      pub page-repeated : again ≡ true → Page o₀ o₁ begin first end place false head (add-line names ws l)
+      page-repeated k = subst (λ x. Page o₀ x begin first end place false head (add-line names ws l)) (sym unread) (as-before e (line-repeats names ws l (sym f ∙ g) (sym i ∙ k)))
+
+      module _ {o₂ : List ℕ} {r : Put} (k : again ≡ false) (p : Placed o₁ o₂ place end true (line-words names l) r) where
+        added : add-line names ws l ≡ ws ++ (line-words names l ∷ [])
+        added = line-added names ws l (sym f ∙ g) (sym i ∙ k)
+
+        longer : head ++ joined (add-line names ws l) ≡ (head ++ joined ws) ++ line-words names l
+        longer = ap (λ x. head ++ joined x) added ∙ ap (λ x. head ++ x) (joined-snoc ws (line-words names l)) ∙ sym (append-assoc head (joined ws) (line-words names l))
+
+        pub page-missed : r ≡ Missed → Page o₀ o₂ begin first end place true head (add-line names ws l)
+        page-missed q =
+            let d = h .stands e in
+            let m = missing-of p q in
+            let c : place ≡ begin + length (head ++ joined ws) = d .is in
+            let n = m .no-room refl in
+            record {
+              stands = λ z. absurd (true≢false z);
+              whole = λ z. absurd (true≢false z);
+              begins = λ z. absurd (true≢false z);
+              over = λ _. omega (arith, ap length longer, length-append (head ++ joined ws) (line-words names l));
+              touched = touched-then begin end place end begin end (omega arith) (omega arith) (omega arith) (omega arith) (h .touched) (subst (λ x. Touched x o₂ place end) unread (m .touched));
+            }
+
+        pub page-put : {next : ℕ} → end < 268435456 → r ≡ End next → Page o₀ o₂ begin first end next false head (add-line names ws l)
+        page-put {next} short q =
+            let d = h .stands e in
+            let u = subst (λ x. Laid x o₂ place end true (line-words names l) next) unread (laid-of p q) in
+            let lp = line-part names l in
+            let c : place ≡ begin + length (head ++ joined ws) = d .is in
+            let n : next ≡ place + length (line-words names l) = u .is in
+            let f : next ≤ end = u .fits in
+            let s : length (line-words names l) ≡ suc (length (lp .1)) = ap length (lp .2) in
+            record {
+              stands = λ _. subst (λ v. Laid o₀ o₂ begin end true v next) (sym longer) (laid-then d u);
+              whole = λ _. subst Wholes (sym added) (wholes-snoc ws (line-words names l) (h .whole e) (record { kind = lp .0; rest = lp .1; is = lp .2; short = omega arith }));
+              begins = λ _. h .begins e;
+              over = λ z. absurd (true≢false (sym z));
+              touched = touched-then begin end place next begin end (omega arith) (omega arith) (omega arith) (omega arith) (h .touched) (u .touched);
+            }
+
+-- what the definition lists
+any-snoc : (v w : List ℕ) (ws : List (List ℕ)) → any-same v (ws ++ (w ∷ [])) ≡ (same-words v w || any-same v ws)
+any-snoc v w [] = refl
+any-snoc v w (x ∷ ws) = ap (λ b. same-words v x || b) (any-snoc v w ws) ∙ swap (same-words v x) (same-words v w) (any-same v ws)
+  where
+    swap : (a b c : Bool) → (a || (b || c)) ≡ (b || (a || c))
+    swap true true c = refl
+    swap true false c = refl
+    swap false true c = refl
+    swap false false c = refl
+
+pub lines-listed : (names : List ℕ) (ws before : List (List ℕ)) (ls : List Line) → ((v : List ℕ) → any-same v ws ≡ any-same v before) → joined (add-lines names ws ls) ≡ joined ws ++ lines-words names (listed names before ls)
+unfolding add-lines add-line
+lines-listed names ws before [] e = sym (append-nil (joined ws))
+lines-listed names ws before (l ∷ ls) e =
+    subst (λ c. joined (add-lines names (choose c (λ _. ws ++ (line-words names l ∷ [])) (λ _. ws)) ls) ≡ joined ws ++ lines-words names (listed names before (l ∷ ls)))
+    (ap (λ b. line-in names l && not b) (sym (e (line-words names l))))
+    (go (line-in names l && not (any-same (line-words names l) before))
+    (lines-listed names (ws ++ (line-words names l ∷ [])) (line-words names l ∷ before) ls (λ v. any-snoc v (line-words names l) ws ∙ ap (λ b. same-words v (line-words names l) || b) (e v)))
+    (lines-listed names ws before ls e))
+  where
+    v : List ℕ
+    v = line-words names l
+
+    go : (b : Bool) → joined (add-lines names (ws ++ (v ∷ [])) ls) ≡ joined (ws ++ (v ∷ [])) ++ lines-words names (listed names (v ∷ before) ls) → joined (add-lines names ws ls) ≡ joined ws ++ lines-words names (listed names before ls)
+        → joined (add-lines names (choose b (λ _. ws ++ (v ∷ [])) (λ _. ws)) ls) ≡ joined ws ++ lines-words names (choose b (λ _. l ∷ listed names (v ∷ before) ls) (λ _. listed names before ls))
+    go true h i = h ∙ ap (λ x. x ++ lines-words names (listed names (v ∷ before) ls)) (joined-snoc ws v) ∙ append-assoc (joined ws) v (lines-words names (listed names (v ∷ before) ls))
+    go false h i = i
+
+pub row-moved : {o o′ : List ℕ} {place to : ℕ} {v : List ℕ} {goal : Bool} → o′ ≡ o → Row o place to v goal → Row o′ place to v goal
+row-moved {o} {o′} {place} {to} {v} {goal} e g = subst (λ x. Row x place to v goal) (sym e) g

@@ -1,0 +1,219 @@
+-- One pair of unification, in the shape of the code's tests.
+use Prim.Native.Nat.{ℕ, suc, _+_, _-_, _≤_, _<_}
+use mathlib.Core.Path.{_≡_, refl, sym, ap, ap₂, subst, _∙_}
+use mathlib.Core.Option.{some}
+use mathlib.Core.Bool.{true, false}
+use mathlib.Core.List.{List, [], _∷_}
+use native.Mathlib.Omega.{arith}
+use lib.Dec.{ltb}
+use lib.ListN.{length, set, length-set}
+use lib.Seq.{getD-set-other}
+use borrow.Author.Tests.{eq-eqb, ne-eqb}
+use Rattle.rules.specs.Reading.{choose}
+use Rattle.rules.specs.Syntax.{Atom, Term, var, atom, pair}
+use Rattle.semantics.specs.Substitution.{Substitution, walk}
+use Rattle.semantics.specs.Steps.{waiting, no-steps, at-bound, done, stop}
+use Rattle.semantics.specs.Unify.{scan, is-var, bind, Looked, fails, agrees, binds, parts, look, Pairs, unify-pair, unify}
+use Rattle.semantics.proofs.ScanLaws.{scan-spent}
+use Rattle.semantics.proofs.SubstitutionLaws.{Fits, walk-followed}
+use Rattle.semantics.proofs.UnifyLaws.{Told, look-ok, bind-ok}
+use Rattle.semantics.proofs.UnifyLaws as laws
+use Rattle.engine.specs.Reference.{at, AtomIs, base-of, Stands}
+use Rattle.engine.specs.Memory.{trail-at, BindingsIn, bound}
+use Rattle.engine.specs.Walk.{NodeAt, Binds, Follows}
+use Rattle.engine.specs.Scan.{ScanAs, scan-says}
+use Rattle.engine.specs.Unify.{BindsTo, PartsTo, ComparedAs, Meets, MetGoes, MetAs}
+use Rattle.engine.specs.declared.scan.Scanned.{Scanned}
+use Rattle.engine.specs.declared.scan.Scanned.the-variants as scanned
+use Rattle.engine.specs.declared.unify.Compared.{Compared}
+use Rattle.engine.specs.declared.unify.Compared.the-variants as compared
+use Rattle.engine.specs.declared.unify.Met.the-variants as met
+use Rattle.engine.proofs.ReferenceLaws.{atom-low, atom-test}
+use Rattle.engine.proofs.TrailLaws.{fresh-room, bind-in}
+use Rattle.engine.proofs.ScanSteps.{open-at, atom-at, pair-at, variable-sought}
+
+-- Two followed terms, by the kinds of their words
+
+module _ {ws : List ℕ} {a bits k p b bits′ k′ p′ : ℕ} (left : NodeAt ws a bits k p) (right : NodeAt ws b bits′ k′ p′) (u v : Term) (su : Stands ws a u) (sv : Stands ws b v) where
+  left-bound : (x : ℕ) (v : Term) → Stands ws b v → ¬ (k′ ≡ 0) → look (var x) v ≡ binds x v
+  left-bound x (var y) h n = absurd (n (right .is-kind ∙ h .reads .0))
+  left-bound x (atom c) h n = refl
+  left-bound x (pair c d) h n = refl
+
+  right-bound : (y : ℕ) (u : Term) → Stands ws a u → ¬ (k ≡ 0) → look u (var y) ≡ binds y u
+  right-bound y (var x) h n = absurd (n (left .is-kind ∙ h .reads .0))
+  right-bound y (atom c) h n = refl
+  right-bound y (pair c d) h n = refl
+
+  pub compare-left : k ≡ 0 → ¬ (k′ ≡ 0) → ComparedAs ws (look u v) (compared.Binds (base-of a + p) b)
+  unfolding ComparedAs
+  compare-left e n = let o = open-at left u su e in record {
+    term = v;
+    is = ap (λ z. look z v) (o .is) ∙ left-bound (o .number) v sv n ∙ ap (λ z. binds z v) (sym (o .number-is));
+    low = rw (o .number-is) (o .low);
+    stands = sv;
+  }
+
+  pub compare-right : ¬ (k ≡ 0) → k′ ≡ 0 → ComparedAs ws (look u v) (compared.Binds (base-of b + p′) a)
+  unfolding ComparedAs
+  compare-right n e = let o = open-at right v sv e in record {
+    term = u;
+    is = ap (look u) (o .is) ∙ right-bound (o .number) u su n ∙ ap (λ z. binds z u) (sym (o .number-is));
+    low = rw (o .number-is) (o .low);
+    stands = su;
+  }
+
+  pub compare-same : k ≡ 0 → k′ ≡ 0 → base-of b + p′ ≡ base-of a + p → ComparedAs ws (look u v) compared.Agrees
+  unfolding ComparedAs
+  compare-same e f z =
+      let o = open-at left u su e in let q = open-at right v sv f in
+      ap₂ look (o .is) (q .is) ∙ rw (eq-eqb (o .number) (q .number) (sym (o .number-is) ∙ sym z ∙ q .number-is))
+
+  pub compare-other : k ≡ 0 → k′ ≡ 0 → ¬ (base-of b + p′ ≡ base-of a + p) → ComparedAs ws (look u v) (compared.Binds (base-of a + p) b)
+  unfolding ComparedAs
+  compare-other e f z = let o = open-at left u su e in let q = open-at right v sv f in record {
+    term = v;
+    is = ap₂ look (o .is) (q .is) ∙ rw (ne-eqb (o .number) (q .number) (λ y. z (q .number-is ∙ sym y ∙ sym (o .number-is)))) (ap₂ binds (sym (o .number-is)) (sym (q .is)));
+    low = rw (o .number-is) (o .low);
+    stands = sv;
+  }
+
+  pub compare-parts : k ≡ 4 → k′ ≡ 4 → ComparedAs ws (look u v) (compared.Parts (a + 1) (a + 1 + p) (b + 1) (b + 1 + p′))
+  unfolding ComparedAs
+  compare-parts e f = let o = pair-at left u su e in let q = pair-at right v sv f in record {
+    first = o .left;
+    second = o .right;
+    third = q .left;
+    fourth = q .right;
+    is = ap₂ look (o .is) (q .is);
+    stands-first = o .first;
+    stands-second = o .second;
+    stands-third = q .first;
+    stands-fourth = q .second;
+  }
+
+  pub compare-pair : k ≡ 4 → ¬ (k′ ≡ 0) → ¬ (k′ ≡ 4) → ComparedAs ws (look u v) compared.Fails
+  unfolding ComparedAs
+  compare-pair e n m = let o = pair-at left u su e in let q = atom-at right v sv n m in ap₂ look (o .is) (q .is)
+
+  -- an atom and a word that is no variable's: they are the same atom if the words are
+  pub compare-words : ¬ (k ≡ 0) → ¬ (k ≡ 4) → ¬ (k′ ≡ 0) → ¬ (bits ≡ bits′) → ComparedAs ws (look u v) compared.Fails
+  unfolding ComparedAs
+  compare-words n m n′ z = let o = atom-at left u su n m in ap (λ y. look y v) (o .is) ∙ go (o .which) (o .word-is) v sv
+    where
+      go : (c : Atom) → AtomIs bits c → (v : Term) → Stands ws b v → look (atom c) v ≡ fails
+      go c i (var y) h = absurd (n′ (right .is-kind ∙ h .reads .0))
+      go c i (atom d) h = rw (atom-test bits bits′ c d i (rw (right .is-bits) (h .reads .0)) ∙ ne-eqb bits bits′ z)
+      go c i (pair d e) h = refl
+
+  pub compare-equal : ¬ (k ≡ 0) → ¬ (k ≡ 4) → ¬ (k′ ≡ 0) → bits ≡ bits′ → ComparedAs ws (look u v) compared.Agrees
+  unfolding ComparedAs
+  compare-equal n m n′ z = let o = atom-at left u su n m in ap (λ y. look y v) (o .is) ∙ go (o .which) (o .word-is) v sv
+    where
+      go : (c : Atom) → AtomIs bits c → (v : Term) → Stands ws b v → look (atom c) v ≡ agrees
+      go c i (var y) h = absurd (n′ (right .is-kind ∙ h .reads .0))
+      go c i (atom d) h = rw (atom-test bits bits′ c d i (rw (right .is-bits) (h .reads .0)) ∙ eq-eqb bits bits′ z)
+      go c i (pair d e) h = let l = atom-low bits c i in absurd (omega (arith, l .1, h .reads .0, right .is-bits))
+
+-- One pair met
+
+module _ {ws s : List ℕ} {bs : Substitution} {a : ℕ} {u : Term} {b : ℕ} {v : Term} {trail steps : ℕ} (some-left : 0 < steps) (m : Meets ws s bs a u b v trail) where
+  pub meets-left : Follows ws s bs a u
+  meets-left = record { binds = m .held; stands = m .left }
+
+  pub meets-right : Follows ws s bs b v
+  meets-right = record { binds = m .held; stands = m .right }
+
+  one-more : steps ≡ suc (steps - 1)
+  one-more = omega arith
+
+  looked : (o : Looked) → look (walk bs u) (walk bs v) ≡ o → (fuel : ℕ) (vs : Pairs) → unify (suc fuel) bs vs u v steps ≡ unify-pair o bs vs (steps - 1) (λ bs′ us x y l. unify fuel bs′ us x y l)
+  looked o e fuel vs = ap (unify (suc fuel) bs vs u v) one-more ∙ rw e
+
+  module _ {r : Compared} (cmp : ComparedAs ws (look (walk bs u) (walk bs v)) r) where
+    pub meet-fails : r ≡ compared.Fails → MetAs ws s s bs u v steps (met.Fails (steps - 1))
+    unfolding ComparedAs MetAs
+    meet-fails e = record { untouched = refl; same = looked fails (rw e at cmp) }
+
+    pub meet-agrees : r ≡ compared.Agrees → MetAs ws s s bs u v steps (met.Goes trail (steps - 1))
+    unfolding ComparedAs MetAs
+    meet-agrees e = record { next = bs; new = []; grows = refl; held = m .held; trail-is = m .trail-is; long = refl; above = λ i lo. refl; fewer = omega arith; same = looked agrees (rw e at cmp) }
+
+    pub meet-parts : {c d e f : ℕ} → r ≡ compared.Parts c d e f → MetAs ws s s bs u v steps (met.Parts c d e f)
+    unfolding ComparedAs MetAs
+    meet-parts {c} {d} {e} {f} z =
+        let q : PartsTo ws (look (walk bs u) (walk bs v)) c d e f = rw z at cmp in
+        record {
+          untouched = refl;
+          first = q .first;
+          second = q .second;
+          third = q .third;
+          fourth = q .fourth;
+          stands-first = q .stands-first;
+          stands-second = q .stands-second;
+          stands-third = q .stands-third;
+          stands-fourth = q .stands-fourth;
+          same = λ fuel vs. looked (parts (q .first) (q .second) (q .third) (q .fourth)) (q .is) fuel vs
+              ∙ ap (λ z. choose (ltb (length vs) 512) (λ _. unify fuel bs ((q .second, q .fourth) ∷ vs) (q .first) (q .third) (steps - 1)) (λ _. stop (at-bound waiting) z)) (sym one-more);
+        }
+
+    -- a variable is to be bound, after its occurs check
+    module _ {x w : ℕ} (z : r ≡ compared.Binds x w) where
+      pub bound-term : BindsTo ws (look (walk bs u) (walk bs v)) x w
+      unfolding ComparedAs
+      bound-term = rw z at cmp
+
+      pub bound-follows : Follows ws s bs w (bound-term .term)
+      bound-follows = record { binds = m .held; stands = bound-term .stands }
+
+      told : laws.Binds 0 bs (walk bs u) (walk bs v) x (bound-term .term)
+      told = subst (Told 0 bs (walk bs u) (walk bs v)) (bound-term .is) (look-ok 0 bs (walk bs u) (walk bs v) (walk-followed bs (m .held .good) u) (walk-followed bs (m .held .good) v))
+
+      pub bound-room : (x < 2048) × (trail < 2048) × (w < 33570816)
+      bound-room = (bound-term .low, omega (arith, m .trail-is, fresh-room bs x (bound-term .term) (m .held .bindings-in .fresh) (bound-term .low) (told .opens)), bound-term .stands .below)
+
+      module _ (sr : Scanned) (check : (bs : Substitution) (t : Term) → Follows ws s bs w t → ScanAs x bs t 0 (steps - 1) sr) where
+        scan-is : scan (is-var x) bs [] (bound-term .term) (steps - 1) ≡ scan-says sr [] (λ us t l. scan (is-var x) bs us t l)
+        scan-is = check bs (bound-term .term) bound-follows (is-var x) [] (variable-sought x (bound-term .low)) refl
+
+        pub meet-occurs : {rest : ℕ} → sr ≡ scanned.Found rest → MetAs ws s s bs u v steps (met.Fails rest)
+        unfolding MetAs scan-says
+        meet-occurs {rest} y =
+            let e : scan (is-var x) bs [] (bound-term .term) (steps - 1) ≡ done true rest = rw y at scan-is in
+            record { untouched = refl; same = λ fuel vs. looked (binds x (bound-term .term)) (bound-term .is) fuel vs ∙ rw e }
+
+        pub meet-steps : sr ≡ scanned.StepsOut → MetAs ws s s bs u v steps met.StepsOut
+        unfolding MetAs scan-says
+        meet-steps y =
+            let e : scan (is-var x) bs [] (bound-term .term) (steps - 1) ≡ stop no-steps 0 = rw y at scan-is in
+            record { untouched = refl; same = λ fuel vs. looked (binds x (bound-term .term)) (bound-term .is) fuel vs ∙ rw e }
+
+        pub meet-path : {rest : ℕ} → sr ≡ scanned.PathOut rest → MetAs ws s s bs u v steps (met.PathOut rest)
+        unfolding MetAs scan-says
+        meet-path {rest} y =
+            let e : scan (is-var x) bs [] (bound-term .term) (steps - 1) ≡ stop (at-bound waiting) rest = rw y at scan-is in
+            record { untouched = refl; same = λ fuel vs. looked (binds x (bound-term .term)) (bound-term .is) fuel vs ∙ rw e }
+
+        pub meet-binds : {rest n : ℕ} {s′ : List ℕ} → sr ≡ scanned.Clear rest → n ≡ trail + 1 → s′ ≡ bound s x w trail → MetAs ws s s′ bs u v steps (met.Goes n rest)
+        unfolding MetAs scan-says
+        meet-binds {rest} {n} {s′} y n-is s-is =
+            let t : Term = bound-term .term in
+            let e : scan (is-var x) bs [] t (steps - 1) ≡ done false rest = rw y at scan-is in
+            let is : bind bs x t (steps - 1) ≡ done (some ((x, t) ∷ bs)) rest = rw e in
+            let spent : rest ≤ steps - 1 = rw e at (scan-spent (is-var x) bs (steps - 1) [] t) in
+            let fits : Fits bs x t = bind-ok 0 bs (m .held .good) (walk bs u) (walk bs v) x t told (steps - 1) (some ((x, t) ∷ bs)) rest is .1 in
+            let room : trail < 2048 = bound-room .1 in
+            let lt : x < 2048 = bound-term .low in
+            let trail-is : trail ≡ length bs = m .trail-is in
+            let b₁ : BindingsIn ws (bound s x w trail) ((x, t) ∷ bs) = subst (λ k. BindingsIn ws (bound s x w k) ((x, t) ∷ bs)) (sym trail-is) (bind-in ws s bs x w t (omega (arith, m .held .long)) lt (told .opens) (bound-term .stands) (m .held .bindings-in)) in
+            subst (λ z. MetGoes ws s z bs u v steps n rest) (sym s-is) (record {
+              next = (x, t) ∷ bs;
+              new = (x, t) ∷ [];
+              grows = refl;
+              held = record { short = m .held .short; long = simp length-set (m .held .long); bindings-in = b₁; good = (m .held .good, fits) };
+              trail-is = omega arith;
+              long = simp length-set;
+              above = λ i lo. getD-set-other (set s x (w + 1)) (trail-at trail) i x 0 (omega arith) ∙ getD-set-other s x i (w + 1) 0 (omega arith);
+              fewer = omega arith;
+              same = λ fuel vs. looked (binds x t) (bound-term .is) fuel vs ∙ rw e;
+            })

@@ -1,0 +1,50 @@
+use mathlib.Core.List.{_∷_}
+use Rattle.engine.proofs.LineLaws.{typed-line, lacks-line, differ-line, typed-named, lacks-named, differ-named}
+use borrow.Author.Needs.{needs}
+use Rattle.engine.proofs.line.line_named.Statement.{statement}
+use Rattle.engine.proofs.line.line_named.Tie as tie
+use Rattle.engine.proofs.line.line_named.Reads as reads
+use Rattle.engine.proofs.line.line_named.Lts as lts
+use Rattle.engine.proofs.line.equations_named.Reads as equations-named-reads
+use Rattle.engine.proofs.line.has_name.Reads as has-name-reads
+
+enum-known-line : tie.Need-enum-known-line
+enum-known-line c = search needs
+
+has-name-requires : tie.Need-has-name-requires
+has-name-requires c κs = let q = c .before .before .before .before .before .pre .1 in (c .before .before .before .before .before .pre .0, typed-line (q .3) (c .before .line .given .1) .low)
+
+returns : tie.Need-returns
+returns c = λ l top names h n. typed-named names (typed-line h (c .before .before .line .given .1)) (c .has-name .ensures top names n)
+
+enum-known-line-2 : tie.Need-enum-known-line-2
+enum-known-line-2 c = search needs
+
+has-name-requires-2 : tie.Need-has-name-requires-2
+has-name-requires-2 c κs = let q = c .before .before .before .before .before .pre .1 in (c .before .before .before .before .before .pre .0, lacks-line (q .3) (c .before .line2 .given .1) .low)
+
+returns-2 : tie.Need-returns-2
+returns-2 c = λ l top names h n. lacks-named names (lacks-line h (c .before .before .line2 .given .1)) (c .has-name2 .ensures top names n)
+
+enum-known-line-3 : tie.Need-enum-known-line-3
+enum-known-line-3 c = search needs
+
+equations-named-requires : tie.Need-equations-named-requires
+equations-named-requires c κs = let q = c .before .before .before .before .before .pre .1 in let d = differ-line (q .3) (c .before .line3 .given .1) in (d .room, (d .one ∷ d .rest, q .1, q .2, d .here, d .many, q .4))
+
+returns-3 : tie.Need-returns-3
+returns-3 c = λ l top names h n. let d = differ-line h (c .before .before .line3 .given .1) in differ-named names d (c .equations-named .ensures (d .one ∷ d .rest) top names (d .here) (d .many) n)
+
+pub line-named-spec : {M : Type 1} → statement M
+line-named-spec =
+    tie.close
+    (tie.spec
+    enum-known-line
+    has-name-requires
+    returns
+    enum-known-line-2
+    has-name-requires-2
+    returns-2
+    enum-known-line-3
+    equations-named-requires
+    returns-3)

@@ -1,0 +1,67 @@
+-- `take_constraint` keeps the constraint and reviews it.
+use Rattle.engine.proofs.NarrowTaken.{constraint-full, constraint-kept, constraint-keeps, constraint-long, constraint-took}
+use borrow.Author.Needs.{needs}
+use Rattle.engine.proofs.narrow.take_constraint.Statement.{statement}
+use Rattle.engine.proofs.narrow.take_constraint.Tie as tie
+use Rattle.engine.proofs.narrow.take_constraint.Reads as reads
+use Rattle.engine.proofs.narrow.take_constraint.Lts as lts
+use Rattle.engine.proofs.narrow.after_review.Reads as after-review-reads
+use Rattle.engine.proofs.narrow.narrowed.Reads as narrowed-reads
+use Rattle.engine.proofs.review.review.Reads as review-reads
+
+add-t9 : tie.Need-add-t9
+add-t9 c = search needs
+
+returns : tie.Need-returns
+returns c = λ P p cs base d k. constraint-full k _ (c .before .if1 .taken)
+
+cast-scratch : tie.Need-cast-scratch
+cast-scratch c = search needs
+
+add-scratch : tie.Need-add-scratch
+add-scratch c = search needs
+
+mul-scratch : tie.Need-mul-scratch
+mul-scratch c = search needs
+
+slice-write-scratch : tie.Need-slice-write-scratch
+slice-write-scratch c = search needs
+
+add-review : tie.Need-add-review
+add-review c = search needs
+
+review-requires : tie.Need-review-requires
+review-requires c κs = (_, _, _, constraint-kept (c .before .before .before .before .before .before .before .pre .5) (c .before .before .before .if1 .left), constraint-keeps (c .before .before .before .before .before .before .before .pre .5))
+
+add-narrowed : tie.Need-add-narrowed
+add-narrowed c = search needs
+
+narrowed-requires : tie.Need-narrowed-requires
+narrowed-requires c κs = search needs
+
+after-review-requires : tie.Need-after-review-requires
+after-review-requires c κs = search needs
+
+same-length : tie.Need-same-length
+same-length c = constraint-long (c .before .before .before .before .before .before .before .before .before .before .before .before .before .pre .5) (c .before .before .before .before .before .before .before .before .before .if1 .left) (c .before .before .before .before .before .review .ensures)
+
+returns-2 : tie.Need-returns-2
+returns-2 c = λ P p cs base d k. constraint-took k (c .before .before .before .before .before .before .before .before .before .if1 .left) (c .before .before .before .before .before .review .ensures) (c .before .narrowed .ensures) (c .after-review .ensures)
+
+pub take-constraint-spec : {M : Type 1} → statement M
+take-constraint-spec =
+    tie.close
+    (tie.spec
+    add-t9
+    returns
+    cast-scratch
+    add-scratch
+    mul-scratch
+    slice-write-scratch
+    add-review
+    review-requires
+    add-narrowed
+    narrowed-requires
+    after-review-requires
+    same-length
+    returns-2)

@@ -1,0 +1,48 @@
+use Rattle.engine.proofs.PageLaws.{same-missed, same-found, same-short, read-back}
+use borrow.Author.Needs.{needs}
+use Rattle.engine.proofs.page.same_line.Statement.{statement}
+use Rattle.engine.proofs.page.same_line.Tie as tie
+use Rattle.engine.proofs.page.same_line.Reads as reads
+use Rattle.engine.proofs.page.same_line.Lts as lts
+use Rattle.engine.proofs.line.put_line.Reads as put-line-reads
+
+put-line-requires : tie.Need-put-line-requires
+put-line-requires c κs = search needs
+
+enum-told : tie.Need-enum-told
+enum-told c = search needs
+
+same-length : tie.Need-same-length
+same-length c = search needs
+
+returns : tie.Need-returns
+returns c = let q = c .before .before .before .before .before .before .before .before .before .pre .4 in (read-back (c .before .before .before .before .put-line .ensures (q .0) (q .1) (q .2) (q .3) (q .4) (q .5)), λ l top names w h n e s to. same-missed w (c .before .before .before .before .put-line .ensures l top names h n e) s to (c .enum-told .given .1))
+
+enum-known-end : tie.Need-enum-known-end
+enum-known-end c = search needs
+
+same-length-2 : tie.Need-same-length-2
+same-length-2 c = search needs
+
+returns-2 : tie.Need-returns-2
+returns-2 c = let q = c .before .before .before .before .before .before .before .before .before .before .before .pre .4 in (read-back (c .before .before .before .before .before .before .put-line .ensures (q .0) (q .1) (q .2) (q .3) (q .4) (q .5)), λ l top names w h n e s to. same-found w (c .before .before .before .before .before .before .put-line .ensures l top names h n e) s to (c .before .before .end .given .1) (c .if1 .taken))
+
+same-length-3 : tie.Need-same-length-3
+same-length-3 c = search needs
+
+returns-3 : tie.Need-returns-3
+returns-3 c = let q = c .before .before .before .before .before .before .before .before .before .before .before .pre .4 in (read-back (c .before .before .before .before .before .before .put-line .ensures (q .0) (q .1) (q .2) (q .3) (q .4) (q .5)), λ l top names w h n e s to. same-short w (c .before .before .before .before .before .before .put-line .ensures l top names h n e) s to (c .before .before .end .given .1) (c .if1 .left))
+
+pub same-line-spec : {M : Type 1} → statement M
+same-line-spec =
+    tie.close
+    (tie.spec
+    put-line-requires
+    enum-told
+    same-length
+    returns
+    enum-known-end
+    same-length-2
+    returns-2
+    same-length-3
+    returns-3)

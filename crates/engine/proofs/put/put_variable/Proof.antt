@@ -1,0 +1,46 @@
+use native.Mathlib.Omega.{arith}
+use Rattle.engine.proofs.PutLaws.{variable-number, variable-put}
+use borrow.Author.Needs.{needs}
+use Rattle.engine.proofs.put.put_variable.Statement.{statement}
+use Rattle.engine.proofs.put.put_variable.Tie as tie
+use Rattle.engine.proofs.put.put_variable.Reads as reads
+use Rattle.engine.proofs.put.put_variable.Lts as lts
+use Rattle.engine.proofs.put.put_one.Reads as put-one-reads
+use Rattle.word.proofs.Word.new.Reads as new-reads
+
+add-number : tie.Need-add-number
+add-number c = search needs
+
+mul-number : tie.Need-mul-number
+mul-number c = search needs
+
+shared-slice-read-number : tie.Need-shared-slice-read-number
+shared-slice-read-number c = search needs
+
+sub-number : tie.Need-sub-number
+sub-number c = omega (arith, variable-number (c .before .before .before .pre .2) (c .before .before .before .pre .3 .2) (c .before .before .before .pre .3 .3))
+
+new-requires : tie.Need-new-requires
+new-requires c κs = search needs
+
+put-one-requires : tie.Need-put-one-requires
+put-one-requires c κs = search needs
+
+same-length : tie.Need-same-length
+same-length c = search needs
+
+returns : tie.Need-returns
+returns c = λ top names n m l. variable-put (c .before .before .before .before .before .before .before .before .pre .2) n m (c .before .before .before .new .ensures) (c .before .before .put-one .ensures l)
+
+pub put-variable-spec : {M : Type 1} → statement M
+put-variable-spec =
+    tie.close
+    (tie.spec
+    add-number
+    mul-number
+    shared-slice-read-number
+    sub-number
+    new-requires
+    put-one-requires
+    same-length
+    returns)

@@ -1,0 +1,47 @@
+-- `reaches` looks at one constraint as the definition does.
+use Rattle.engine.proofs.ReferenceLaws.{stands-inside}
+use Rattle.engine.proofs.ReviewSteps.{reached, reaches-other, reaches-no-variable, reaches-another, reaches-it}
+use borrow.Author.Needs.{needs}
+use Rattle.engine.proofs.review.reaches.Statement.{statement}
+use Rattle.engine.proofs.review.reaches.Tie as tie
+
+node-at-requires : tie.Need-node-at-requires
+node-at-requires c κs = search needs
+
+returns : tie.Need-returns
+returns c = λ bs d k b h e. reaches-other (c .before .before .node-at .ensures) bs d k _ h e (c .if1 .taken)
+
+add-walk : tie.Need-add-walk
+add-walk c = search needs
+
+walk-requires : tie.Need-walk-requires
+walk-requires c κs = let p = c .before .before .before .before .before .pre in let q = reached (c .before .before .node-at .ensures) (p .0) (p .1) (p .2) 0 (p .4) (p .5) (c .if1 .left) in (p .0, q .term, record { binds = p .3; stands = q .stands })
+
+node-at-requires-2 : tie.Need-node-at-requires-2
+node-at-requires-2 c κs = let p = c .before .before .before .before .before .before .pre in let q = reached (c .before .before .before .node-at .ensures) (p .0) (p .1) (p .2) 0 (p .4) (p .5) (c .before .if1 .left) in stands-inside (c .walk .ensures (p .0) (q .term) (record { binds = p .3; stands = q .stands }))
+
+returns-2 : tie.Need-returns-2
+returns-2 c = λ bs d k b h e. let q = reached (c .before .before .before .before .before .before .node-at .ensures) bs d k (c .before .before .before .before .before .before .before .before .before .args .variable) h e (c .before .before .before .before .if1 .left) in reaches-no-variable (c .before .before .before .before .before .before .node-at .ensures) bs d k _ h e (c .before .before .before .before .if1 .left) (c .before .before .before .walk .ensures bs (q .term) (record { binds = b; stands = q .stands })) (c .before .before .node-at2 .ensures) (c .if2 .taken)
+
+add-if3 : tie.Need-add-if3
+add-if3 c = search needs
+
+returns-3 : tie.Need-returns-3
+returns-3 c = λ bs d k b h e. let q = reached (c .before .before .before .before .before .before .before .before .node-at .ensures) bs d k (c .before .before .before .before .before .before .before .before .before .before .before .args .variable) h e (c .before .before .before .before .before .before .if1 .left) in reaches-another (c .before .before .before .before .before .before .before .before .node-at .ensures) bs d k _ h e (c .before .before .before .before .before .before .if1 .left) (c .before .before .before .before .before .walk .ensures bs (q .term) (record { binds = b; stands = q .stands })) (c .before .before .before .before .node-at2 .ensures) (c .before .before .if2 .left) (c .if3 .taken)
+
+returns-4 : tie.Need-returns-4
+returns-4 c = λ bs d k b h e. let q = reached (c .before .before .before .before .before .before .before .before .node-at .ensures) bs d k (c .before .before .before .before .before .before .before .before .before .before .before .args .variable) h e (c .before .before .before .before .before .before .if1 .left) in reaches-it (c .before .before .before .before .before .before .before .before .node-at .ensures) bs d k _ h e (c .before .before .before .before .before .before .if1 .left) (c .before .before .before .before .before .walk .ensures bs (q .term) (record { binds = b; stands = q .stands })) (c .before .before .before .before .node-at2 .ensures) (c .before .before .if2 .left) (c .if3 .left)
+
+pub reaches-spec : {M : Type 1} → statement M
+reaches-spec =
+    tie.close
+    (tie.spec
+    node-at-requires
+    returns
+    add-walk
+    walk-requires
+    node-at-requires-2
+    returns-2
+    add-if3
+    returns-3
+    returns-4)

@@ -1,0 +1,94 @@
+-- `review` goes by the kind of the constraint's word.
+use Rattle.engine.proofs.ReviewSteps.{differ-at, absento-at, typed-at, symbols-are, numbers-are, review-none, review-differ, review-absento, review-typed}
+use borrow.Author.Needs.{needs}
+use Rattle.engine.proofs.review.review.Statement.{statement}
+use Rattle.engine.proofs.review.review.Tie as tie
+
+returns : tie.Need-returns
+returns c = λ bs cs d h k. review-none h d (c .before .before .before .args .steps) (c .if1 .taken)
+
+sub-left : tie.Need-sub-left
+sub-left c = search needs
+
+node-at-requires : tie.Need-node-at-requires
+node-at-requires c κs = search needs
+
+add-skip : tie.Need-add-skip
+add-skip c = search needs
+
+skip-requires : tie.Need-skip-requires
+skip-requires c κs = let p = c .before .before .before .before .before .pre in let q = differ-at (c .before .node-at .ensures) (p .2) (p .4) (c .if2 .taken) in (q .left, q .first)
+
+add-review-differ : tie.Need-add-review-differ
+add-review-differ c = search needs
+
+review-differ-requires : tie.Need-review-differ-requires
+review-differ-requires c κs = let p = c .before .before .before .before .before .before .before .pre in let q = differ-at (c .before .before .before .node-at .ensures) (p .2) (p .4) (c .before .before .if2 .taken) in
+    (p .0, q .left, q .right, record { held = p .3 .held; left = q .first; right = q .second _ (c .before .skip .ensures (q .left) (q .first)); trail-is = p .3 .trail-is })
+
+same-length : tie.Need-same-length
+same-length c = search needs
+
+returns-2 : tie.Need-returns-2
+returns-2 c = λ bs cs d h k. let q = differ-at (c .before .before .before .before .before .before .node-at .ensures) d k (c .before .before .before .before .before .if2 .taken) in
+    review-differ h d (c .before .before .before .before .before .before .before .before .before .before .args .steps) (c .before .before .before .before .before .before .before .if1 .left) (q .left) (q .right) (q .is) _ _ (c .before .before .review-differ .ensures bs (q .left) (q .right) (record { held = h .held; left = q .first; right = q .second _ (c .before .before .before .before .skip .ensures (q .left) (q .first)); trail-is = h .trail-is }))
+
+review-absento-requires : tie.Need-review-absento-requires
+review-absento-requires c κs = let p = c .before .before .before .before .before .before .before .pre in let q = absento-at (c .before .before .before .node-at .ensures) (p .2) (p .4) (c .before .if3 .taken) in (p .0, q .tag, q .term, p .3 .held, q .keeps)
+
+same-length-2 : tie.Need-same-length-2
+same-length-2 c = search needs
+
+returns-3 : tie.Need-returns-3
+returns-3 c = λ bs cs d h k. let q = absento-at (c .before .before .before .before .node-at .ensures) d k (c .before .before .if3 .taken) in review-absento h d (c .before .before .before .before .before .before .before .before .args .steps) (c .before .before .before .before .before .if1 .left) (q .tag) (q .term) (q .is) _ (c .review-absento .ensures bs (q .tag) (q .term) (h .held) (q .keeps))
+
+add-review-type : tie.Need-add-review-type
+add-review-type c = search needs
+
+review-type-requires : tie.Need-review-type-requires
+review-type-requires c κs = let p = c .before .before .before .before .before .before .before .before .pre in let q = typed-at (c .before .before .before .before .node-at .ensures) (p .2) (p .4) (c .before .before .before .if2 .left) (c .before .before .if3 .left) in let s = symbols-are q (c .before .if4 .taken) in (p .0, p .1, q .sort, q .term, p .3, q .stands, s .0, s .1)
+
+same-length-3 : tie.Need-same-length-3
+same-length-3 c = search needs
+
+returns-4 : tie.Need-returns-4
+returns-4 c = λ bs cs d h k. let q = typed-at (c .before .before .before .before .before .node-at .ensures) d k (c .before .before .before .before .if2 .left) (c .before .before .before .if3 .left) in let s = symbols-are q (c .before .before .if4 .taken) in
+    review-typed h d (c .before .before .before .before .before .before .before .before .before .args .steps) (c .before .before .before .before .before .before .if1 .left) (q .sort) (q .term) (q .is) _ (c .review-type .ensures bs cs (q .sort) (q .term) h (q .stands) (s .0) (s .1))
+
+add-review-type-2 : tie.Need-add-review-type-2
+add-review-type-2 c = search needs
+
+review-type-requires-2 : tie.Need-review-type-requires-2
+review-type-requires-2 c κs = let p = c .before .before .before .before .before .before .before .before .pre in let q = typed-at (c .before .before .before .before .node-at .ensures) (p .2) (p .4) (c .before .before .before .if2 .left) (c .before .before .if3 .left) in let s = numbers-are q (c .before .if4 .left) in (p .0, p .1, q .sort, q .term, p .3, q .stands, s .0, s .1)
+
+same-length-4 : tie.Need-same-length-4
+same-length-4 c = search needs
+
+returns-5 : tie.Need-returns-5
+returns-5 c = λ bs cs d h k. let q = typed-at (c .before .before .before .before .before .node-at .ensures) d k (c .before .before .before .before .if2 .left) (c .before .before .before .if3 .left) in let s = numbers-are q (c .before .before .if4 .left) in
+    review-typed h d (c .before .before .before .before .before .before .before .before .before .args .steps) (c .before .before .before .before .before .before .if1 .left) (q .sort) (q .term) (q .is) _ (c .review-type2 .ensures bs cs (q .sort) (q .term) h (q .stands) (s .0) (s .1))
+
+pub review-spec : {M : Type 1} → statement M
+review-spec =
+    tie.close
+    (tie.spec
+    returns
+    sub-left
+    node-at-requires
+    add-skip
+    skip-requires
+    add-review-differ
+    review-differ-requires
+    same-length
+    returns-2
+    review-absento-requires
+    same-length-2
+    returns-3
+    add-review-type
+    review-type-requires
+    same-length-3
+    returns-4
+    add-review-type-2
+    review-type-requires-2
+    same-length-4
+    returns-5)

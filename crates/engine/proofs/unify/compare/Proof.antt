@@ -1,0 +1,87 @@
+-- `compare` looks at two followed terms as the definition does, by the kinds of their words.
+use Rattle.engine.proofs.ReferenceLaws.{stands-inside}
+use Rattle.engine.proofs.UnifySteps.{compare-left, compare-right, compare-same, compare-other, compare-parts, compare-pair, compare-words, compare-equal}
+use borrow.Author.Needs.{needs}
+use Rattle.engine.proofs.unify.compare.Statement.{statement}
+use Rattle.engine.proofs.unify.compare.Tie as tie
+
+node-at-requires : tie.Need-node-at-requires
+node-at-requires c κs = stands-inside (c .before .pre .2)
+
+node-at-requires-2 : tie.Need-node-at-requires-2
+node-at-requires-2 c κs = stands-inside (c .before .before .pre .3)
+
+add-x : tie.Need-add-x
+add-x c = search needs
+
+returns : tie.Need-returns
+returns c = λ u v h k. compare-left (c .before .before .before .node-at .ensures) (c .before .before .node-at2 .ensures) u v h k (c .before .if1 .taken) (c .if2 .taken)
+
+add-if3 : tie.Need-add-if3
+add-if3 c = search needs
+
+returns-2 : tie.Need-returns-2
+returns-2 c = λ u v h k. compare-same (c .before .before .before .before .node-at .ensures) (c .before .before .before .node-at2 .ensures) u v h k (c .before .before .if1 .taken) (c .before .if2 .left) (c .if3 .taken)
+
+returns-3 : tie.Need-returns-3
+returns-3 c = λ u v h k. compare-other (c .before .before .before .before .node-at .ensures) (c .before .before .before .node-at2 .ensures) u v h k (c .before .before .if1 .taken) (c .before .if2 .left) (c .if3 .left)
+
+add-t16 : tie.Need-add-t16
+add-t16 c = search needs
+
+returns-4 : tie.Need-returns-4
+returns-4 c = λ u v h k. compare-right (c .before .before .before .node-at .ensures) (c .before .before .node-at2 .ensures) u v h k (c .before .if1 .left) (c .if4 .taken)
+
+returns-5 : tie.Need-returns-5
+returns-5 c = λ u v h k. compare-pair (c .before .before .before .before .before .node-at .ensures) (c .before .before .before .before .node-at2 .ensures) u v h k (c .before .if5 .taken) (c .before .before .if4 .left) (c .if6 .taken)
+
+add-t18 : tie.Need-add-t18
+add-t18 c = search needs
+
+add-t19 : tie.Need-add-t19
+add-t19 c = search needs
+
+add-t20 : tie.Need-add-t20
+add-t20 c = search needs
+
+add-t21 : tie.Need-add-t21
+add-t21 c = search needs
+
+add-t22 : tie.Need-add-t22
+add-t22 c = search needs
+
+add-t23 : tie.Need-add-t23
+add-t23 c = search needs
+
+returns-6 : tie.Need-returns-6
+returns-6 c = λ u v h k. compare-parts (c .before .before .before .before .before .node-at .ensures) (c .before .before .before .before .node-at2 .ensures) u v h k (c .before .if5 .taken) (c .if6 .left)
+
+returns-7 : tie.Need-returns-7
+returns-7 c = λ u v h k. compare-words (c .before .before .before .before .before .before .before .node-at .ensures) (c .before .before .before .before .before .before .node-at2 .ensures) u v h k (c .before .before .before .before .before .if1 .left) (c .before .before .before .if5 .left) (c .before .before .before .before .if4 .left) (c .if7 .taken)
+
+returns-8 : tie.Need-returns-8
+returns-8 c = λ u v h k. compare-equal (c .before .before .before .before .before .before .before .node-at .ensures) (c .before .before .before .before .before .before .node-at2 .ensures) u v h k (c .before .before .before .before .before .if1 .left) (c .before .before .before .if5 .left) (c .before .before .before .before .if4 .left) (c .if7 .left)
+
+pub compare-spec : {M : Type 1} → statement M
+compare-spec =
+    tie.close
+    (tie.spec
+    node-at-requires
+    node-at-requires-2
+    add-x
+    returns
+    add-if3
+    returns-2
+    returns-3
+    add-t16
+    returns-4
+    returns-5
+    add-t18
+    add-t19
+    add-t20
+    add-t21
+    add-t22
+    add-t23
+    returns-6
+    returns-7
+    returns-8)

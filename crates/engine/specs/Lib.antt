@@ -1,0 +1,15 @@
+pub mod Reference
+pub mod Memory
+pub mod Walk
+pub mod Trail
+pub mod Scan
+pub mod Unify
+pub mod Review
+pub mod Taking
+pub mod Calling
+pub mod Follow
+pub mod Names
+pub mod Put
+pub mod Lines
+pub mod Page
+pub mod Keep

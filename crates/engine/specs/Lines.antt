@@ -1,0 +1,45 @@
+-- Lines of an answer, as the writer holds them: a trial's equations stay in its own entries of the trail (right sides) and in the pairs' area (variables).
+use Prim.Native.Nat.{ℕ, suc, _+_, _/_, _%_, _≤_, _<_}
+use mathlib.Core.Path.{_≡_}
+use mathlib.Core.List.{List, [], _∷_, _++_}
+use lib.Dec.{eqb}
+use lib.ListN.{length}
+use Rattle.rules.specs.Reading.{choose}
+use Rattle.rules.specs.Syntax.{Atom, Term, Sort}
+use Rattle.rules.specs.Written.{atom-word, sort-kind, goal-words}
+use Rattle.semantics.specs.Answer.{index, reify, Line, is-sort, lacks, not-all, differ-goal}
+use Rattle.semantics.proofs.TermLaws.{term-size}
+use Rattle.engine.specs.Reference.{at}
+use Rattle.engine.specs.Follow.{Resolves}
+use Rattle.engine.specs.declared.line.Listed.{Listed}
+use Rattle.engine.specs.declared.line.Listed.the-variants.{Typed, Lacks, Differ}
+
+-- the variable of equation i: two to a word
+unfoldable pub half : List ℕ → ℕ → ℕ
+half s i = choose (eqb (i % 2) 0) (λ _. at s (10752 + i / 2) % 65536) (λ _. at s (10752 + i / 2) / 65536)
+
+-- equation i of those above the mark, its right side followed
+pub record Equation (ws s : List ℕ) (pairs mark i : ℕ) (b : ℕ × Term) : Type 0 where
+  pub variable : half s i ≡ b .0
+  pub low : b .0 < 2048
+  pub right : Resolves ws s (at s (2048 + mark + i)) (b .1)
+  pub small : term-size (b .1) ≤ pairs
+
+-- from equation i on
+unfoldable pub Equations : List ℕ → List ℕ → ℕ → ℕ → ℕ → List (ℕ × Term) → Type 0
+Equations ws s pairs mark i [] = Unit {0}
+Equations ws s pairs mark i (b ∷ cs) = Equation ws s pairs mark i b × Equations ws s pairs mark (i + 1) cs
+
+-- the words of an equation, with names
+unfoldable pub equation-words : List ℕ → ℕ × Term → List ℕ
+equation-words names b = goal-words (differ-goal (index (b .0) names, reify names (b .1)))
+
+unfoldable pub equations-words : List ℕ → List (ℕ × Term) → List ℕ
+equations-words names [] = []
+equations-words names (b ∷ cs) = equation-words names b ++ equations-words names cs
+
+-- what the code's line says
+pub data LineAs (ws s : List ℕ) (pairs : ℕ) : Listed → Line → Type 0 where
+  as-sort : {k x : ℕ} (sort : Sort) → k ≡ sort-kind sort → x < 2048 → LineAs ws s pairs (Typed k x) (is-sort sort x)
+  as-lacks : {tag x : ℕ} (a : Atom) → tag ≡ atom-word a → x < 2048 → LineAs ws s pairs (Lacks tag x) (lacks a x)
+  as-differ : {mark count : ℕ} (b : ℕ × Term) (cs : List (ℕ × Term)) → Equations ws s pairs mark 0 (b ∷ cs) → count ≡ suc (length cs) → mark + count ≤ 2048 → LineAs ws s pairs (Differ mark count) (not-all (b ∷ cs))

@@ -1,0 +1,90 @@
+-- The lines of an answer under way: which of them stay, and where they stand in the output.
+use Prim.Native.Nat.{ℕ, _+_, _≤_, _<_}
+use mathlib.Core.Path.{_≡_}
+use mathlib.Core.Bool.{Bool, true, false, _&&_, not}
+use mathlib.Core.List.{List, [], _∷_, _++_}
+use lib.ListN.{length}
+use Rattle.rules.specs.Reading.{choose}
+use Rattle.rules.specs.Syntax.{Atom, Term, var, atom, pair, Sort}
+use Rattle.rules.specs.Written.{part, atom-word, sort-kind}
+use Rattle.rules.specs.Inner.{Stands as Spells}
+use Rattle.semantics.specs.Answer.{Line, line-in, line-words, any-same}
+use Rattle.semantics.proofs.TermLaws.{term-size}
+use Rattle.engine.specs.Follow.{Resolves}
+use Rattle.engine.specs.Names.{Names}
+use Rattle.engine.specs.Put.{Touched, Laid}
+
+-- words one after the other
+unfoldable pub joined : List (List ℕ) → List ℕ
+joined [] = []
+joined (w ∷ ws) = w ++ joined ws
+
+-- the words of the lines that stay, after one line more
+unfoldable pub add-line : List ℕ → List (List ℕ) → Line → List (List ℕ)
+add-line names done l = choose (line-in names l && not (any-same (line-words names l) done)) (λ _. done ++ (line-words names l ∷ [])) (λ _. done)
+
+-- and after several
+unfoldable pub add-lines : List ℕ → List (List ℕ) → List Line → List (List ℕ)
+add-lines names done [] = done
+add-lines names done (l ∷ ls) = add-lines names (add-line names done l) ls
+
+-- a line's first word counts the rest
+pub record Whole (w : List ℕ) : Type 0 where
+  pub kind : ℕ
+  pub rest : List ℕ
+  pub is : w ≡ part kind rest
+  pub short : length rest < 268435456
+
+unfoldable pub Wholes : List (List ℕ) → Type 0
+Wholes [] = Unit {0}
+Wholes (w ∷ ws) = Whole w × Wholes ws
+
+-- lines stand from `place` up to `to`
+pub record Rows (o : List ℕ) (place to : ℕ) (ws : List (List ℕ)) : Type 0 where
+  pub words : Spells o place (joined ws)
+  pub ends : to ≡ place + length (joined ws)
+  pub whole : Wholes ws
+
+-- The answer so far, `head` and then lines from `first` on: it stands from `begin` up to `place`, or it does not fit.
+pub record Page (o₀ o : List ℕ) (begin first end place : ℕ) (full : Bool) (head : List ℕ) (lines : List (List ℕ)) : Type 0 where
+  pub stands : full ≡ false → Laid o₀ o begin end true (head ++ joined lines) place
+  pub whole : full ≡ false → Wholes lines
+  pub begins : full ≡ false → first ≡ begin + length head
+  pub over : full ≡ true → end < begin + length (head ++ joined lines)
+  pub touched : Touched o₀ o begin end
+
+-- the variables of a term where they stand, also those that stand there again
+unfoldable pub occurrences : Term → List ℕ
+occurrences (var x) = x ∷ []
+occurrences (atom a) = []
+occurrences (pair s t) = occurrences s ++ occurrences t
+
+-- an absence or a type whose lines are to be added
+pub record AddsAbsent (ws s out : List ℕ) (tag w first end place : ℕ) (full : Bool) (pairs : ℕ) : Type 0 where
+  pub before : List ℕ
+  pub begin : ℕ
+  pub head : List ℕ
+  pub lines : List (List ℕ)
+  pub top : ℕ
+  pub names : List ℕ
+  pub page : Page before out begin first end place full head lines
+  pub named : Names s top names
+  pub tag-of : Atom
+  pub is-tag : tag ≡ atom-word tag-of
+  pub term : Term
+  pub here : Resolves ws s w term
+  pub small : term-size term ≤ pairs
+
+pub record AddsTyped (ws s out : List ℕ) (kind w first end place : ℕ) (full : Bool) : Type 0 where
+  pub before : List ℕ
+  pub begin : ℕ
+  pub head : List ℕ
+  pub lines : List (List ℕ)
+  pub top : ℕ
+  pub names : List ℕ
+  pub page : Page before out begin first end place full head lines
+  pub named : Names s top names
+  pub sort : Sort
+  pub is-kind : kind ≡ sort-kind sort
+  pub term : Term
+  pub here : Resolves ws s w term

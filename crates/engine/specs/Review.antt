@@ -1,0 +1,45 @@
+-- What the reviews of constraints promise.
+use Prim.Native.Nat.{ℕ, _≤_}
+use mathlib.Core.Path.{_≡_}
+use mathlib.Core.Bool.{Bool, true, false}
+use mathlib.Core.List.{List}
+use lib.ListN.{length}
+use Rattle.rules.specs.Syntax.{Sort, symbols, numbers, Constraint}
+use Rattle.semantics.specs.Substitution.{Substitution}
+use Rattle.semantics.specs.Steps.{waiting, no-steps, at-bound, Outcome, done, stop}
+use Rattle.engine.specs.Memory.{BindingsIn, KeptIn}
+use Rattle.engine.specs.Walk.{Binds}
+use Rattle.engine.specs.Trail.{Apart}
+use Rattle.engine.specs.declared.review.Reviewed.{Reviewed}
+use Rattle.engine.specs.declared.review.Reviewed.the-variants.{Fails, Holds, StepsOut, PathOut}
+
+-- the kind of the atoms of a sort
+abbrev pub atom-kind : Sort → ℕ
+atom-kind symbols = 1
+atom-kind numbers = 2
+
+-- the kind of the constraint for the other sort
+abbrev pub other-kind : Sort → ℕ
+other-kind symbols = 8
+other-kind numbers = 7
+
+-- the scratch holds a path's bindings and constraints
+pub record Kept (ws s : List ℕ) (bs : Substitution) (cs : List Constraint) (trail kept : ℕ) : Type 0 where
+  pub held : Binds ws s bs
+  pub kept-in : KeptIn ws s 0 cs
+  pub kept-is : kept ≡ length cs
+  pub few : kept ≤ 512
+  pub trail-is : trail ≡ length bs
+
+-- what each case says
+unfoldable pub review-says : Reviewed → Outcome Bool
+review-says (Fails left) = done true left
+review-says (Holds left) = done false left
+review-says StepsOut = stop no-steps 0
+review-says (PathOut left) = stop (at-bound waiting) left
+
+-- as the definition says; trials are undone, also where they stop, and what they used is free
+pub record ReviewedAs (ws s s′ : List ℕ) (bs : Substitution) (o : Outcome Bool) (r : Reviewed) : Type 0 where
+  pub says : o ≡ review-says r
+  pub bindings-in : BindingsIn ws s′ bs
+  pub apart : Apart s s′

@@ -1,0 +1,129 @@
+-- What the functions that take a goal promise: the code's state and answers, and what they say of a path.
+use Prim.Native.Nat.{ℕ, _+_, _-_, _≤_, _<_}
+use mathlib.Core.Path.{_≡_}
+use mathlib.Core.List.{List}
+use lib.ListN.{length}
+use Rattle.rules.specs.Syntax.{Relation, Program}
+use Rattle.rules.specs.Reading.{after}
+use Rattle.semantics.specs.Steps as steps
+use Rattle.semantics.specs.Steps.{Outcome, done, stop}
+use Rattle.semantics.specs.Path.{Task, Path, ChoicePoint, Taken, leaves, cut, goes}
+use Rattle.semantics.specs.Round.{Tally, Next, going, over, completed}
+use Rattle.semantics.proofs.Sound.{Sound}
+use Rattle.semantics.proofs.Programs.{ProgramIn}
+use Rattle.semantics.proofs.Cover.{TaskIn}
+use Rattle.engine.specs.Reference.{GoalAt, TaskAt}
+use Rattle.engine.specs.Memory.{Registers, saved, Stored}
+use Rattle.engine.specs.declared.state.State.{State}
+use Rattle.engine.specs.declared.state.Bound.{Bound}
+use Rattle.engine.specs.declared.state.Bound.the-variants.{Variables, Goals, Disjunctions, Constraints, Waiting}
+use Rattle.engine.specs.declared.state.Stop.{Stop}
+use Rattle.engine.specs.declared.state.Stop.the-variants.{Steps, Path as PathLimit}
+use Rattle.engine.specs.declared.state.Took.{Took}
+use Rattle.engine.specs.declared.state.Took.the-variants.{Goes, Leaves, Cut, Stops}
+use Rattle.engine.specs.declared.review.Reviewed.{Reviewed}
+use Rattle.engine.specs.declared.review.Reviewed.the-variants as reviewed
+use Rattle.engine.specs.declared.state.Resumed.{Resumed}
+use Rattle.engine.specs.declared.state.Resumed.the-variants.{Over, Goal}
+
+-- the registers of a state, beside which it has the number of choice points and the steps left
+abbrev pub registers : State → Registers
+registers st = record { head = st .head; trail = st .trail; made = st .made; put = st .put; kept = st .kept; calls = st .calls }
+
+-- the scratch and the state hold a path and its choice points
+abbrev pub Holds : Program → List ℕ → List ℕ → State → Path → List ChoicePoint → Type 0
+Holds P ws s st p cs = Stored P ws s (registers st) (st .choices) p cs
+
+-- a goal is to be taken, by its reference; its own step is counted, so that one more step than those left is a number
+pub record Taking (P : Program) (ws s : List ℕ) (st : State) (w : ℕ) (p : Path) (cs : List ChoicePoint) (task : Task) : Type 0 where
+  pub stored : Holds P ws s st p cs
+  pub task-at : TaskAt ws w task
+  pub step-taken : st .left < 4294967295
+
+-- and the path is in order: its bindings are acyclic and of variables made, its constraints hold with them, and so are the goal's variables
+pub record Ready (P : Program) (ws s : List ℕ) (st : State) (w : ℕ) (p : Path) (cs : List ChoicePoint) (task : Task) : Type 0 where
+  pub taking : Taking P ws s st w p cs task
+  pub short : length ws ≤ 16384
+  pub program-in : ProgramIn P
+  pub sound : Sound (p .bindings) (p .kept) (p .made)
+  pub task-in : TaskIn P (p .made) task
+
+-- the same before the goal's own step
+pub record Due (P : Program) (ws s : List ℕ) (st : State) (w : ℕ) (p : Path) (cs : List ChoicePoint) (task : Task) : Type 0 where
+  pub stored : Holds P ws s st p cs
+  pub task-at : TaskAt ws w task
+  pub short : length ws ≤ 16384
+  pub program-in : ProgramIn P
+  pub sound : Sound (p .bindings) (p .kept) (p .made)
+  pub task-in : TaskIn P (p .made) task
+
+-- what each case of the code's enums says
+abbrev pub bound-of : Bound → steps.Bound
+bound-of Variables = steps.variables
+bound-of Goals = steps.goals
+bound-of Disjunctions = steps.disjunctions
+bound-of Constraints = steps.constraints
+bound-of Waiting = steps.waiting
+
+abbrev pub stop-of : Stop → steps.Stop
+stop-of Steps = steps.no-steps
+stop-of (PathLimit b) = steps.at-bound (bound-of b)
+
+-- A goal has been taken. Where the path is left or cut, some path is there with the same choice points: one that fails in the middle has more bindings than the definition's.
+unfoldable pub TookAs : Program → List ℕ → List ℕ → List ChoicePoint → Outcome Taken → Took → Type 0
+TookAs P ws s cs (done leaves l) (Leaves st) = (st .left ≡ l) × ((p : Path) × Holds P ws s st p cs)
+TookAs P ws s cs (done leaves l) (Cut st) = ⊥
+TookAs P ws s cs (done leaves l) (Goes st) = ⊥
+TookAs P ws s cs (done leaves l) (Stops why m) = ⊥
+TookAs P ws s cs (done cut l) (Leaves st) = ⊥
+TookAs P ws s cs (done cut l) (Cut st) = (st .left ≡ l) × ((p : Path) × Holds P ws s st p cs)
+TookAs P ws s cs (done cut l) (Goes st) = ⊥
+TookAs P ws s cs (done cut l) (Stops why m) = ⊥
+TookAs P ws s cs (done (goes p cs′) l) (Leaves st) = ⊥
+TookAs P ws s cs (done (goes p cs′) l) (Cut st) = ⊥
+TookAs P ws s cs (done (goes p cs′) l) (Goes st) = (st .left ≡ l) × Holds P ws s st p cs′
+TookAs P ws s cs (done (goes p cs′) l) (Stops why m) = ⊥
+TookAs P ws s cs (stop why l) (Leaves st) = ⊥
+TookAs P ws s cs (stop why l) (Cut st) = ⊥
+TookAs P ws s cs (stop why l) (Goes st) = ⊥
+TookAs P ws s cs (stop why l) (Stops y m) = (stop-of y ≡ why) × (m ≡ l)
+
+-- one goal more waits, in the next cell
+abbrev pub one-waits : State → State
+one-waits st = record { head = st .put + 1; trail = st .trail; made = st .made; put = st .put + 1; kept = st .kept; calls = st .calls; choices = st .choices; left = st .left }
+
+-- one choice point more
+abbrev pub one-choice-more : State → State
+one-choice-more st = record { head = st .head; trail = st .trail; made = st .made; put = st .put; kept = st .kept; calls = st .calls; choices = st .choices + 1; left = st .left }
+
+-- Backtracking with a tally t: the round is over, or the next alternative is to be taken on the path as it was when its disjunction was taken.
+unfoldable pub BackAs : Program → List ℕ → List ℕ → ℕ → Tally → Next → Resumed → Type 0
+BackAs P ws s left t (over r) Over = r ≡ completed t
+BackAs P ws s left t (over r) (Goal st w) = ⊥
+BackAs P ws s left t (going state) Over = ⊥
+BackAs P ws s left t (going state) (Goal st w) = TaskAt ws w (state .task) × Holds P ws s st (state .path) (state .choices) × (st .left ≡ left) × (state .tally ≡ t)
+
+-- the state of the newest choice point, with one goal more put to wait, and so many choice points
+abbrev pub resumed : List ℕ → State → ℕ → State
+resumed s st n =
+    let r : Registers = saved s (st .choices - 1) in
+    record { head = r .head; trail = r .trail; made = r .made; put = r .put + 1; kept = r .kept; calls = r .calls; choices = n; left = st .left }
+
+-- a relation as the table has it
+pub record RelationIs (ws : List ℕ) (params vars body : ℕ) (R : Relation) : Type 0 where
+  pub params-is : params ≡ R .params
+  pub vars-is : vars ≡ R .vars
+  pub body-at : GoalAt ws body (R .body)
+  pub inside : after ws body ≤ length ws
+  pub small : after ws body ≤ 16384
+
+-- so many entries on the trail, so many constraints, so many steps left
+abbrev pub narrow : State → ℕ → ℕ → ℕ → State
+narrow st n k l = record { head = st .head; trail = n; made = st .made; put = st .put; kept = k; calls = st .calls; choices = st .choices; left = l }
+
+-- what a review comes to for its path
+abbrev pub review-took : State → Reviewed → Took
+review-took st (reviewed.Fails l) = Leaves (narrow st (st .trail) (st .kept) l)
+review-took st (reviewed.Holds l) = Goes (narrow st (st .trail) (st .kept) l)
+review-took st reviewed.StepsOut = Stops Steps 0
+review-took st (reviewed.PathOut l) = Stops (PathLimit Waiting) l

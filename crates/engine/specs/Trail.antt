@@ -1,0 +1,31 @@
+-- What `bind` and `undo` promise.
+use Prim.Native.Nat.{ℕ, _+_, _≤_, _<_}
+use mathlib.Core.Path.{_≡_}
+use mathlib.Core.List.{List, _++_}
+use lib.ListN.{length}
+use Rattle.semantics.specs.Substitution.{Substitution}
+use Rattle.engine.specs.Reference.{at}
+use Rattle.engine.specs.Memory.{BindingsIn}
+
+-- two scratches are the same from lo up to hi
+abbrev pub Same : List ℕ → List ℕ → ℕ → ℕ → Type 0
+Same s s′ lo hi = (i : ℕ) → lo ≤ i → i < hi → at s′ i ≡ at s i
+
+-- the trail has grown from `mark` entries, those of bs, to `trail`
+pub record Trailed (ws s : List ℕ) (new bs : Substitution) (mark trail : ℕ) : Type 0 where
+  pub long : 12288 ≤ length s
+  pub bindings-in : BindingsIn ws s (new ++ bs)
+  pub mark-is : mark ≡ length bs
+  pub trail-is : trail ≡ length (new ++ bs)
+
+-- all that was bound since is taken back, and nothing but the bindings area is touched
+pub record Undone (ws s s′ : List ℕ) (bs : Substitution) : Type 0 where
+  pub bindings-in : BindingsIn ws s′ bs
+  pub long : length s′ ≡ length s
+  pub above : (i : ℕ) → 2048 ≤ i → at s′ i ≡ at s i
+
+-- nothing but bindings, trail and waiting pairs is touched
+pub record Apart (s s′ : List ℕ) : Type 0 where
+  pub long : length s′ ≡ length s
+  pub middle : Same s s′ 4096 10752
+  pub above : (i : ℕ) → 11776 ≤ i → at s′ i ≡ at s i

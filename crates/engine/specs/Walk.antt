@@ -1,0 +1,29 @@
+-- What `node_at`, `skip` and `walk` promise.
+use Prim.Native.Nat.{ℕ, _≤_}
+use mathlib.Core.Path.{_≡_}
+use mathlib.Core.List.{List}
+use lib.ListN.{length}
+use Rattle.rules.specs.Reading.{kind-at, payload-at}
+use Rattle.rules.specs.Syntax.{Term}
+use Rattle.semantics.specs.Substitution.{Substitution}
+use Rattle.semantics.proofs.SubstitutionLaws.{Good}
+use Rattle.engine.specs.Reference.{at, pos-of, Stands}
+use Rattle.engine.specs.Memory.{BindingsIn}
+
+-- the word at a reference, with its kind and payload
+pub record NodeAt (ws : List ℕ) (w bits k p : ℕ) : Type 0 where
+  pub is-bits : bits ≡ at ws (pos-of w)
+  pub is-kind : k ≡ kind-at ws (pos-of w)
+  pub is-payload : p ≡ payload-at ws (pos-of w)
+
+-- the scratch holds a path's bindings, and they are acyclic
+pub record Binds (ws s : List ℕ) (bs : Substitution) : Type 0 where
+  pub short : length ws ≤ 16384
+  pub long : 12288 ≤ length s
+  pub bindings-in : BindingsIn ws s bs
+  pub good : Good bs
+
+-- and a reference stands for a term
+pub record Follows (ws s : List ℕ) (bs : Substitution) (w : ℕ) (t : Term) : Type 0 where
+  pub binds : Binds ws s bs
+  pub stands : Stands ws w t

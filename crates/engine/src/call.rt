@@ -1,0 +1,107 @@
+// Taking calls: a relation's variables are made anew, its parameters bound to the arguments, its body put to wait.
+use crate::goal::wait;
+use crate::state::Bound;
+use crate::state::State;
+use crate::state::Stop;
+use crate::state::Took;
+use crate::table::relation;
+use crate::trail::bind;
+use crate::walk::node_at;
+use crate::walk::skip;
+use word::Word;
+ghost use mathlib.Core.Path.{_≡_};
+ghost use mathlib.Core.List.{List};
+ghost use Prim.Native.Nat.{ℕ, _+_, _<_, _≤_};
+ghost use lib.ListN.{length};
+ghost use Rattle.rules.specs.Syntax.{Term, call, Program};
+ghost use Rattle.semantics.specs.Substitution.{Substitution, argument};
+ghost use Rattle.semantics.specs.Path.{Path, ChoicePoint, take-call};
+ghost use Rattle.engine.specs.Reference.{Stands};
+ghost use Rattle.engine.specs.Walk.{Follows};
+ghost use Rattle.engine.specs.Taking.{Ready, TookAs};
+ghost use Rattle.engine.specs.Calling.{Passing, Passed};
+
+// What a parameter is bound to: its argument, but of a variable the last variable on its way.
+fn last(program: &[u32], scratch: &[u32], term: u32) -> u32
+    requires { ⌜ ((bs : Substitution) × (t : Term) × Follows (now program) (now scratch) bs term t) ⌝ }
+    ensures { λ r. ⌜ ((bs : Substitution) (t : Term) → Follows (now (program .entry)) (now (scratch .entry)) bs term t → Stands (now (program .entry)) r (argument bs t)) ⌝ }
+{
+    let mut at = term;
+    loop {
+        let node = node_at(program, at);
+        if node.kind != Word::VARIABLE {
+            return at;
+        }
+        let entry = scratch[(at / 16384 + node.payload) as usize];
+        if entry == 0 {
+            return at;
+        }
+        if node_at(program, entry - 1).kind != Word::VARIABLE {
+            return at;
+        }
+        at = entry - 1;
+    }
+}
+
+// Binds `count` variables from `first` on to the arguments from a reference on. Returns the entries of the trail then.
+fn pass(
+    program: &[u32],
+    scratch: &mut [u32],
+    arguments: u32,
+    first: u32,
+    count: u32,
+    trail: u32,
+) -> u32
+    requires { ⌜ ((base : ℕ) × (to : ℕ) × (whole : Substitution) × Passing (now program) (now scratch) (now scratch) base to whole first trail arguments count) ⌝ }
+    ensures { λ r. ⌜ ((base to : ℕ) (whole : Substitution) → Passing (now (program .entry)) (now (scratch .entry)) (now (scratch .entry)) base to whole first trail arguments count
+        → Passed (now (program .entry)) (now (scratch .entry)) (now (scratch .exit)) whole r) ⌝ }
+{
+    let mut at = arguments;
+    let mut variable = first;
+    let mut left = count;
+    let mut bound = trail;
+    while left != 0 {
+        let term = last(program, scratch, at);
+        bound = bind(scratch, variable, term, bound);
+        at = skip(program, at);
+        variable += 1;
+        left -= 1;
+    }
+    bound
+}
+
+// A call is cut when the path has made as many as the round's number.
+pub(crate) fn take_call(
+    program: &[u32],
+    scratch: &mut [u32],
+    st: State,
+    goal: u32,
+    round: u32,
+) -> Took
+    requires { ⌜ ((P : Program) × (p : Path) × (cs : List ChoicePoint) × (base : ℕ) × (n : ℕ) × (ts : List Term) × Ready P (now program) (now scratch) st goal p cs (base, call n ts)) ⌝ }
+    ensures { λ r. ⌜ ((P : Program) (p : Path) (cs : List ChoicePoint) (base n : ℕ) (ts : List Term) → Ready P (now (program .entry)) (now (scratch .entry)) st goal p cs (base, call n ts)
+        → TookAs P (now (program .entry)) (now (scratch .exit)) cs (take-call round P p cs base n ts (st .left)) r) ⌝ }
+{
+    if round <= st.calls {
+        return Took::Cut(st);
+    }
+    let called = relation(program, scratch, node_at(program, goal + 1).payload);
+    if 2048 < st.made + called.vars {
+        return Took::Stops(Stop::Path(Bound::Variables), st.left + 1);
+    }
+    if 1024 <= st.put {
+        return Took::Stops(Stop::Path(Bound::Goals), st.left + 1);
+    }
+    let trail = pass(program, scratch, goal + 2, st.made, called.params, st.trail);
+    let made = State {
+        head: st.head,
+        trail,
+        made: st.made + called.vars,
+        put: st.put,
+        kept: st.kept,
+        calls: st.calls + 1,
+        choices: st.choices,
+        left: st.left,
+    };
+    Took::Goes(wait(scratch, made, called.body + 16384 * st.made))
+}

@@ -1,0 +1,93 @@
+// Taking conjunctions and disjunctions.
+use crate::choice::push;
+use crate::state::Bound;
+use crate::state::State;
+use crate::state::Stop;
+use crate::state::Took;
+use crate::walk::node_at;
+ghost use mathlib.Core.Path.{_≡_};
+ghost use mathlib.Core.List.{List};
+ghost use Prim.Native.Nat.{ℕ, _+_, _<_, _≤_};
+ghost use lib.ListN.{length};
+ghost use Rattle.rules.specs.Syntax.{Goals, conj, disj, Program};
+ghost use Rattle.semantics.specs.Path.{Path, ChoicePoint, take-conj, take-disj};
+ghost use Rattle.engine.specs.Memory.{cell};
+ghost use Rattle.engine.specs.Taking.{Taking, TookAs, one-waits};
+
+// A conjunction puts its goals to wait: in cells one after the other, each linked to the next and the last to the old head.
+pub(crate) fn take_conj(program: &[u32], scratch: &mut [u32], st: State, conjunction: u32) -> Took
+    requires { ⌜ ((P : Program) × (p : Path) × (cs : List ChoicePoint) × (base : ℕ) × (gs : Goals) × Taking P (now program) (now scratch) st conjunction p cs (base, conj gs)) ⌝ }
+    ensures { λ r. ⌜ ((P : Program) (p : Path) (cs : List ChoicePoint) (base : ℕ) (gs : Goals) → Taking P (now (program .entry)) (now (scratch .entry)) st conjunction p cs (base, conj gs)
+        → TookAs P (now (program .entry)) (now (scratch .exit)) cs (take-conj p cs base gs (st .left)) r) ⌝ }
+{
+    let end = conjunction % 16384 + 1 + node_at(program, conjunction).payload;
+    let mut goal = conjunction + 1;
+    let mut filled = st.put;
+    loop {
+        if 1024 <= filled {
+            return Took::Stops(Stop::Path(Bound::Goals), st.left + 1);
+        }
+        let size = node_at(program, goal).payload;
+        let at = (6142 + 2 * (filled + 1)) as usize;
+        scratch[at] = goal;
+        if goal % 16384 + 1 + size == end {
+            scratch[at + 1] = st.head;
+            return Took::Goes(State {
+                head: st.put + 1,
+                trail: st.trail,
+                made: st.made,
+                put: filled + 1,
+                kept: st.kept,
+                calls: st.calls,
+                choices: st.choices,
+                left: st.left,
+            });
+        }
+        scratch[at + 1] = filled + 2;
+        goal = goal + 1 + size;
+        filled = filled + 1;
+    }
+}
+
+// Puts a goal to wait: it stands ahead of all older ones.
+pub(crate) fn wait(scratch: &mut [u32], st: State, goal: u32) -> State
+    requires { ⌜ (12288 ≤ length (now scratch)) × (st .put < 1024) ⌝ }
+    ensures { λ r. ⌜ (r ≡ one-waits st) × (now (scratch .exit) ≡ cell (now (scratch .entry)) (st .put + 1) goal (st .head)) ⌝ }
+{
+    let at = (6142 + 2 * (st.put + 1)) as usize;
+    let next = (6143 + 2 * (st.put + 1)) as usize;
+    scratch[at] = goal;
+    scratch[next] = st.head;
+    State {
+        head: st.put + 1,
+        trail: st.trail,
+        made: st.made,
+        put: st.put + 1,
+        kept: st.kept,
+        calls: st.calls,
+        choices: st.choices,
+        left: st.left,
+    }
+}
+
+// A disjunction puts its first alternative to wait; where there are more, a choice point has the others.
+pub(crate) fn take_disj(program: &[u32], scratch: &mut [u32], st: State, disjunction: u32) -> Took
+    requires { ⌜ ((P : Program) × (p : Path) × (cs : List ChoicePoint) × (base : ℕ) × (gs : Goals) × Taking P (now program) (now scratch) st disjunction p cs (base, disj gs)) ⌝ }
+    ensures { λ r. ⌜ ((P : Program) (p : Path) (cs : List ChoicePoint) (base : ℕ) (gs : Goals) → Taking P (now (program .entry)) (now (scratch .entry)) st disjunction p cs (base, disj gs)
+        → TookAs P (now (program .entry)) (now (scratch .exit)) cs (take-disj p cs base gs (st .left)) r) ⌝ }
+{
+    if 1024 <= st.put {
+        return Took::Stops(Stop::Path(Bound::Goals), st.left + 1);
+    }
+    let end = disjunction % 16384 + 1 + node_at(program, disjunction).payload;
+    let first = disjunction + 1;
+    let size = node_at(program, first).payload;
+    if first % 16384 + 1 + size == end {
+        return Took::Goes(wait(scratch, st, first));
+    }
+    if 256 <= st.choices {
+        return Took::Stops(Stop::Path(Bound::Disjunctions), st.left + 1);
+    }
+    let pushed = push(scratch, st, first + 1 + size, end);
+    Took::Goes(wait(scratch, pushed, first))
+}

@@ -1,0 +1,21 @@
+// The engine: the search over lent words.
+mod call;
+mod choice;
+mod follow;
+mod goal;
+mod keep;
+mod layout;
+mod line;
+mod lines;
+mod names;
+mod narrow;
+mod page;
+mod put;
+mod review;
+mod scan;
+mod state;
+mod table;
+mod take;
+mod trail;
+mod unify;
+mod walk;

@@ -1,0 +1,317 @@
+// One line of an answer.
+use crate::layout::NAMES;
+use crate::layout::PAIRS;
+use crate::layout::TRAIL;
+use crate::names::all_named;
+use crate::put::Put;
+use crate::put::put_head;
+use crate::put::put_one;
+use crate::put::put_term;
+use crate::put::put_variable;
+use word::Word;
+ghost use mathlib.Core.Path.{_≡_};
+ghost use mathlib.Core.Bool.{Bool, true, _&&_};
+ghost use mathlib.Core.List.{List, _∷_};
+ghost use Prim.Native.Nat.{ℕ, _≤_, _<_, _+_};
+ghost use lib.ListN.{length};
+ghost use Rattle.rules.specs.Syntax.{Term, var};
+ghost use Rattle.rules.specs.Written.{part, term-words};
+ghost use Rattle.semantics.specs.Answer.{member, index, vars-in, bindings-in, line-in, line-words, Line, not-all};
+ghost use Rattle.engine.specs.Names.{Names};
+ghost use Rattle.engine.specs.Put.{Placed};
+ghost use Rattle.engine.specs.Lines.{half, Equation, Equations, equation-words, equations-words, LineAs};
+
+// A type's kind and the variable; absento's tag and the variable; a trial's mark and how many equations it has.
+pub enum Listed {
+    Typed(u32, u32),
+    Lacks(u32, u32),
+    Differ(usize, usize),
+}
+
+// The variable of equation `i`.
+pub(crate) fn variable_at(scratch: &[u32], i: usize) -> u32
+    requires { ⌜ (12288 ≤ length (now scratch)) × (i < 2048) ⌝ }
+    ensures { λ r. ⌜ r ≡ half (now (scratch .entry)) i ⌝ }
+{
+    let bits = scratch[PAIRS + i / 2];
+    if i % 2 == 0 {
+        return bits % 65536;
+    }
+    bits / 65536
+}
+
+// Equation `i` of a trial.
+pub(crate) fn put_equation(
+    program: &[u32],
+    scratch: &[u32],
+    output: &mut [u32],
+    mark: usize,
+    i: usize,
+    start: usize,
+    end: usize,
+    write: bool,
+    pairs: u32,
+) -> Put
+    requires { ⌜ (end ≤ length (now output)) × (end < 268435456) × (mark + i < 2048) × ((b : ℕ × Term) × (top : ℕ) × (names : List ℕ) × Equation (now program) (now scratch) pairs mark i b × Names (now scratch) top names × ((member (b .0) names && vars-in names (b .1)) ≡ true)) ⌝ }
+    ensures { λ r. ⌜ ((b : ℕ × Term) (top : ℕ) (names : List ℕ) → Equation (now (program .entry)) (now (scratch .entry)) pairs mark i b → Names (now (scratch .entry)) top names → (member (b .0) names && vars-in names (b .1)) ≡ true → start ≤ end → Placed (now (output .entry)) (now (output .exit)) start end write (equation-words names b) r) ⌝ }
+{
+    if end <= start {
+        return Put::Missed;
+    }
+    let x = variable_at(scratch, i);
+    match put_variable(scratch, output, x, start + 1, end, write) {
+        Put::Missed => {
+            return Put::Missed;
+        }
+        Put::End(middle) => {
+            let right = scratch[TRAIL + mark + i];
+            match put_term(program, scratch, output, right, middle, end, write, pairs) {
+                Put::Missed => {
+                    return Put::Missed;
+                }
+                Put::End(next) => {
+                    return put_head(output, start, next, Word::DIFFER, write);
+                }
+            }
+        }
+    }
+}
+
+// The first `count` equations, one after the other.
+pub(crate) fn put_equations(
+    program: &[u32],
+    scratch: &[u32],
+    output: &mut [u32],
+    mark: usize,
+    count: usize,
+    start: usize,
+    end: usize,
+    write: bool,
+    pairs: u32,
+) -> Put
+    requires { ⌜ (start ≤ end) × (end ≤ length (now output)) × (end < 268435456) × (mark + count ≤ 2048) × ((cs : List (ℕ × Term)) × (top : ℕ) × (names : List ℕ) × Equations (now program) (now scratch) pairs mark 0 cs × (count ≡ length cs) × Names (now scratch) top names × (bindings-in names cs ≡ true)) ⌝ }
+    ensures { λ r. ⌜ ((cs : List (ℕ × Term)) (top : ℕ) (names : List ℕ) → Equations (now (program .entry)) (now (scratch .entry)) pairs mark 0 cs → count ≡ length cs → Names (now (scratch .entry)) top names → bindings-in names cs ≡ true → Placed (now (output .entry)) (now (output .exit)) start end write (equations-words names cs) r) ⌝ }
+{
+    let mut at = start;
+    let mut i = 0;
+    while i < count {
+        match put_equation(program, scratch, output, mark, i, at, end, write, pairs) {
+            Put::Missed => {
+                return Put::Missed;
+            }
+            Put::End(next) => {
+                at = next;
+                i += 1;
+            }
+        }
+    }
+    Put::End(at)
+}
+
+// A type.
+pub(crate) fn put_typed(
+    scratch: &[u32],
+    output: &mut [u32],
+    kind: u32,
+    x: u32,
+    start: usize,
+    end: usize,
+    write: bool,
+) -> Put
+    requires { ⌜ (end ≤ length (now output)) × (12288 ≤ length (now scratch)) × (x < 2048) × (kind < 16) × ((top : ℕ) × (names : List ℕ) × Names (now scratch) top names × (member x names ≡ true)) ⌝ }
+    ensures { λ r. ⌜ ((top : ℕ) (names : List ℕ) → Names (now (scratch .entry)) top names → member x names ≡ true → start ≤ end → Placed (now (output .entry)) (now (output .exit)) start end write (part kind (term-words (var (index x names)))) r) ⌝ }
+{
+    match put_one(output, start, end, Word::new(kind, 1).bits, write) {
+        Put::Missed => {
+            return Put::Missed;
+        }
+        Put::End(next) => {
+            return put_variable(scratch, output, x, next, end, write);
+        }
+    }
+}
+
+// An absence.
+pub(crate) fn put_lacks(
+    scratch: &[u32],
+    output: &mut [u32],
+    tag: u32,
+    x: u32,
+    start: usize,
+    end: usize,
+    write: bool,
+) -> Put
+    requires { ⌜ (end ≤ length (now output)) × (12288 ≤ length (now scratch)) × (x < 2048) × ((top : ℕ) × (names : List ℕ) × Names (now scratch) top names × (member x names ≡ true)) ⌝ }
+    ensures { λ r. ⌜ ((top : ℕ) (names : List ℕ) → Names (now (scratch .entry)) top names → member x names ≡ true → start ≤ end → Placed (now (output .entry)) (now (output .exit)) start end write (part 9 (tag ∷ term-words (var (index x names)))) r) ⌝ }
+{
+    match put_one(output, start, end, Word::new(Word::ABSENTO, 2).bits, write) {
+        Put::Missed => {
+            return Put::Missed;
+        }
+        Put::End(second) => match put_one(output, second, end, tag, write) {
+            Put::Missed => {
+                return Put::Missed;
+            }
+            Put::End(third) => {
+                return put_variable(scratch, output, x, third, end, write);
+            }
+        },
+    }
+}
+
+// A disequality: several equations are put under one word.
+pub(crate) fn put_differ(
+    program: &[u32],
+    scratch: &[u32],
+    output: &mut [u32],
+    mark: usize,
+    count: usize,
+    start: usize,
+    end: usize,
+    write: bool,
+    pairs: u32,
+) -> Put
+    requires { ⌜ (start ≤ end) × (end ≤ length (now output)) × (end < 268435456) × (mark + count ≤ 2048) × ((b : ℕ × Term) × (cs : List (ℕ × Term)) × (top : ℕ) × (names : List ℕ) × Equations (now program) (now scratch) pairs mark 0 (b ∷ cs) × (count ≡ length (b ∷ cs)) × Names (now scratch) top names × (bindings-in names (b ∷ cs) ≡ true)) ⌝ }
+    ensures { λ r. ⌜ ((b : ℕ × Term) (cs : List (ℕ × Term)) (top : ℕ) (names : List ℕ) → Equations (now (program .entry)) (now (scratch .entry)) pairs mark 0 (b ∷ cs) → count ≡ length (b ∷ cs) → Names (now (scratch .entry)) top names → bindings-in names (b ∷ cs) ≡ true → Placed (now (output .entry)) (now (output .exit)) start end write (line-words names (not-all (b ∷ cs))) r) ⌝ }
+{
+    if count == 1 {
+        return put_equations(
+            program,
+            scratch,
+            output,
+            mark,
+            count,
+            start,
+            end,
+            write,
+            pairs,
+        );
+    }
+    if end <= start {
+        return Put::Missed;
+    }
+    match put_equations(
+        program,
+        scratch,
+        output,
+        mark,
+        count,
+        start + 1,
+        end,
+        write,
+        pairs,
+    ) {
+        Put::Missed => {
+            return Put::Missed;
+        }
+        Put::End(next) => {
+            return put_head(output, start, next, Word::DISJUNCTION, write);
+        }
+    }
+}
+
+// A line whose variables have names.
+pub(crate) fn put_line(
+    program: &[u32],
+    scratch: &[u32],
+    output: &mut [u32],
+    line: Listed,
+    start: usize,
+    end: usize,
+    write: bool,
+    pairs: u32,
+) -> Put
+    requires { ⌜ (start ≤ end) × (end ≤ length (now output)) × (end < 268435456) × (12288 ≤ length (now scratch)) × ((l : Line) × (top : ℕ) × (names : List ℕ) × LineAs (now program) (now scratch) pairs line l × Names (now scratch) top names × (line-in names l ≡ true)) ⌝ }
+    ensures { λ r. ⌜ ((l : Line) (top : ℕ) (names : List ℕ) → LineAs (now (program .entry)) (now (scratch .entry)) pairs line l → Names (now (scratch .entry)) top names → line-in names l ≡ true → Placed (now (output .entry)) (now (output .exit)) start end write (line-words names l) r) ⌝ }
+{
+    match line {
+        Listed::Typed(kind, x) => {
+            return put_typed(scratch, output, kind, x, start, end, write);
+        }
+        Listed::Lacks(tag, x) => {
+            return put_lacks(scratch, output, tag, x, start, end, write);
+        }
+        Listed::Differ(mark, count) => {
+            return put_differ(
+                program,
+                scratch,
+                output,
+                mark,
+                count,
+                start,
+                end,
+                write,
+                pairs,
+            );
+        }
+    }
+}
+
+pub(crate) fn has_name(scratch: &[u32], x: u32) -> bool
+    requires { ⌜ (12288 ≤ length (now scratch)) × (x < 2048) ⌝ }
+    ensures { λ r. ⌜ ((top : ℕ) (names : List ℕ) → Names (now (scratch .entry)) top names → r ≡ member x names) ⌝ }
+{
+    if scratch[NAMES + x as usize] == 0 {
+        return false;
+    }
+    true
+}
+
+// Whether every variable of equation `i` has a name.
+pub(crate) fn equation_named(
+    program: &[u32],
+    scratch: &[u32],
+    mark: usize,
+    i: usize,
+    pairs: u32,
+) -> bool
+    requires { ⌜ (mark + i < 2048) × ((b : ℕ × Term) × (top : ℕ) × (names : List ℕ) × Equation (now program) (now scratch) pairs mark i b × Names (now scratch) top names) ⌝ }
+    ensures { λ r. ⌜ ((b : ℕ × Term) (top : ℕ) (names : List ℕ) → Equation (now (program .entry)) (now (scratch .entry)) pairs mark i b → Names (now (scratch .entry)) top names → r ≡ (member (b .0) names && vars-in names (b .1))) ⌝ }
+{
+    let x = variable_at(scratch, i);
+    if has_name(scratch, x) {
+        let right = scratch[TRAIL + mark + i];
+        return all_named(program, scratch, right, pairs);
+    }
+    false
+}
+
+// Of the first `count` equations.
+pub(crate) fn equations_named(
+    program: &[u32],
+    scratch: &[u32],
+    mark: usize,
+    count: usize,
+    pairs: u32,
+) -> bool
+    requires { ⌜ (mark + count ≤ 2048) × ((cs : List (ℕ × Term)) × (top : ℕ) × (names : List ℕ) × Equations (now program) (now scratch) pairs mark 0 cs × (count ≡ length cs) × Names (now scratch) top names) ⌝ }
+    ensures { λ r. ⌜ ((cs : List (ℕ × Term)) (top : ℕ) (names : List ℕ) → Equations (now (program .entry)) (now (scratch .entry)) pairs mark 0 cs → count ≡ length cs → Names (now (scratch .entry)) top names → r ≡ bindings-in names cs) ⌝ }
+{
+    let mut i = 0;
+    while i < count {
+        if equation_named(program, scratch, mark, i, pairs) {
+            i += 1;
+        } else {
+            return false;
+        }
+    }
+    true
+}
+
+// Of a line. One that mentions a variable with no name is dropped.
+pub(crate) fn line_named(program: &[u32], scratch: &[u32], line: Listed, pairs: u32) -> bool
+    requires { ⌜ (12288 ≤ length (now scratch)) × ((l : Line) × (top : ℕ) × (names : List ℕ) × LineAs (now program) (now scratch) pairs line l × Names (now scratch) top names) ⌝ }
+    ensures { λ r. ⌜ ((l : Line) (top : ℕ) (names : List ℕ) → LineAs (now (program .entry)) (now (scratch .entry)) pairs line l → Names (now (scratch .entry)) top names → r ≡ line-in names l) ⌝ }
+{
+    match line {
+        Listed::Typed(_, x) => {
+            return has_name(scratch, x);
+        }
+        Listed::Lacks(_, x) => {
+            return has_name(scratch, x);
+        }
+        Listed::Differ(mark, count) => {
+            return equations_named(program, scratch, mark, count, pairs);
+        }
+    }
+}

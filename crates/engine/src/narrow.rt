@@ -1,0 +1,83 @@
+// Taking equalities and constraints: they narrow a path, or it is left.
+use crate::layout::CONSTRAINTS;
+use crate::review::Reviewed;
+use crate::review::review;
+use crate::review::review_all;
+use crate::state::Bound;
+use crate::state::State;
+use crate::state::Stop;
+use crate::state::Took;
+use crate::unify::Unified;
+use crate::unify::unify;
+use crate::walk::skip;
+ghost use mathlib.Core.Path.{_≡_};
+ghost use mathlib.Core.List.{List};
+ghost use Prim.Native.Nat.{ℕ};
+ghost use Rattle.rules.specs.Syntax.{Term, Constraint, equal, constrain, Program};
+ghost use Rattle.semantics.specs.Substitution.{shift, shift-constraint};
+ghost use Rattle.semantics.specs.Path.{Path, ChoicePoint, take-equal, take-constraint};
+ghost use Rattle.engine.specs.Taking.{Ready, TookAs, narrow, review-took};
+
+// The state with so many entries on the trail, so many constraints, so many steps left.
+pub(crate) fn narrowed(st: State, trail: u32, kept: u32, left: u32) -> State
+    ensures { λ r. ⌜ r ≡ narrow st trail kept left ⌝ }
+{
+    State {
+        head: st.head,
+        trail,
+        made: st.made,
+        put: st.put,
+        kept,
+        calls: st.calls,
+        choices: st.choices,
+        left,
+    }
+}
+
+// What a review comes to for its path.
+fn after_review(st: State, reviewed: Reviewed) -> Took
+    ensures { λ r. ⌜ r ≡ review-took st reviewed ⌝ }
+{
+    match reviewed {
+        Reviewed::Fails(left) => Took::Leaves(narrowed(st, st.trail, st.kept, left)),
+        Reviewed::Holds(left) => Took::Goes(narrowed(st, st.trail, st.kept, left)),
+        Reviewed::StepsOut => Took::Stops(Stop::Steps, 0),
+        Reviewed::PathOut(left) => Took::Stops(Stop::Path(Bound::Waiting), left),
+    }
+}
+
+// An equality unifies its terms; where that bound something, the constraints are reviewed.
+pub(crate) fn take_equal(program: &[u32], scratch: &mut [u32], st: State, goal: u32) -> Took
+    requires { ⌜ ((P : Program) × (p : Path) × (cs : List ChoicePoint) × (base : ℕ) × (s : Term) × (t : Term) × Ready P (now program) (now scratch) st goal p cs (base, equal s t)) ⌝ }
+    ensures { λ r. ⌜ ((P : Program) (p : Path) (cs : List ChoicePoint) (base : ℕ) (s t : Term) → Ready P (now (program .entry)) (now (scratch .entry)) st goal p cs (base, equal s t)
+        → TookAs P (now (program .entry)) (now (scratch .exit)) cs (take-equal p cs (shift base s) (shift base t) (st .left)) r) ⌝ }
+{
+    let second = skip(program, goal + 1);
+    match unify(program, scratch, goal + 1, second, st.trail, st.left) {
+        Unified::Joined(trail, left) => {
+            let joined = narrowed(st, trail, st.kept, left);
+            if trail == st.trail {
+                return Took::Goes(joined);
+            }
+            let reviewed = review_all(program, scratch, trail, st.kept, left);
+            after_review(joined, reviewed)
+        }
+        Unified::Failed(trail, left) => Took::Leaves(narrowed(st, trail, st.kept, left)),
+        Unified::StepsOut(trail) => Took::Stops(Stop::Steps, 0),
+        Unified::PathOut(trail, left) => Took::Stops(Stop::Path(Bound::Waiting), left),
+    }
+}
+
+// A constraint is kept, and reviewed.
+pub(crate) fn take_constraint(program: &[u32], scratch: &mut [u32], st: State, goal: u32) -> Took
+    requires { ⌜ ((P : Program) × (p : Path) × (cs : List ChoicePoint) × (base : ℕ) × (c : Constraint) × Ready P (now program) (now scratch) st goal p cs (base, constrain c)) ⌝ }
+    ensures { λ r. ⌜ ((P : Program) (p : Path) (cs : List ChoicePoint) (base : ℕ) (c : Constraint) → Ready P (now (program .entry)) (now (scratch .entry)) st goal p cs (base, constrain c)
+        → TookAs P (now (program .entry)) (now (scratch .exit)) cs (take-constraint p cs (shift-constraint base c) (st .left)) r) ⌝ }
+{
+    if 512 <= st.kept {
+        return Took::Stops(Stop::Path(Bound::Constraints), st.left + 1);
+    }
+    scratch[CONSTRAINTS + st.kept as usize] = goal;
+    let reviewed = review(program, scratch, goal, st.trail, st.kept + 1, st.left);
+    after_review(narrowed(st, st.trail, st.kept + 1, st.left), reviewed)
+}

@@ -1,0 +1,110 @@
+// The lines of one answer: which of them stay. A dropped or repeated line needs no room, not even for a moment.
+use crate::line::Listed;
+use crate::line::line_named;
+use crate::line::put_line;
+use crate::put::Put;
+use word::Word;
+ghost use mathlib.Core.Path.{_≡_};
+ghost use mathlib.Core.Bool.{Bool, true};
+ghost use mathlib.Core.List.{List};
+ghost use Prim.Native.Nat.{ℕ, _≤_, _<_, _+_};
+ghost use lib.ListN.{length};
+ghost use Rattle.rules.specs.Inner.{Stands as Spells};
+ghost use Rattle.semantics.specs.Answer.{line-in, line-words, same-words, any-same, Line};
+ghost use Rattle.engine.specs.Names.{Names};
+ghost use Rattle.engine.specs.Lines.{LineAs};
+ghost use Rattle.engine.specs.Page.{Rows, Page, add-line};
+
+// Where the next line goes, and whether one did not fit.
+pub struct Written {
+    pub at: usize,
+    pub full: bool,
+}
+
+// Whether the line has the words from `place` up to `next`.
+pub(crate) fn same_line(
+    program: &[u32],
+    scratch: &[u32],
+    output: &mut [u32],
+    line: Listed,
+    place: usize,
+    next: usize,
+    pairs: u32,
+) -> bool
+    requires { ⌜ (place ≤ next) × (next ≤ length (now output)) × (next < 268435456) × (12288 ≤ length (now scratch)) × ((l : Line) × (top : ℕ) × (names : List ℕ) × LineAs (now program) (now scratch) pairs line l × Names (now scratch) top names × (line-in names l ≡ true)) ⌝ }
+    ensures { λ r. ⌜ (now (output .exit) ≡ now (output .entry)) × ((l : Line) (top : ℕ) (names : List ℕ) (w : List ℕ) → LineAs (now (program .entry)) (now (scratch .entry)) pairs line l → Names (now (scratch .entry)) top names → line-in names l ≡ true → Spells (now (output .entry)) place w → next ≡ place + length w → r ≡ same-words (line-words names l) w) ⌝ }
+{
+    match put_line(program, scratch, output, line, place, next, false, pairs) {
+        Put::Missed => {
+            return false;
+        }
+        Put::End(end) => {
+            if end == next {
+                return true;
+            }
+            return false;
+        }
+    }
+}
+
+// Whether the line has the same words as an earlier one of this answer.
+pub(crate) fn repeated(
+    program: &[u32],
+    scratch: &[u32],
+    output: &mut [u32],
+    line: Listed,
+    first: usize,
+    at: usize,
+    pairs: u32,
+) -> bool
+    requires { ⌜ (at ≤ length (now output)) × (at < 268435456) × (12288 ≤ length (now scratch)) × ((ws : List (List ℕ)) × (l : Line) × (top : ℕ) × (names : List ℕ) × Rows (now output) first at ws × LineAs (now program) (now scratch) pairs line l × Names (now scratch) top names × (line-in names l ≡ true)) ⌝ }
+    ensures { λ r. ⌜ (now (output .exit) ≡ now (output .entry)) × ((ws : List (List ℕ)) (l : Line) (top : ℕ) (names : List ℕ) → Rows (now (output .entry)) first at ws → LineAs (now (program .entry)) (now (scratch .entry)) pairs line l → Names (now (scratch .entry)) top names → line-in names l ≡ true → r ≡ any-same (line-words names l) ws) ⌝ }
+{
+    let mut place = first;
+    while place < at {
+        let size = Word::from_bits(output[place]).payload() as usize;
+        let next = place + 1 + size;
+        if same_line(program, scratch, output, line, place, next, pairs) {
+            return true;
+        }
+        place = next;
+    }
+    false
+}
+
+// One line more, unless it is dropped or repeats an earlier one.
+pub(crate) fn add_line(
+    program: &[u32],
+    scratch: &[u32],
+    output: &mut [u32],
+    line: Listed,
+    first: usize,
+    end: usize,
+    written: Written,
+    pairs: u32,
+) -> Written
+    requires { ⌜ (end ≤ length (now output)) × (end < 268435456) × (12288 ≤ length (now scratch)) × ((o : List ℕ) × (begin : ℕ) × (head : List ℕ) × (ws : List (List ℕ)) × (l : Line) × (top : ℕ) × (names : List ℕ) × Page o (now output) begin first end (written .at) (written .full) head ws × LineAs (now program) (now scratch) pairs line l × Names (now scratch) top names) ⌝ }
+    ensures { λ r. ⌜ ((o : List ℕ) (begin : ℕ) (head : List ℕ) (ws : List (List ℕ)) (l : Line) (top : ℕ) (names : List ℕ) → Page o (now (output .entry)) begin first end (written .at) (written .full) head ws → LineAs (now (program .entry)) (now (scratch .entry)) pairs line l → Names (now (scratch .entry)) top names → Page o (now (output .exit)) begin first end (r .at) (r .full) head (add-line names ws l)) ⌝ }
+{
+    let at = written.at;
+    if written.full {
+        return Written { at, full: true };
+    }
+    if line_named(program, scratch, line, pairs) {
+        if repeated(program, scratch, output, line, first, at, pairs) {
+            return Written { at, full: false };
+        }
+        match put_line(program, scratch, output, line, at, end, true, pairs) {
+            Put::Missed => {
+                return Written { at, full: true };
+            }
+            Put::End(next) => {
+                return Written {
+                    at: next,
+                    full: false,
+                };
+            }
+        }
+    }
+    Written { at, full: false }
+}

@@ -1,0 +1,43 @@
+// The state of a search, by value: what it saves in a choice point, and two numbers more. Paths and choice points themselves are in the scratch.
+
+pub struct State {
+    // The first waiting goal's cell, or 0.
+    pub head: u32,
+    pub trail: u32,
+    pub made: u32,
+    pub put: u32,
+    pub kept: u32,
+    pub calls: u32,
+    pub choices: u32,
+    // The steps left.
+    pub left: u32,
+}
+
+// The bounds of a path, in the order of document 01.
+pub enum Bound {
+    Variables,
+    Goals,
+    Disjunctions,
+    Constraints,
+    Waiting,
+}
+
+// Why a run stops before its end.
+pub enum Stop {
+    Steps,
+    Path(Bound),
+}
+
+// What taking a goal comes to; a stop carries the steps left.
+pub enum Took {
+    Goes(State),
+    Leaves(State),
+    Cut(State),
+    Stops(Stop, u32),
+}
+
+// Where backtracking leads: to a goal to be taken, by its reference, or to the round's end.
+pub enum Resumed {
+    Over,
+    Goal(State, u32),
+}

@@ -1,0 +1,42 @@
+// Taking a goal, whatever its kind.
+use crate::call::take_call;
+use crate::goal::take_conj;
+use crate::goal::take_disj;
+use crate::narrow::narrowed;
+use crate::narrow::take_constraint;
+use crate::narrow::take_equal;
+use crate::state::State;
+use crate::state::Stop;
+use crate::state::Took;
+use crate::walk::node_at;
+use word::Word;
+ghost use mathlib.Core.List.{List};
+ghost use Rattle.rules.specs.Syntax.{Program};
+ghost use Rattle.semantics.specs.Path.{Task, Path, ChoicePoint, take-goal};
+ghost use Rattle.engine.specs.Taking.{Due, TookAs};
+
+// A step, and what the goal asks for; the round's number bounds its calls.
+pub(crate) fn take(program: &[u32], scratch: &mut [u32], st: State, goal: u32, round: u32) -> Took
+    requires { ⌜ ((P : Program) × (p : Path) × (cs : List ChoicePoint) × (task : Task) × Due P (now program) (now scratch) st goal p cs task) ⌝ }
+    ensures { λ r. ⌜ ((P : Program) (p : Path) (cs : List ChoicePoint) (task : Task) → Due P (now (program .entry)) (now (scratch .entry)) st goal p cs task
+        → TookAs P (now (program .entry)) (now (scratch .exit)) cs (take-goal round P p cs (task .0) (task .1) (st .left)) r) ⌝ }
+{
+    if st.left == 0 {
+        return Took::Stops(Stop::Steps, 0);
+    }
+    let taking = narrowed(st, st.trail, st.kept, st.left - 1);
+    let kind = node_at(program, goal).kind;
+    if kind == Word::EQUAL {
+        return take_equal(program, scratch, taking, goal);
+    }
+    if kind == Word::CONJUNCTION {
+        return take_conj(program, scratch, taking, goal);
+    }
+    if kind == Word::DISJUNCTION {
+        return take_disj(program, scratch, taking, goal);
+    }
+    if kind == Word::CALL {
+        return take_call(program, scratch, taking, goal, round);
+    }
+    take_constraint(program, scratch, taking, goal)
+}

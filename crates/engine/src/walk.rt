@@ -1,0 +1,63 @@
+// Terms by reference: a position in the program and, 16,384 times, the base of its environment. Nothing is copied.
+use word::Word;
+ghost use mathlib.Core.Path.{_≡_};
+ghost use Prim.Native.Nat.{_+_, _<_};
+ghost use lib.ListN.{length};
+ghost use Rattle.rules.specs.Syntax.{Term};
+ghost use Rattle.semantics.specs.Substitution.{Substitution, walk};
+ghost use Rattle.engine.specs.Reference.{pos-of, Stands};
+ghost use Rattle.engine.specs.Walk.{NodeAt, Follows};
+
+// The word at a reference.
+pub struct Node {
+    pub bits: u32,
+    pub kind: u32,
+    pub payload: u32,
+}
+
+pub(crate) fn node_at(program: &[u32], reference: u32) -> Node
+    requires { ⌜ pos-of reference < length (now program) ⌝ }
+    ensures { λ r. ⌜ NodeAt (now (program .entry)) reference (r .bits) (r .kind) (r .payload) ⌝ }
+{
+    let bits = program[(reference % 16384) as usize];
+    let word = Word::from_bits(bits);
+    Node {
+        bits,
+        kind: word.kind(),
+        payload: word.payload(),
+    }
+}
+
+// The term, followed through the bindings: up to an atom, a pair or an open variable.
+pub(crate) fn walk(program: &[u32], scratch: &[u32], term: u32) -> u32
+    requires { ⌜ ((bs : Substitution) × (t : Term) × Follows (now program) (now scratch) bs term t) ⌝ }
+    ensures { λ r. ⌜ ((bs : Substitution) (t : Term) → Follows (now (program .entry)) (now (scratch .entry)) bs term t → Stands (now (program .entry)) r (walk bs t)) ⌝ }
+{
+    let mut at = term;
+    loop {
+        let node = node_at(program, at);
+        if node.kind != Word::VARIABLE {
+            return at;
+        }
+        let entry = scratch[(at / 16384 + node.payload) as usize];
+        if entry == 0 {
+            return at;
+        }
+        at = entry - 1;
+    }
+}
+
+// Past the term at a reference: from second part to second part, then past the last.
+pub(crate) fn skip(program: &[u32], term: u32) -> u32
+    requires { ⌜ ((t : Term) × Stands (now program) term t) ⌝ }
+    ensures { λ r. ⌜ ((t : Term) (h : Stands (now (program .entry)) term t) → r + pos-of term ≡ term + h .to) ⌝ }
+{
+    let mut at = term;
+    loop {
+        let node = node_at(program, at);
+        if node.kind != Word::PAIR {
+            return at + 1;
+        }
+        at = at + 1 + node.payload;
+    }
+}

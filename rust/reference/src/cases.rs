@@ -47,24 +47,15 @@ pub fn case(rng: &mut Rng) -> Case {
             around(rng, words, 2, 200)
         }
         66..=67 => small_settings(rng),
-        68..=74 => {
-            let words = many_variables(rng);
-            around_path(rng, words)
-        }
-        75..=80 => {
-            let words = many_goals(rng);
-            around_path(rng, words)
-        }
-        81..=86 => {
-            let words = many_disjunctions(rng);
-            around_path(rng, words)
-        }
-        87..=92 => {
-            let words = many_constraints(rng);
-            around_path(rng, words)
-        }
-        _ => {
-            let words = deep_terms(rng);
+        path_bound => {
+            let make = match path_bound {
+                68..=74 => many_variables,
+                75..=80 => many_goals,
+                81..=86 => many_disjunctions,
+                87..=92 => many_constraints,
+                _ => deep_terms,
+            };
+            let words = make(rng);
             around_path(rng, words)
         }
     }

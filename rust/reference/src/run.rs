@@ -437,12 +437,16 @@ impl Search<'_> {
         match self.program[constraint.goal] {
             Goal::Symbolo(term) => Ok(match path.substitution.walk(self.value(term, base)) {
                 Value::Symbol(_) => true,
-                Value::Variable(variable) => !self.reached_by_numbero(variable, path),
+                Value::Variable(variable) => {
+                    !self.typed(variable, path, |goal| matches!(goal, Goal::Numbero(_)))
+                }
                 _ => false,
             }),
             Goal::Numbero(term) => Ok(match path.substitution.walk(self.value(term, base)) {
                 Value::Number(_) => true,
-                Value::Variable(variable) => !self.reached_by_symbolo(variable, path),
+                Value::Variable(variable) => {
+                    !self.typed(variable, path, |goal| matches!(goal, Goal::Symbolo(_)))
+                }
                 _ => false,
             }),
             Goal::Absento(tag, term) => {
@@ -464,24 +468,13 @@ impl Search<'_> {
         }
     }
 
-    fn reached_by_symbolo(&self, variable: usize, path: &Path) -> bool {
+    /// Whether the open variable has a type constraint of this sort on the path.
+    fn typed(&self, variable: usize, path: &Path, sort: fn(&Goal) -> bool) -> bool {
         path.constraints
             .iter()
-            .any(|other| match self.program[other.goal] {
-                Goal::Symbolo(term) => {
-                    path.substitution.walk(self.value(term, other.base))
-                        == Value::Variable(variable)
-                }
-                _ => false,
-            })
-    }
-
-    fn reached_by_numbero(&self, variable: usize, path: &Path) -> bool {
-        path.constraints
-            .iter()
-            .any(|other| match self.program[other.goal] {
-                Goal::Numbero(term) => {
-                    path.substitution.walk(self.value(term, other.base))
+            .any(|other| match &self.program[other.goal] {
+                goal @ (Goal::Symbolo(term) | Goal::Numbero(term)) if sort(goal) => {
+                    path.substitution.walk(self.value(*term, other.base))
                         == Value::Variable(variable)
                 }
                 _ => false,

@@ -23,12 +23,16 @@ use Rattle.engine.proofs.StepLaws.{Restored, marked, restore, resume-la
 use Rattle.engine.proofs.ConjLaws.{Next, next-goal}
 
 -- no choice point is left
-pub back-none : {P : Program} {ws s : List ℕ} {p : Path} {cs : List ChoicePoint} (st : State) (t : Tally) → Holds P ws s st p cs → st .choices ≡ 0 → BackAs P ws s (st .left) t (back cs t) Over
+pub back-none : {P : Program} {ws s : List ℕ} {p : Path} {cs : List ChoicePoint} (st : State) (t : Tally) → Holds P ws s st p cs → st .choices ≡ 0 → BackAs P ws s st t (back cs t) Over
 unfolding BackAs
 back-none {P} {ws} {s} {p} {cs} st t h e = go cs (h .choices-are)
   where
-    go : (ds : List ChoicePoint) → st .choices ≡ length ds → BackAs P ws s (st .left) t (back ds t) Over
-    go [] q = refl
+    none-left : (ds : List ChoicePoint) → st .choices ≡ length ds → ds ≡ []
+    none-left [] q = refl
+    none-left (d ∷ ds) q = absurd (omega (arith, q))
+
+    go : (ds : List ChoicePoint) → st .choices ≡ length ds → BackAs P ws s st t (back ds t) Over
+    go [] q = (refl, (p, subst (λ ds. Holds P ws s st p ds) (none-left cs (h .choices-are)) h))
     go (d ∷ ds) q = absurd (omega (arith, q))
 
 -- The newest choice point, s′ being the scratch when the trail is taken back.
@@ -88,18 +92,18 @@ module _ {P : Program} {ws s s′ : List ℕ} {st : State} {cs : List ChoicePoin
 
   -- the last alternative
   pub back-last : {b l z : ℕ} {r : State} (t : Tally) → NodeAt ws (at s (point-at (st .choices - 1))) b l z → pos-of (at s (point-at (st .choices - 1))) + 1 + z ≡ at s (point-at (st .choices - 1) + 1)
-      → r ≡ resumed s′ st (st .choices - 1) → BackAs P ws s′ (st .left) t (back cs t) (Goal r (at s (point-at (st .choices - 1))))
+      → r ≡ resumed s′ st (st .choices - 1) → BackAs P ws s′ st t (back cs t) (Goal r (at s (point-at (st .choices - 1))))
   unfolding BackAs
-  back-last {b} {l} {z} {r} t i e q = subst (λ ds. BackAs P ws s′ (st .left) t (back ds t) (Goal r w)) (sym (k .are)) (subst (λ x. BackAs P ws s′ (st .left) t (back (k .point ∷ k .others) t) (Goal x w)) (sym q) (go (k .point) (k .restored)))
+  back-last {b} {l} {z} {r} t i e q = subst (λ ds. BackAs P ws s′ st t (back ds t) (Goal r w)) (sym (k .are)) (subst (λ x. BackAs P ws s′ st t (back (k .point ∷ k .others) t) (Goal x w)) (sym q) (go (k .point) (k .restored)))
     where
       w : ℕ
       w = at s (point-at (st .choices - 1))
 
-      go : (c : ChoicePoint) → Restored P ws s s′ (st .choices - 1) c (k .others) → BackAs P ws s′ (st .left) t (back (c ∷ k .others) t) (Goal (resumed s′ st (st .choices - 1)) w)
+      go : (c : ChoicePoint) → Restored P ws s s′ (st .choices - 1) c (k .others) → BackAs P ws s′ st t (back (c ∷ k .others) t) (Goal (resumed s′ st (st .choices - 1)) w)
       go c j = inside (c .rest) j
         where
           inside : (gs : Goals) → Restored P ws s s′ (st .choices - 1) (record { path = c .path; base = c .base; rest = gs }) (k .others)
-              → BackAs P ws s′ (st .left) t (back (record { path = c .path; base = c .base; rest = gs } ∷ k .others) t) (Goal (resumed s′ st (st .choices - 1)) w)
+              → BackAs P ws s′ st t (back (record { path = c .path; base = c .base; rest = gs } ∷ k .others) t) (Goal (resumed s′ st (st .choices - 1)) w)
           inside (one g) j =
               let o = resume-last (st .choices - 1) j in
               (o .1, subst (λ y. Stored P ws s′ (counted y) (st .choices - 1) (waiting-on (c .path) (c .path .stack) (suc (c .path .put))) (k .others)) (sym same-saved) (o .2), refl, refl)
@@ -108,9 +112,9 @@ module _ {P : Program} {ws s s′ : List ℕ} {st : State} {cs : List ChoicePoin
   -- another one is left
   pub back-more : {b l z : ℕ} {r : State} (t : Tally) → (st .choices ≡ 0 → ⊥) → NodeAt ws (at s (point-at (st .choices - 1))) b l z → (pos-of (at s (point-at (st .choices - 1))) + 1 + z ≡ at s (point-at (st .choices - 1) + 1) → ⊥)
       → r ≡ resumed (set s′ (point-at (st .choices - 1)) (at s (point-at (st .choices - 1)) + 1 + z)) st (st .choices)
-      → BackAs P ws (set s′ (point-at (st .choices - 1)) (at s (point-at (st .choices - 1)) + 1 + z)) (st .left) t (back cs t) (Goal r (at s (point-at (st .choices - 1))))
+      → BackAs P ws (set s′ (point-at (st .choices - 1)) (at s (point-at (st .choices - 1)) + 1 + z)) st t (back cs t) (Goal r (at s (point-at (st .choices - 1))))
   unfolding BackAs
-  back-more {b} {l} {z} {r} t some-left i e q = subst (λ ds. BackAs P ws s″ (st .left) t (back ds t) (Goal r w)) (sym (k .are)) (subst (λ x. BackAs P ws s″ (st .left) t (back (k .point ∷ k .others) t) (Goal x w)) (sym q) (go (k .point) (k .restored)))
+  back-more {b} {l} {z} {r} t some-left i e q = subst (λ ds. BackAs P ws s″ st t (back ds t) (Goal r w)) (sym (k .are)) (subst (λ x. BackAs P ws s″ st t (back (k .point ∷ k .others) t) (Goal x w)) (sym q) (go (k .point) (k .restored)))
     where
       w : ℕ
       w = at s (point-at (st .choices - 1))
@@ -121,11 +125,11 @@ module _ {P : Program} {ws s s′ : List ℕ} {st : State} {cs : List ChoicePoin
       count : st .choices - 1 + 1 ≡ st .choices
       count = omega (arith, some-left)
 
-      go : (c : ChoicePoint) → Restored P ws s s′ (st .choices - 1) c (k .others) → BackAs P ws s″ (st .left) t (back (c ∷ k .others) t) (Goal (resumed s″ st (st .choices)) w)
+      go : (c : ChoicePoint) → Restored P ws s s′ (st .choices - 1) c (k .others) → BackAs P ws s″ st t (back (c ∷ k .others) t) (Goal (resumed s″ st (st .choices)) w)
       go c j = inside (c .rest) j
         where
           inside : (gs : Goals) → Restored P ws s s′ (st .choices - 1) (record { path = c .path; base = c .base; rest = gs }) (k .others)
-              → BackAs P ws s″ (st .left) t (back (record { path = c .path; base = c .base; rest = gs } ∷ k .others) t) (Goal (resumed s″ st (st .choices)) w)
+              → BackAs P ws s″ st t (back (record { path = c .path; base = c .base; rest = gs } ∷ k .others) t) (Goal (resumed s″ st (st .choices)) w)
           inside (one g) j = absurd (e (ap (λ y. pos-of w + 1 + y) (i .is-payload) ∙ resume-last (st .choices - 1) j .0))
           inside (more g gs) j =
               let o = resume-next (st .choices - 1) (k .few) j in

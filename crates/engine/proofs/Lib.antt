@@ -22,6 +22,8 @@ pub mod TableLaws
 pub mod CallTaken
 pub mod NarrowTaken
 pub mod TakeLaws
+pub mod TurnLaws
+pub mod SearchLaws
 pub mod FollowLaws
 pub mod NameLaws
 pub mod NamingLaws
@@ -30,3 +32,5 @@ pub mod LineLaws
 pub mod PageLaws
 pub mod LinesLaws
 pub mod KeepLaws
+pub mod LookLaws
+pub mod WriterLaws

@@ -47,7 +47,7 @@ module _ {ws s out : List ℕ} {kind w first end place : ℕ} {full : Bool} (g :
   typed-pair e = subst (λ t. Page (g .before) out (g .begin) first end place full (g .head) (add-lines (g .names) (g .lines) (typed-lines (g .sort) t))) (sym (told-pair (g .term) f e (g .here) .2)) (g .page)
 
 -- an absence
-lacks-append : (a : Atom) (xs ys : List ℕ) → lacks-each a (xs ++ ys) ≡ lacks-each a xs ++ lacks-each a ys
+pub lacks-append : (a : Atom) (xs ys : List ℕ) → lacks-each a (xs ++ ys) ≡ lacks-each a xs ++ lacks-each a ys
 lacks-append a [] ys = refl
 lacks-append a (x ∷ xs) ys = ap (λ l. lacks a x ∷ l) (lacks-append a xs ys)
 

@@ -23,7 +23,7 @@ use Rattle.engine.specs.declared.put.Put.the-variants.{End, Missed}
 use Rattle.engine.proofs.PutLaws.{laid-of, missing-of, laid-then, touched-then}
 
 -- the same words
-same-self : (v : List ℕ) → same-words v v ≡ true
+pub same-self : (v : List ℕ) → same-words v v ≡ true
 same-self [] = refl
 same-self (x ∷ v) = rw (eq-eqb x x refl) (same-self v)
 
@@ -232,7 +232,7 @@ module _ {o₀ o : List ℕ} {begin first end place : ℕ} {full : Bool} {head :
             }
 
 -- what the definition lists
-any-snoc : (v w : List ℕ) (ws : List (List ℕ)) → any-same v (ws ++ (w ∷ [])) ≡ (same-words v w || any-same v ws)
+pub any-snoc : (v w : List ℕ) (ws : List (List ℕ)) → any-same v (ws ++ (w ∷ [])) ≡ (same-words v w || any-same v ws)
 any-snoc v w [] = refl
 any-snoc v w (x ∷ ws) = ap (λ b. same-words v x || b) (any-snoc v w ws) ∙ swap (same-words v x) (same-words v w) (any-same v ws)
   where

@@ -7,9 +7,12 @@ pub mod Unify
 pub mod Review
 pub mod Taking
 pub mod Calling
+pub mod Turning
+pub mod Searching
 pub mod Follow
 pub mod Names
 pub mod Put
 pub mod Lines
 pub mod Page
 pub mod Keep
+pub mod Look

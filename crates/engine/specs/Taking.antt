@@ -1,7 +1,7 @@
 -- What the functions that take a goal promise: the code's state and answers, and what they say of a path.
 use Prim.Native.Nat.{ℕ, _+_, _-_, _≤_, _<_}
 use mathlib.Core.Path.{_≡_}
-use mathlib.Core.List.{List}
+use mathlib.Core.List.{List, []}
 use lib.ListN.{length}
 use Rattle.rules.specs.Syntax.{Relation, Program}
 use Rattle.rules.specs.Reading.{after}
@@ -97,11 +97,11 @@ abbrev pub one-choice-more : State → State
 one-choice-more st = record { head = st .head; trail = st .trail; made = st .made; put = st .put; kept = st .kept; calls = st .calls; choices = st .choices + 1; left = st .left }
 
 -- Backtracking with a tally t: the round is over, or the next alternative is to be taken on the path as it was when its disjunction was taken.
-unfoldable pub BackAs : Program → List ℕ → List ℕ → ℕ → Tally → Next → Resumed → Type 0
-BackAs P ws s left t (over r) Over = r ≡ completed t
-BackAs P ws s left t (over r) (Goal st w) = ⊥
-BackAs P ws s left t (going state) Over = ⊥
-BackAs P ws s left t (going state) (Goal st w) = TaskAt ws w (state .task) × Holds P ws s st (state .path) (state .choices) × (st .left ≡ left) × (state .tally ≡ t)
+unfoldable pub BackAs : Program → List ℕ → List ℕ → State → Tally → Next → Resumed → Type 0
+BackAs P ws s st t (over r) Over = (r ≡ completed t) × ((p : Path) × Holds P ws s st p [])
+BackAs P ws s st t (over r) (Goal next w) = ⊥
+BackAs P ws s st t (going state) Over = ⊥
+BackAs P ws s st t (going state) (Goal next w) = TaskAt ws w (state .task) × Holds P ws s next (state .path) (state .choices) × (next .left ≡ st .left) × (state .tally ≡ t)
 
 -- the state of the newest choice point, with one goal more put to wait, and so many choice points
 abbrev pub resumed : List ℕ → State → ℕ → State

@@ -61,7 +61,7 @@ fn saved_state(scratch: &[u32], st: State, choices: u32) -> State
 pub(crate) fn back(program: &[u32], scratch: &mut [u32], st: State) -> Resumed
     requires { ⌜ ((P : Program) × (p : Path) × (cs : List ChoicePoint) × Holds P (now program) (now scratch) st p cs) ⌝ }
     ensures { λ r. ⌜ ((P : Program) (p : Path) (cs : List ChoicePoint) (t : Tally) → Holds P (now (program .entry)) (now (scratch .entry)) st p cs
-        → BackAs P (now (program .entry)) (now (scratch .exit)) (st .left) t (back cs t) r) ⌝ }
+        → BackAs P (now (program .entry)) (now (scratch .exit)) st t (back cs t) r) ⌝ }
 {
     if st.choices == 0 {
         return Resumed::Over;

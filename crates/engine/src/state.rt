@@ -41,3 +41,19 @@ pub enum Resumed {
     Over,
     Goal(State, u32),
 }
+
+// What a turn leads to: a goal to be taken next, by its reference; the round's end; a path that gives an answer; a stop with the steps left.
+// The last number of the first two is how many branches the turn cut, 0 or 1.
+pub enum Turned {
+    Goal(State, u32, u32),
+    Over(State, u32),
+    Answer(State),
+    Stops(Stop, u32),
+}
+
+// Where turn after turn leads: a path gives an answer, the round is over, or a stop with the steps left. The second number is how many branches the round has cut.
+pub enum Searched {
+    Answer(State, u32),
+    Over(State, u32),
+    Stops(Stop, u32),
+}

@@ -146,7 +146,7 @@ module _ (P : Program) (wf : ProgramIn P) (n k : ℕ) where
         (λ e tuple m c. let (a, b, h, hs, q) = c .hold in omega (arith, ltb-false (p .calls) k e, c .total, call-inv (i .relation) (i .is-there) h .one-more))
 
     -- whatever the goal
-    goal-well : (g : Goal) (left : ℕ) → Fine p ((base, g) ∷ (p .stack)) → TakenWell p (base, g) cs (take-goal k P p cs base g left)
+    pub goal-well : (g : Goal) (left : ℕ) → Fine p ((base, g) ∷ (p .stack)) → TakenWell p (base, g) cs (take-goal k P p cs base g left)
     goal-well g zero fine = tt
     goal-well (equal s t) (suc left) fine =
         let ((v, h, i), is) = fine .tasks-in in

@@ -1,0 +1,165 @@
+-- Turn after turn, as the code does it: the state under way leads to where the first one does.
+use Prim.Native.Nat.{ℕ, zero, suc, _+_, _≤_, _<_}
+use mathlib.Core.Path.{_≡_, refl, sym, ap, subst, _∙_}
+use mathlib.Core.List.{List, []}
+use native.Mathlib.Omega.{arith}
+use lib.ListN.{length}
+use Rattle.rules.specs.Syntax.{Goal, Program}
+use Rattle.semantics.specs.Steps.{Outcome, done}
+use Rattle.semantics.specs.Path.{Path, ChoicePoint, Taken, goes, take-goal}
+use Rattle.semantics.specs.Answer.{answer}
+use Rattle.semantics.specs.Run.{page}
+use Rattle.semantics.specs.Round as round
+use Rattle.semantics.specs.Round.{Tally, Next, going, over, completed, broken, spend, end-of, give, after, onward, turn, search}
+use Rattle.semantics.proofs.Programs.{ProgramIn}
+use Rattle.semantics.proofs.Basics.{clash}
+use Rattle.semantics.proofs.StepLaws.{Spent}
+use Rattle.semantics.proofs.Counts.{taken-spent}
+use Rattle.semantics.proofs.Fair.{NextFair, turn-fair}
+use Rattle.semantics.proofs.Turn.{Fine, ChoicesFine, StateFine, NextWell, TakenWell, GoesOn, open-of, goal-well, turn-keeps}
+use Rattle.engine.specs.Reference.{TaskAt}
+use Rattle.engine.specs.Taking.{Holds, Due, stop-of}
+use Rattle.engine.specs.Turning.{tallied, NextAs}
+use Rattle.engine.specs.Searching.{count-cuts, Searching, counted-to, Answers, SearchedAs}
+use Rattle.engine.specs.declared.state.State.{State}
+use Rattle.engine.specs.declared.state.Stop.{Stop}
+use Rattle.engine.specs.declared.state.Turned.{Turned}
+use Rattle.engine.specs.declared.state.Turned.the-variants as turned
+use Rattle.engine.specs.declared.state.Searched.the-variants.{Answer, Over, Stops}
+
+pub count-none : (cuts cut : ℕ) → cut ≡ 0 → cuts ≡ count-cuts cuts cut
+count-none cuts zero e = refl
+count-none cuts (suc c) e = absurd (omega arith)
+
+pub count-one : (cuts cut : ℕ) → (cut ≡ 0 → ⊥) → cuts + 1 ≡ count-cuts cuts cut
+count-one cuts zero e = absurd (e refl)
+count-one cuts (suc c) e = omega arith
+
+tallied-is : (t : Tally) (l c : ℕ) → tallied t l c ≡ counted-to t l (count-cuts (t .cuts) c)
+tallied-is t l zero = refl
+tallied-is t l (suc c) = refl
+
+count-few : (cuts c : ℕ) → count-cuts cuts c ≤ suc cuts
+count-few cuts zero = omega arith
+count-few cuts (suc c) = omega arith
+
+-- taking a goal costs a step at least
+take-spent : (k : ℕ) (P : Program) (p : Path) (cs : List ChoicePoint) (base : ℕ) (x : Goal) (left : ℕ) (v : Taken) (m : ℕ) → take-goal k P p cs base x left ≡ done v m → m < left
+take-spent k P p cs base x zero v m e = clash (cc)
+take-spent k P p cs base x (suc l) v m e = let h : m ≤ l = subst (Spent l (suc l)) e (taken-spent k P p cs base x l) in omega arith
+
+over-spent : (P : Program) (n k : ℕ) (state : round.State) (left : ℕ) (t : Tally) → after P n k state (take-goal k P (state .path) (state .choices) (state .task .0) (state .task .1) left) ≡ over (completed t) → 0 < left
+over-spent P n k state zero t e = clash (cc)
+over-spent P n k state (suc l) t e = omega arith
+
+-- Under way from a first state: what is left to search leads to the same.
+pub record Going (P : Program) (wf : ProgramIn P) (n k : ℕ) (ws s : List ℕ) (st : State) (w cuts : ℕ) (state₀ : round.State) (fuel₀ : ℕ) : Type 0 where
+  pub state : round.State
+  pub fuel : ℕ
+  pub under : Searching P wf n k ws s st w cuts state
+  pub enough : state .tally .left < fuel
+  pub same : search P n k fuel₀ state₀ ≡ search P n k fuel state
+  pub room : state .tally .room ≡ state₀ .tally .room
+  pub written : state .tally .written ≡ state₀ .tally .written
+  pub fewer : state .tally .left ≤ state₀ .tally .left
+
+pub going-start : {P : Program} {wf : ProgramIn P} {n k : ℕ} {ws s : List ℕ} {st : State} {w cuts fuel : ℕ} {state : round.State} → Searching P wf n k ws s st w cuts state → state .tally .left < fuel → Going P wf n k ws s st w cuts state fuel
+going-start {fuel = fuel} {state = state} h lt = record { state = state; fuel = fuel; under = h; enough = lt; same = refl; room = refl; written = refl; fewer = omega arith }
+
+module _ {P : Program} {wf : ProgramIn P} {n k : ℕ} {ws s : List ℕ} {st : State} {w cuts : ℕ} {state : round.State} (h : Searching P wf n k ws s st w cuts state) where
+  pub search-due : Due P ws s st w (state .path) (state .choices) (state .task)
+  search-due = record { stored = h .held; task-at = h .task-at; short = h .short; program-in = wf; sound = h .fine .fine .sound; task-in = h .fine .fine .tasks-in .0 }
+
+-- a turn of the search, with the fuel that is there
+turn-of : (P : Program) (n k fuel : ℕ) (state : round.State) (x : Next) → state .tally .left < fuel → turn P n k state ≡ x → (f : ℕ) × (fuel ≡ suc f) × (search P n k fuel state ≡ onward P n k x (λ next. search P n k f next))
+turn-of P n k zero state x lt e = absurd (omega arith)
+turn-of P n k (suc f) state x lt e = (f, refl, ap (λ y. onward P n k y (λ next. search P n k f next)) e)
+
+module _ {P : Program} {wf : ProgramIn P} {n k : ℕ} {ws s : List ℕ} {st : State} {w cuts : ℕ} {state₀ : round.State} {fuel₀ : ℕ} (g : Going P wf n k ws s st w cuts state₀ fuel₀)
+    (s′ : List ℕ) (r : Turned) (told : NextAs P n k ws s′ (g .state .tally) (take-goal k P (g .state .path) (g .state .choices) (g .state .task .0) (g .state .task .1) (st .left)) (turn P n k (g .state)) r) where
+  total : ℕ
+  total = g .state .tally .room + length (page (g .state .tally .written))
+
+  fair : NextFair n (g .state .tally .left) total (turn P n k (g .state))
+  unfolding total
+  fair = turn-fair P n k (g .state .tally .left) total (g .state) refl refl
+
+  -- the tally of the state under way, counted, is the first one's, counted
+  tally-as : (l c : ℕ) → counted-to (g .state .tally) l c ≡ counted-to (state₀ .tally) l c
+  tally-as l c = rw (g .room, g .written) refl
+
+  cuts-as : (l c : ℕ) → tallied (g .state .tally) l c ≡ counted-to (state₀ .tally) l (count-cuts cuts c)
+  cuts-as l c = tallied-is (g .state .tally) l c ∙ tally-as l (count-cuts (g .state .tally .cuts) c) ∙ ap (λ x. counted-to (state₀ .tally) l (count-cuts x c)) (g .under .cuts-are)
+
+  pub searched-stops : {why : Stop} {l : ℕ} → r ≡ turned.Stops why l → SearchedAs P wf n k ws s′ state₀ fuel₀ (Stops why l)
+  unfolding NextAs SearchedAs
+  searched-stops {why} {l} e =
+      let q : turn P n k (g .state) ≡ over (broken (end-of (stop-of why)) (spend (g .state .tally) l)) = rw e at told in
+      let t = turn-of P n k (g .fuel) (g .state) _ (g .enough) q in
+      (g .state .tally .cuts, g .same ∙ t .2 ∙ ap (broken (end-of (stop-of why))) (tally-as l (g .state .tally .cuts)))
+
+  pub searched-over : {next : State} {c d : ℕ} → r ≡ turned.Over next c → d ≡ count-cuts cuts c → SearchedAs P wf n k ws s′ state₀ fuel₀ (Over next d)
+  unfolding NextAs SearchedAs
+  searched-over {next} {c} {d} e f =
+      let q : (turn P n k (g .state) ≡ over (completed (tallied (g .state .tally) (next .left) c))) × ((p : Path) × Holds P ws s′ next p []) = rw e at told in
+      let t = turn-of P n k (g .fuel) (g .state) _ (g .enough) (q .0) in
+      (g .same ∙ t .2 ∙ ap completed (cuts-as (next .left) c ∙ ap (counted-to (state₀ .tally) (next .left)) (sym f)), q .1)
+
+  pub over-some : {next : State} {c : ℕ} → r ≡ turned.Over next c → 0 < st .left
+  unfolding NextAs
+  over-some {next} {c} e =
+      let q : (turn P n k (g .state) ≡ over (completed (tallied (g .state .tally) (next .left) c))) × ((p : Path) × Holds P ws s′ next p []) = rw e at told in
+      omega (arith, g .under .left-is, over-spent P n k (g .state) (g .state .tally .left) _ (q .0))
+
+  -- the round goes on
+  pub searched-goal : {next : State} {v c d : ℕ} → r ≡ turned.Goal next v c → d ≡ count-cuts cuts c → Going P wf n k ws s′ next v d state₀ fuel₀ × (next .left < st .left)
+  unfolding NextAs
+  searched-goal {next} {v} {c} {d} e f =
+      let q : (state : round.State) × (turn P n k (g .state) ≡ going state) × TaskAt ws v (state .task) × Holds P ws s′ next (state .path) (state .choices) × (state .tally ≡ tallied (g .state .tally) (next .left) c) = rw e at told in
+      let new : round.State = q .0 in
+      let t = turn-of P n k (g .fuel) (g .state) (going new) (g .enough) (q .1) in
+      let falls : new .tally .left < g .state .tally .left = subst (NextFair n (g .state .tally .left) total) (q .1) fair .0 in
+      let keeps : StateFine P wf n k new = subst (NextWell P wf n k (open-of P wf n k (g .state)) (g .state .tally .written) (g .state .tally .cuts)) (q .1) (turn-keeps P wf n k (g .state) (g .under .fine)) .0 in
+      let is : new .tally ≡ counted-to (state₀ .tally) (next .left) (count-cuts cuts c) = q .4 ∙ cuts-as (next .left) c in
+      let left-is : new .tally .left ≡ next .left = ap (λ x. x .left) is in
+      let less : next .left < st .left = omega (arith, left-is, falls, g .under .left-is) in
+      let more : next .left < g .state .tally .left = omega (arith, left-is, falls) in (
+        record {
+          state = new;
+          fuel = t .0;
+          under = record { held = q .3; task-at = q .2; short = g .under .short; left-is = left-is; cuts-are = ap (λ x. x .cuts) is ∙ sym f; fits = omega (arith, f, count-few cuts c, g .under .fits); fine = keeps };
+          enough = omega (arith, left-is, more, t .1, g .enough);
+          same = g .same ∙ t .2;
+          room = ap (λ x. x .room) is;
+          written = ap (λ x. x .written) is;
+          fewer = omega (arith, falls, g .fewer);
+        },
+        less,
+      )
+
+  -- a path gives an answer
+  pub searched-answer : {next : State} → r ≡ turned.Answer next → SearchedAs P wf n k ws s′ state₀ fuel₀ (Answer next cuts)
+  unfolding NextAs SearchedAs
+  searched-answer {next} e =
+      let o : Outcome Taken = take-goal k P (g .state .path) (g .state .choices) (g .state .task .0) (g .state .task .1) (st .left) in
+      let q : (p : Path) × (cs : List ChoicePoint) × (turn P n k (g .state) ≡ give P n k cs (spend (g .state .tally) (next .left)) (answer p n (next .left))) × Holds P ws s′ next p cs × (p .stack ≡ []) × (p .calls ≡ k) × (o ≡ done (goes p cs) (next .left)) = rw e at told in
+      let p : Path = q .0 in
+      let cs : List ChoicePoint = q .1 in
+      let t = turn-of P n k (g .fuel) (g .state) _ (g .enough) (q .2) in
+      let well : GoesOn P wf n k (g .state .path) (g .state .task) (g .state .choices) p cs
+      = subst (TakenWell P wf n k (g .state .path) (g .state .task) (g .state .choices)) (q .6) (goal-well P wf n k (g .state .path) (g .state .task .0) (g .state .choices) (g .under .fine .fine-choices) (g .state .task .1) (st .left) (g .under .fine .fine)) in
+      let spent : next .left < st .left = take-spent k P (g .state .path) (g .state .choices) (g .state .task .0) (g .state .task .1) (st .left) (goes p cs) (next .left) (q .6) in
+      record {
+        path = p;
+        choices = cs;
+        rest = t .0;
+        same = g .same ∙ t .2 ∙ ap (λ x. onward P n k (give P n k cs x (answer p n (next .left))) (λ y. search P n k (t .0) y)) (tally-as (next .left) (g .state .tally .cuts) ∙ ap (counted-to (state₀ .tally) (next .left)) (g .under .cuts-are));
+        enough = omega (arith, spent, t .1, g .enough, g .under .left-is);
+        fewer = omega (arith, spent, g .fewer, g .under .left-is);
+        held = q .3;
+        no-goal = q .4;
+        all-calls = q .5;
+        fine = subst (Fine P wf n k p) (q .4) (well .fine);
+        fine-choices = well .fine-choices;
+        fits = omega (arith, spent, g .under .fits);
+      }

@@ -1,0 +1,80 @@
+-- `turn` takes a goal and goes on, goes back or stops.
+use mathlib.Core.Path.{refl}
+use Rattle.engine.proofs.TurnLaws.{turn-goes, turn-left, turn-cut, turn-onward, turn-leaves, turn-cuts, turn-stops}
+use borrow.Author.Needs.{needs}
+use Rattle.engine.proofs.turn.turn.Statement.{statement}
+use Rattle.engine.proofs.turn.turn.Tie as tie
+use Rattle.engine.proofs.turn.turn.Reads as reads
+use Rattle.engine.proofs.turn.turn.Lts as lts
+use Rattle.engine.proofs.take.take.Reads as take-reads
+use Rattle.engine.proofs.turn.go_on.Reads as go-on-reads
+use Rattle.engine.proofs.turn.leave.Reads as leave-reads
+
+take-requires : tie.Need-take-requires
+take-requires c κs = search needs
+
+enum-known-next : tie.Need-enum-known-next
+enum-known-next c = search needs
+
+go-on-requires : tie.Need-go-on-requires
+go-on-requires c κs = let q = c .before .before .before .before .before .before .before .before .before .before .pre in let g = turn-goes (q .0) _ _ _ _ (c .before .before .next .given .1) (c .before .before .before .before .before .before .take .ensures (q .0) (q .1 .path) (q .1 .choices) (q .1 .task) (q .2)) in (q .0, g .path, g .choices, g .held)
+
+enum-known-next-2 : tie.Need-enum-known-next-2
+enum-known-next-2 c = search needs
+
+leave-requires : tie.Need-leave-requires
+leave-requires c κs = let q = c .before .before .before .before .before .before .before .before .before .before .pre in let g = turn-left (q .0) _ _ _ _ (c .before .before .next2 .given .1) (c .before .before .before .before .before .before .take .ensures (q .0) (q .1 .path) (q .1 .choices) (q .1 .task) (q .2)) in (q .0, g .path, g .choices, g .held)
+
+enum-known-next-3 : tie.Need-enum-known-next-3
+enum-known-next-3 c = search needs
+
+leave-requires-2 : tie.Need-leave-requires-2
+leave-requires-2 c κs = let q = c .before .before .before .before .before .before .before .before .before .before .pre in let g = turn-cut (q .0) _ _ _ _ (c .before .before .next3 .given .1) (c .before .before .before .before .before .before .take .ensures (q .0) (q .1 .path) (q .1 .choices) (q .1 .task) (q .2)) in (q .0, g .path, g .choices, g .held)
+
+enum-known-why : tie.Need-enum-known-why
+enum-known-why c = search needs
+
+same-length : tie.Need-same-length
+same-length c = search needs
+
+returns : tie.Need-returns
+returns c = λ P n state d same. turn-onward P n _ _ _ _ state _ same _ _ _ (c .before .before .before .before .before .next .given .1) (c .before .before .before .before .before .before .before .before .before .take .ensures P (state .path) (state .choices) (state .task) d) refl (c .before .before .go-on .ensures)
+
+same-length-2 : tie.Need-same-length-2
+same-length-2 c = search needs
+
+returns-2 : tie.Need-returns-2
+returns-2 c = λ P n state d same. turn-leaves P n _ _ _ _ state _ same _ _ _ (c .before .before .before .before .before .next2 .given .1) (c .before .before .before .before .before .before .before .before .before .take .ensures P (state .path) (state .choices) (state .task) d) refl (c .before .before .leave .ensures)
+
+same-length-3 : tie.Need-same-length-3
+same-length-3 c = search needs
+
+returns-3 : tie.Need-returns-3
+returns-3 c = λ P n state d same. turn-cuts P n _ _ _ _ state _ same _ _ _ (c .before .before .before .before .before .next3 .given .1) (c .before .before .before .before .before .before .before .before .before .take .ensures P (state .path) (state .choices) (state .task) d) refl (c .before .before .leave2 .ensures)
+
+same-length-4 : tie.Need-same-length-4
+same-length-4 c = search needs
+
+returns-4 : tie.Need-returns-4
+returns-4 c = λ P n state d same. turn-stops P n _ _ _ _ state _ same _ (c .before .why .given .1) (c .before .before .before .before .before .take .ensures P (state .path) (state .choices) (state .task) d) refl
+
+pub turn-spec : {M : Type 1} → statement M
+turn-spec =
+    tie.close
+    (tie.spec
+    take-requires
+    enum-known-next
+    go-on-requires
+    enum-known-next-2
+    leave-requires
+    enum-known-next-3
+    leave-requires-2
+    enum-known-why
+    same-length
+    returns
+    same-length-2
+    returns-2
+    same-length-3
+    returns-3
+    same-length-4
+    returns-4)

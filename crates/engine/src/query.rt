@@ -1,0 +1,72 @@
+// Query terms. A parameter's word need not stand in the program, so it is known by its number: it is open, or what it is bound to is its term.
+use crate::look::Looked;
+use crate::look::look;
+use crate::names::name_term;
+use crate::names::name_variable;
+use crate::put::Put;
+use crate::put::put_term;
+use crate::put::put_variable;
+ghost use mathlib.Core.Path.{_≡_};
+ghost use mathlib.Core.Bool.{true};
+ghost use mathlib.Core.List.{List};
+ghost use Prim.Native.Nat.{ℕ, _≤_, _<_};
+ghost use lib.ListN.{length};
+ghost use Rattle.rules.specs.Syntax.{var};
+ghost use Rattle.rules.specs.Written.{term-words};
+ghost use Rattle.semantics.specs.Substitution.{Substitution, resolve};
+ghost use Rattle.semantics.specs.Answer.{appear, reify, vars-in};
+ghost use Rattle.semantics.proofs.TermLaws.{term-size};
+ghost use Rattle.engine.specs.Walk.{Binds};
+ghost use Rattle.engine.specs.Names.{Names, Named};
+ghost use Rattle.engine.specs.Put.{Placed};
+ghost use Rattle.engine.specs.Look.{LookedAs};
+
+pub(crate) fn look_parameter(program: &[u32], scratch: &[u32], x: u32, steps: u32) -> Looked
+    requires { ⌜ (x < 2048) × ((bs : Substitution) × Binds (now program) (now scratch) bs) ⌝ }
+    ensures { λ r. ⌜ ((bs : Substitution) → Binds (now (program .entry)) (now (scratch .entry)) bs → LookedAs bs (var x) steps r) ⌝ }
+{
+    let entry = scratch[x as usize];
+    if entry != 0 {
+        return look(program, scratch, entry - 1, steps);
+    }
+    if steps == 0 {
+        return Looked::StepsOut;
+    }
+    Looked::Done(steps - 1)
+}
+
+pub(crate) fn name_parameter(
+    program: &[u32],
+    scratch: &mut [u32],
+    x: u32,
+    top: u32,
+    pairs: u32,
+) -> u32
+    requires { ⌜ (x < 2048) × ((bs : Substitution) × (names : List ℕ) × Binds (now program) (now scratch) bs × Names (now scratch) top names × (term-size (resolve bs (var x)) ≤ pairs)) ⌝ }
+    ensures { λ r. ⌜ ((bs : Substitution) (names : List ℕ) → Binds (now (program .entry)) (now (scratch .entry)) bs → Names (now (scratch .entry)) top names → term-size (resolve bs (var x)) ≤ pairs → Named (now (scratch .entry)) (now (scratch .exit)) r (appear names (resolve bs (var x)))) ⌝ }
+{
+    let entry = scratch[x as usize];
+    if entry == 0 {
+        return name_variable(scratch, x, top);
+    }
+    name_term(program, scratch, entry - 1, top, pairs)
+}
+
+pub(crate) fn put_parameter(
+    program: &[u32],
+    scratch: &[u32],
+    output: &mut [u32],
+    x: u32,
+    start: usize,
+    end: usize,
+    pairs: u32,
+) -> Put
+    requires { ⌜ (start ≤ end) × (end ≤ length (now output)) × (end < 268435456) × (x < 2048) × ((bs : Substitution) × (top : ℕ) × (names : List ℕ) × Binds (now program) (now scratch) bs × Names (now scratch) top names × (vars-in names (resolve bs (var x)) ≡ true) × (term-size (resolve bs (var x)) ≤ pairs)) ⌝ }
+    ensures { λ r. ⌜ ((bs : Substitution) (top : ℕ) (names : List ℕ) → Binds (now (program .entry)) (now (scratch .entry)) bs → Names (now (scratch .entry)) top names → vars-in names (resolve bs (var x)) ≡ true → term-size (resolve bs (var x)) ≤ pairs → Placed (now (output .entry)) (now (output .exit)) start end true (term-words (reify names (resolve bs (var x)))) r) ⌝ }
+{
+    let entry = scratch[x as usize];
+    if entry == 0 {
+        return put_variable(scratch, output, x, start, end, true);
+    }
+    put_term(program, scratch, output, entry - 1, start, end, true, pairs)
+}

@@ -1,0 +1,68 @@
+// One turn of a round: a goal is taken, and the next one found.
+use crate::choice::back;
+use crate::state::Resumed;
+use crate::state::State;
+use crate::state::Took;
+use crate::state::Turned;
+use crate::take::take;
+ghost use mathlib.Core.Path.{_≡_};
+ghost use mathlib.Core.List.{List};
+ghost use Prim.Native.Nat.{ℕ};
+ghost use Rattle.rules.specs.Syntax.{Program};
+ghost use Rattle.semantics.specs.Steps.{Outcome, done};
+ghost use Rattle.semantics.specs.Path.{Path, ChoicePoint, Taken, goes, take-goal};
+ghost use Rattle.semantics.specs.Round as definition;
+ghost use Rattle.engine.specs.Taking.{Holds, Due};
+ghost use Rattle.engine.specs.Turning.{tallied, NextAs};
+
+// The path is left; `cuts` is 1 if it was cut.
+fn leave(program: &[u32], scratch: &mut [u32], st: State, cuts: u32) -> Turned
+    requires { ⌜ ((P : Program) × (p : Path) × (cs : List ChoicePoint) × Holds P (now program) (now scratch) st p cs) ⌝ }
+    ensures { λ r. ⌜ ((P : Program) (n k : ℕ) (p : Path) (cs : List ChoicePoint) (t : definition.Tally) (o : Outcome Taken) → Holds P (now (program .entry)) (now (scratch .entry)) st p cs
+        → NextAs P n k (now (program .entry)) (now (scratch .exit)) t o (definition.back cs (tallied t (st .left) cuts)) r) ⌝ }
+{
+    match back(program, scratch, st) {
+        Resumed::Over => Turned::Over(st, cuts),
+        Resumed::Goal(next, goal) => Turned::Goal(next, goal, cuts),
+    }
+}
+
+// The path goes on with its first waiting goal; with none it gives an answer, if it made as many calls as the round's number.
+fn go_on(program: &[u32], scratch: &mut [u32], st: State, round: u32) -> Turned
+    requires { ⌜ ((P : Program) × (p : Path) × (cs : List ChoicePoint) × Holds P (now program) (now scratch) st p cs) ⌝ }
+    ensures { λ r. ⌜ ((P : Program) (n : ℕ) (p : Path) (cs : List ChoicePoint) (t : definition.Tally) → Holds P (now (program .entry)) (now (scratch .entry)) st p cs
+        → NextAs P n round (now (program .entry)) (now (scratch .exit)) t (done (goes p cs) (st .left)) (definition.go-on P n round p (p .stack) cs (definition.spend t (st .left))) r) ⌝ }
+{
+    if st.head == 0 {
+        if st.calls == round {
+            return Turned::Answer(st);
+        }
+        return leave(program, scratch, st, 0);
+    }
+    let goal = (6142 + 2 * st.head) as usize;
+    let next = (6143 + 2 * st.head) as usize;
+    let popped = State {
+        head: scratch[next],
+        trail: st.trail,
+        made: st.made,
+        put: st.put,
+        kept: st.kept,
+        calls: st.calls,
+        choices: st.choices,
+        left: st.left,
+    };
+    Turned::Goal(popped, scratch[goal], 0)
+}
+
+pub(crate) fn turn(program: &[u32], scratch: &mut [u32], st: State, goal: u32, round: u32) -> Turned
+    requires { ⌜ ((P : Program) × (state : definition.State) × Due P (now program) (now scratch) st goal (state .path) (state .choices) (state .task)) ⌝ }
+    ensures { λ r. ⌜ ((P : Program) (n : ℕ) (state : definition.State) → Due P (now (program .entry)) (now (scratch .entry)) st goal (state .path) (state .choices) (state .task) → state .tally .left ≡ st .left
+        → NextAs P n round (now (program .entry)) (now (scratch .exit)) (state .tally) (take-goal round P (state .path) (state .choices) (state .task .0) (state .task .1) (st .left)) (definition.turn P n round state) r) ⌝ }
+{
+    match take(program, scratch, st, goal, round) {
+        Took::Goes(next) => go_on(program, scratch, next, round),
+        Took::Leaves(next) => leave(program, scratch, next, 0),
+        Took::Cut(next) => leave(program, scratch, next, 1),
+        Took::Stops(why, left) => Turned::Stops(why, left),
+    }
+}

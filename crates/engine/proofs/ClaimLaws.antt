@@ -32,6 +32,7 @@ claim {ws = ws} {s = s} {p = p} {cs = cs} r′ p′ g room b k m h = record {
   path-in = m;
   choices-in = choices-grown ws s p p′ cs g (h .choices-in);
   choices-are = h .choices-are;
+  nameless = h .nameless;
 }
 
 -- Registers, changed
@@ -97,6 +98,7 @@ module _ {P : Program} {ws s : List ℕ} {r : Registers} {n : ℕ} {p : Path} {c
         path-in = h .path-in;
         choices-in = (subst (λ k. ChoiceIn ws s k p (record { path = p; base = base; rest = rest })) e here, h .choices-in);
         choices-are = omega arith;
+        nameless = h .nameless;
       }
 
 module _ {P : Program} {ws s : List ℕ} {r : Registers} {n : ℕ} (p : Path) {cs : List ChoicePoint} where

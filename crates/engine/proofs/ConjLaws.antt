@@ -187,6 +187,7 @@ module _ {P : Program} {ws s : List ℕ} {r : Registers} {n : ℕ} {p : Path} {c
         bindings = λ i lo hi. d .low i (omega arith) (omega arith);
         trail = λ i lo hi. d .low i (omega arith) (omega arith);
         cells = λ i lo hi. d .low i (omega arith) (omega arith);
+        names = λ i lo hi. d .low i (omega arith) (omega arith);
         points = λ i lo hi. d .high i (omega arith);
         kept = λ i lo hi. d .high i (omega arith);
         table = λ i lo hi. d .high i (omega arith);

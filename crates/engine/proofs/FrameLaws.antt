@@ -10,7 +10,7 @@ use Rattle.rules.specs.Syntax.{Constraint, Program}
 use Rattle.semantics.specs.Substitution.{Substitution}
 use Rattle.semantics.specs.Path.{Task, Path, ChoicePoint}
 use Rattle.engine.specs.Reference.{at}
-use Rattle.engine.specs.Memory.{trail-at, goal-at, next-at, point-at, kept-at, table-at, Registers, saved, TrailIn, BindingsIn, CellIn, TasksIn, KeptIn, PathIn, ChoiceIn, ChoicesIn, TableIn, Stored}
+use Rattle.engine.specs.Memory.{trail-at, goal-at, next-at, point-at, kept-at, table-at, Registers, saved, TrailIn, BindingsIn, CellIn, TasksIn, KeptIn, PathIn, ChoiceIn, ChoicesIn, TableIn, Nameless, Stored}
 use Rattle.engine.specs.Trail.{Same}
 
 -- one law for each area: its reading is kept where its words are
@@ -63,11 +63,15 @@ choices-same ws s s′ p (c ∷ cs) e f h =
 pub table-same : (P : Program) (ws s s′ : List ℕ) → Same s s′ 11776 12032 → TableIn ws s P → TableIn ws s′ P
 table-same P ws s s′ e t = λ k R is. let h = t k R is in (h .0, rw (e (table-at k) (omega arith) (omega (arith, h .0))) (h .1))
 
+pub names-same : (s s′ : List ℕ) → Same s s′ 4096 6144 → Nameless s → Nameless s′
+names-same s s′ e h = λ i lo hi. e i lo hi ∙ h i lo hi
+
 -- The one law for all of it: what is not alive may be stored at will.
 pub record Untouched (s s′ : List ℕ) (r : Registers) (n : ℕ) : Type 0 where
   pub long : length s ≤ length s′
   pub bindings : Same s s′ 0 2048
   pub trail : Same s s′ 2048 (2048 + r .trail)
+  pub names : Same s s′ 4096 6144
   pub cells : Same s s′ 6144 (6144 + 2 * r .put)
   pub points : Same s s′ 8192 (8192 + 8 * n)
   pub kept : Same s s′ 10240 (10240 + r .kept)
@@ -88,12 +92,14 @@ frame {P} {ws} {s} {s′} {r} {n} {p} {cs} u h =
       path-in = path-same ws s s′ r p (u .cells) m;
       choices-in = choices-same ws s s′ p cs (λ i lo hi. u .cells i lo (omega arith)) (λ i lo hi. u .points i lo (omega arith)) (h .choices-in);
       choices-are = choices-are;
+      nameless = names-same s s′ (u .names) (h .nameless);
     }
 
 -- a place that is in no area's living part
 pub record Outside (r : Registers) (n j : ℕ) : Type 0 where
   pub bindings : (i : ℕ) → i < 2048 → i ≢ j
   pub trail : (i : ℕ) → 2048 ≤ i → i < 2048 + r .trail → i ≢ j
+  pub names : (i : ℕ) → 4096 ≤ i → i < 6144 → i ≢ j
   pub cells : (i : ℕ) → 6144 ≤ i → i < 6144 + 2 * r .put → i ≢ j
   pub points : (i : ℕ) → 8192 ≤ i → i < 8192 + 8 * n → i ≢ j
   pub kept : (i : ℕ) → 10240 ≤ i → i < 10240 + r .kept → i ≢ j
@@ -104,6 +110,7 @@ outside-untouched s r n j v o = record {
   long = rw (length-set s j v) (omega arith);
   bindings = λ i lo hi. getD-set-other s j i v 0 (o .bindings i hi);
   trail = λ i lo hi. getD-set-other s j i v 0 (o .trail i lo hi);
+  names = λ i lo hi. getD-set-other s j i v 0 (o .names i lo hi);
   cells = λ i lo hi. getD-set-other s j i v 0 (o .cells i lo hi);
   points = λ i lo hi. getD-set-other s j i v 0 (o .points i lo hi);
   kept = λ i lo hi. getD-set-other s j i v 0 (o .kept i lo hi);

@@ -9,17 +9,17 @@ use Rattle.semantics.specs.Substitution.{Substitution}
 use Rattle.semantics.specs.Path.{Path, ChoicePoint}
 use Rattle.semantics.specs.Round.{start, Tally}
 use Rattle.engine.specs.Reference.{at, TaskAt, RelationAt}
-use Rattle.engine.specs.Memory.{Registers, TableIn, BindingsIn, Stored}
+use Rattle.engine.specs.Memory.{Registers, TableIn, BindingsIn, Nameless, Stored}
 use Rattle.engine.specs.Trail.{Trailed, Undone}
-use Rattle.engine.proofs.FrameLaws.{table-same}
+use Rattle.engine.proofs.FrameLaws.{table-same, names-same}
 
 abbrev pub first-registers : ℕ → Registers
 first-registers vars = record { head = 0; trail = 0; made = vars; put = 1; kept = 0; calls = 0 }
 
 -- Substitution all 0 and the table written, whatever else the scratch holds.
-pub start-stored : (P : Program) (ws s : List ℕ) (R : Relation) (t : Tally) → 12288 ≤ length s → TableIn ws s P → ((x : ℕ) → x < 2048 → at s x ≡ 0) → R .vars ≤ 2048
+pub start-stored : (P : Program) (ws s : List ℕ) (R : Relation) (t : Tally) → 12288 ≤ length s → TableIn ws s P → ((x : ℕ) → x < 2048 → at s x ≡ 0) → Nameless s → R .vars ≤ 2048
     → Stored P ws s (first-registers (R .vars)) 0 (start R t .path) []
-start-stored P ws s R t long table zeros few = record {
+start-stored P ws s R t long table zeros nameless few = record {
   roomy = record { long = long; trail = omega arith; made = few; put = omega arith; choices = omega arith; kept = omega arith };
   table = table;
   bindings-in = record { words = zeros; trail = tt; fresh = tt };
@@ -27,6 +27,7 @@ start-stored P ws s R t long table zeros few = record {
   path-in = record { tasks = refl; trail = refl; made = refl; put = refl; kept = refl; calls = refl };
   choices-in = tt;
   choices-are = refl;
+  nameless = nameless;
 }
 
 pub start-task : (ws : List ℕ) (R : Relation) (t : Tally) → RelationAt ws 0 R → TaskAt ws 3 (start R t .task)
@@ -42,4 +43,4 @@ pub restart : {P : Program} {ws s : List ℕ} {r : Registers} {n : ℕ} {p : Pat
     → Stored P ws s′ (first-registers (R .vars)) 0 (start R t .path) []
 restart {P} {ws} {s} {r} {n} {p} s′ R t few h u =
     let long : 12288 ≤ length s = h .roomy .long in
-    start-stored P ws s′ R t (omega (arith, u .long)) (table-same P ws s s′ (λ i lo hi. u .above i (omega arith)) (h .table)) (u .bindings-in .words) few
+    start-stored P ws s′ R t (omega (arith, u .long)) (table-same P ws s s′ (λ i lo hi. u .above i (omega arith)) (h .table)) (u .bindings-in .words) (names-same s s′ (λ i lo hi. u .above i (omega arith)) (h .nameless)) few

@@ -12,7 +12,7 @@ use Rattle.semantics.specs.Path.{Task, Path, ChoicePoint, waiting-on}
 use Rattle.rules.specs.Reading.{after}
 use Rattle.engine.specs.Reference.{at, GoalAt, GoalsAt, beyond, pos-of, TaskAt, RestAt, KeepsAt, Stands}
 use Rattle.engine.specs.Memory.{trail-at, goal-at, next-at, point-at, kept-at, Registers, saved, TrailIn, BindingsIn, CellIn, TasksIn, KeptIn, PathIn, Grown, ChoiceIn, ChoicesIn, Roomy, Stored, bound, unwound, cell, point}
-use Rattle.engine.proofs.FrameLaws.{Untouched, frame, Outside, store, saved-same, path-same, table-same, tasks-same, kept-same, choices-same}
+use Rattle.engine.proofs.FrameLaws.{Untouched, frame, Outside, store, saved-same, path-same, table-same, names-same, tasks-same, kept-same, choices-same}
 use Rattle.engine.specs.Trail.{Same, Trailed, Undone}
 use Rattle.engine.proofs.TrailLaws.{fresh-few}
 use Rattle.engine.proofs.GoalLaws.{Then, task-one, task-more}
@@ -58,6 +58,7 @@ module _ {P : Program} {ws s : List ℕ} {r : Registers} {n : ℕ} {p : Path} {c
         bindings = λ i lo hi. same i (omega arith);
         trail = λ i lo hi. same i (omega arith);
         cells = λ i lo hi. same i (omega arith);
+        names = λ i lo hi. same i (omega arith);
         points = λ i lo hi. same i (omega arith);
         kept = λ i lo hi. same i (omega arith);
         table = λ i lo hi. same i (omega arith);
@@ -121,6 +122,7 @@ restore {P} {ws} {s} {r} {p} {c} {cs} m s′ h u =
         path-in = path-same ws s s′ (saved s m) q (λ i lo hi. u .above i (omega arith)) i;
         choices-in = choices-same ws s s′ q cs (λ i lo hi. u .above i (omega arith)) (λ i lo hi. u .above i (omega arith)) (h .choices-in .1);
         choices-are = sym e;
+        nameless = names-same s s′ (λ i lo hi. u .above i (omega arith)) (h .nameless);
       };
       rest-at = d .rest-at;
       room = omega (arith, i .put, d .room);

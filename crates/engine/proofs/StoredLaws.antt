@@ -17,7 +17,7 @@ use Rattle.engine.specs.Trail.{Apart}
 use Rattle.engine.specs.Unify.{Meets, Went}
 use Rattle.engine.specs.Review.{Kept, ReviewedAs}
 use Rattle.engine.specs.declared.review.Reviewed.{Reviewed}
-use Rattle.engine.proofs.FrameLaws.{kept-same, path-same, choices-same, table-same}
+use Rattle.engine.proofs.FrameLaws.{kept-same, path-same, choices-same, table-same, names-same}
 use Rattle.engine.proofs.TrailLaws.{fresh-few}
 
 pub grown-trans : {q p o : Path} → Grown q p → Grown p o → Grown q o
@@ -60,6 +60,7 @@ rebound {P} {ws} {s} {s′} {r} {n} {p} {cs} new bs e a b h =
       choices-in = choices-grown ws s′ p (bound-to p bs) cs (record { new = new; bindings = e; later = []; kept = sym (append-nil (p .kept)); made = omega arith; put = omega arith })
           (choices-same ws s s′ p cs (λ i lo hi. a .middle i (omega arith) (omega arith)) (λ i lo hi. a .middle i (omega arith) (omega arith)) (h .choices-in));
       choices-are = choices-are;
+      nameless = names-same s s′ (λ i lo hi. a .middle i (omega arith) (omega arith)) (h .nameless);
     }
 
 module _ {P : Program} {ws s : List ℕ} {r : Registers} {n : ℕ} {p : Path} {cs : List ChoicePoint} (h : Stored P ws s r n p cs) where

@@ -114,6 +114,10 @@ ChoicesIn ws s p (c ∷ cs) = ChoiceIn ws s (length cs) p c × ChoicesIn ws s (c
 abbrev pub TableIn : List ℕ → List ℕ → Program → Type 0
 TableIn ws s P = (k : ℕ) (R : Relation) → getElem? P k ≡ some R → (k < 256) × RelationAt ws (at s (table-at k)) R
 
+-- between answers no variable has a number of the writer's
+abbrev pub Nameless : List ℕ → Type 0
+Nameless s = (i : ℕ) → 4096 ≤ i → i < 6144 → at s i ≡ 0
+
 -- the areas do not run over
 pub record Roomy (s : List ℕ) (r : Registers) (n : ℕ) : Type 0 where
   pub long : 12288 ≤ length s
@@ -132,6 +136,7 @@ pub record Stored (P : Program) (ws s : List ℕ) (r : Registers) (n : ℕ) (p :
   pub path-in : PathIn ws s r p
   pub choices-in : ChoicesIn ws s p cs
   pub choices-are : n ≡ length cs
+  pub nameless : Nameless s
 
 -- What the code does to the scratch and the registers.
 

@@ -22,7 +22,7 @@ use Rattle.engine.specs.Walk.{NodeAt}
 use Rattle.engine.specs.Taking.{registers, Ready, TookAs, one-waits, RelationIs}
 use Rattle.engine.specs.Calling.{Passing, Passed}
 use Rattle.engine.specs.declared.state.State.{State}
-use Rattle.engine.specs.declared.state.Bound.the-variants.{Variables, Goals as GoalsBound}
+use Rattle.engine.specs.declared.Bound.the-variants.{Variables, Goals as GoalsBound}
 use Rattle.engine.specs.declared.state.Stop.the-variants.{Path as PathLimit}
 use Rattle.engine.specs.declared.state.Took.the-variants.{Cut, Goes, Stops}
 use Rattle.engine.proofs.ReferenceLaws.{terms-longer, pos-refer, base-refer}

@@ -15,7 +15,7 @@ use Rattle.engine.specs.Memory.{goal-at, Registers, Stored, cell}
 use Rattle.engine.specs.Walk.{NodeAt}
 use Rattle.engine.specs.Taking.{registers, Holds, Taking, TookAs}
 use Rattle.engine.specs.declared.state.State.{State}
-use Rattle.engine.specs.declared.state.Bound.the-variants.{Goals as GoalsBound}
+use Rattle.engine.specs.declared.Bound.the-variants.{Goals as GoalsBound}
 use Rattle.engine.specs.declared.state.Stop.the-variants.{Path as PathLimit}
 use Rattle.engine.specs.declared.state.Took.the-variants.{Goes, Stops}
 use Rattle.engine.proofs.GoalLaws.{conj-rest}

@@ -17,7 +17,7 @@ use Rattle.engine.specs.Memory.{Registers, point-at, Stored, cell, point
 use Rattle.engine.specs.Walk.{NodeAt}
 use Rattle.engine.specs.Taking.{registers, Taking, TookAs, one-waits, one-choice-more}
 use Rattle.engine.specs.declared.state.State.{State}
-use Rattle.engine.specs.declared.state.Bound.the-variants.{Goals as GoalsBound, Disjunctions}
+use Rattle.engine.specs.declared.Bound.the-variants.{Goals as GoalsBound, Disjunctions}
 use Rattle.engine.specs.declared.state.Stop.the-variants.{Path as PathLimit}
 use Rattle.engine.specs.declared.state.Took.the-variants.{Goes, Stops}
 use Rattle.engine.proofs.GoalLaws.{disj-rest, task-one, task-more}

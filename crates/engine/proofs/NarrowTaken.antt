@@ -23,7 +23,7 @@ use Rattle.engine.specs.Unify.{Meets, Went, UnifiedAs}
 use Rattle.engine.specs.Review.{Kept, review-says, ReviewedAs}
 use Rattle.engine.specs.Taking.{registers, Holds, Ready, TookAs, narrow, review-took}
 use Rattle.engine.specs.declared.state.State.{State}
-use Rattle.engine.specs.declared.state.Bound.the-variants.{Constraints, Waiting}
+use Rattle.engine.specs.declared.Bound.the-variants.{Constraints, Waiting}
 use Rattle.engine.specs.declared.state.Stop.the-variants.{Steps, Path as PathLimit}
 use Rattle.engine.specs.declared.state.Took.{Took}
 use Rattle.engine.specs.declared.state.Took.the-variants.{Leaves, Goes, Stops}

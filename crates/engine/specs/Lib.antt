@@ -16,3 +16,7 @@ pub mod Lines
 pub mod Page
 pub mod Keep
 pub mod Look
+pub mod Adding
+pub mod Answering
+pub mod Report
+pub mod Rounds

@@ -15,8 +15,8 @@ use Rattle.semantics.proofs.Cover.{TaskIn}
 use Rattle.engine.specs.Reference.{GoalAt, TaskAt}
 use Rattle.engine.specs.Memory.{Registers, saved, Stored}
 use Rattle.engine.specs.declared.state.State.{State}
-use Rattle.engine.specs.declared.state.Bound.{Bound}
-use Rattle.engine.specs.declared.state.Bound.the-variants.{Variables, Goals, Disjunctions, Constraints, Waiting}
+use Rattle.engine.specs.declared.Bound.{Bound}
+use Rattle.engine.specs.declared.Bound.the-variants.{Variables, Goals, Disjunctions, Constraints, Waiting}
 use Rattle.engine.specs.declared.state.Stop.{Stop}
 use Rattle.engine.specs.declared.state.Stop.the-variants.{Steps, Path as PathLimit}
 use Rattle.engine.specs.declared.state.Took.{Took}

@@ -1,6 +1,6 @@
 // Taking calls: a relation's variables are made anew, its parameters bound to the arguments, its body put to wait.
 use crate::goal::wait;
-use crate::state::Bound;
+use crate::Bound;
 use crate::state::State;
 use crate::state::Stop;
 use crate::state::Took;

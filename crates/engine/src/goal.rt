@@ -1,6 +1,6 @@
 // Taking conjunctions and disjunctions.
 use crate::choice::push;
-use crate::state::Bound;
+use crate::Bound;
 use crate::state::State;
 use crate::state::Stop;
 use crate::state::Took;

@@ -1,4 +1,5 @@
 // The writer's steps: it looks at all nodes of a term.
+use crate::layout::TRAIL;
 use crate::scan::Scanned;
 use crate::scan::scan;
 ghost use Rattle.rules.specs.Syntax.{Term};
@@ -32,4 +33,31 @@ pub(crate) fn look(program: &[u32], scratch: &[u32], term: u32, steps: u32) -> L
             return Looked::PathOut(left);
         }
     }
+}
+
+// The right sides of a trial, kept from `mark` on.
+pub(crate) fn look_equations(
+    program: &[u32],
+    scratch: &[u32],
+    mark: usize,
+    count: usize,
+    steps: u32,
+) -> Looked {
+    let mut left = steps;
+    let mut i = 0;
+    while i < count {
+        match look(program, scratch, scratch[TRAIL + mark + i], left) {
+            Looked::Done(rest) => {
+                left = rest;
+                i += 1;
+            }
+            Looked::StepsOut => {
+                return Looked::StepsOut;
+            }
+            Looked::PathOut(rest) => {
+                return Looked::PathOut(rest);
+            }
+        }
+    }
+    Looked::Done(left)
 }

@@ -3,7 +3,7 @@ use crate::layout::CONSTRAINTS;
 use crate::review::Reviewed;
 use crate::review::review;
 use crate::review::review_all;
-use crate::state::Bound;
+use crate::Bound;
 use crate::state::State;
 use crate::state::Stop;
 use crate::state::Took;

@@ -70,3 +70,59 @@ pub(crate) fn put_parameter(
     }
     put_term(program, scratch, output, entry - 1, start, end, true, pairs)
 }
+
+// All parameters, one after the other.
+pub(crate) fn look_parameters(program: &[u32], scratch: &[u32], count: u32, steps: u32) -> Looked {
+    let mut left = steps;
+    let mut x = 0;
+    while x < count {
+        match look_parameter(program, scratch, x, left) {
+            Looked::Done(rest) => {
+                left = rest;
+                x += 1;
+            }
+            Looked::StepsOut => {
+                return Looked::StepsOut;
+            }
+            Looked::PathOut(rest) => {
+                return Looked::PathOut(rest);
+            }
+        }
+    }
+    Looked::Done(left)
+}
+
+pub(crate) fn name_parameters(program: &[u32], scratch: &mut [u32], count: u32, pairs: u32) -> u32 {
+    let mut top = 0;
+    let mut x = 0;
+    while x < count {
+        top = name_parameter(program, scratch, x, top, pairs);
+        x += 1;
+    }
+    top
+}
+
+pub(crate) fn put_parameters(
+    program: &[u32],
+    scratch: &[u32],
+    output: &mut [u32],
+    count: u32,
+    start: usize,
+    end: usize,
+    pairs: u32,
+) -> Put {
+    let mut at = start;
+    let mut x = 0;
+    while x < count {
+        match put_parameter(program, scratch, output, x, at, end, pairs) {
+            Put::End(next) => {
+                at = next;
+                x += 1;
+            }
+            Put::Missed => {
+                return Put::Missed;
+            }
+        }
+    }
+    Put::End(at)
+}

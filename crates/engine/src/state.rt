@@ -1,4 +1,5 @@
 // The state of a search, by value: what it saves in a choice point, and two numbers more. Paths and choice points themselves are in the scratch.
+use crate::Bound;
 
 pub struct State {
     // The first waiting goal's cell, or 0.
@@ -11,15 +12,6 @@ pub struct State {
     pub choices: u32,
     // The steps left.
     pub left: u32,
-}
-
-// The bounds of a path, in the order of document 01.
-pub enum Bound {
-    Variables,
-    Goals,
-    Disjunctions,
-    Constraints,
-    Waiting,
 }
 
 // Why a run stops before its end.

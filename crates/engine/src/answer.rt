@@ -1,0 +1,126 @@
+// The writer: the answer of a path, behind those already in the output.
+use crate::constraints::Added;
+use crate::constraints::add_constraints;
+use crate::names::clear_names;
+use crate::page::Written;
+use crate::put::Put;
+use crate::put::put_head;
+use crate::look::Looked;
+use crate::query::look_parameters;
+use crate::query::name_parameters;
+use crate::query::put_parameters;
+use crate::state::State;
+use word::Word;
+ghost use mathlib.Core.List.{List};
+ghost use Rattle.rules.specs.Syntax.{Program};
+ghost use Rattle.semantics.specs.Path.{Path, ChoicePoint};
+ghost use Rattle.semantics.specs.Answer.{answer};
+ghost use Rattle.engine.specs.Answering.{Answering, AnsweredAs};
+
+// The output words used then and the steps left; that it does not fit, with the steps left; or a stop.
+pub enum Answered {
+    Written(u32, u32),
+    Full(u32),
+    StepsOut,
+    PathOut(u32),
+}
+
+// At most the first 268,435,455 words of the output are used.
+fn usable(output: usize) -> usize {
+    if 268435455 < output {
+        return 268435455;
+    }
+    output
+}
+
+// The query terms, one word behind `start`: the answer's own word goes in last, when its length is known.
+fn begin_page(
+    program: &[u32],
+    scratch: &[u32],
+    output: &mut [u32],
+    params: u32,
+    start: usize,
+    end: usize,
+    pairs: u32,
+) -> Written {
+    if end <= start {
+        return Written {
+            at: start,
+            full: true,
+        };
+    }
+    match put_parameters(program, scratch, output, params, start + 1, end, pairs) {
+        Put::End(next) => {
+            return Written {
+                at: next,
+                full: false,
+            };
+        }
+        Put::Missed => {
+            return Written {
+                at: start,
+                full: true,
+            };
+        }
+    }
+}
+
+// The answer's own word, if all of it fits.
+fn end_page(output: &mut [u32], start: usize, added: Added) -> Answered {
+    match added {
+        Added::StepsOut => {
+            return Answered::StepsOut;
+        }
+        Added::PathOut(left) => {
+            return Answered::PathOut(left);
+        }
+        Added::Done(written, left) => {
+            if written.full {
+                return Answered::Full(left);
+            }
+            put_head(output, start, written.at, Word::ANSWER, true);
+            return Answered::Written(written.at as u32, left);
+        }
+    }
+}
+
+pub(crate) fn write_answer(
+    program: &[u32],
+    scratch: &mut [u32],
+    output: &mut [u32],
+    state: State,
+    params: u32,
+    used: u32,
+) -> Answered
+    requires { ⌜ ((P : Program) × (p : Path) × (cs : List ChoicePoint) × Answering P (now program) (now scratch) (now output) state p cs params used) ⌝ }
+    ensures { λ r. ⌜ ((P : Program) (p : Path) (cs : List ChoicePoint) → Answering P (now (program .entry)) (now (scratch .entry)) (now (output .entry)) state p cs params used
+        → AnsweredAs P (now (program .entry)) (now (scratch .entry)) (now (output .entry)) (now (scratch .exit)) (now (output .exit)) state p cs used (answer p params (state .left)) r) ⌝ }
+{
+    match look_parameters(program, scratch, params, state.left) {
+        Looked::StepsOut => {
+            return Answered::StepsOut;
+        }
+        Looked::PathOut(left) => {
+            return Answered::PathOut(left);
+        }
+        Looked::Done(left) => {
+            let start = used as usize;
+            let end = usable(output.len());
+            let top = name_parameters(program, scratch, params, state.left);
+            let page = begin_page(program, scratch, output, params, start, end, state.left);
+            let added = add_constraints(
+                program,
+                scratch,
+                output,
+                state.kept,
+                state.trail,
+                page.at,
+                end,
+                page,
+                left,
+            );
+            clear_names(scratch, top);
+            return end_page(output, start, added);
+        }
+    }
+}

@@ -1,0 +1,175 @@
+// The lines of the path's constraints, in order.
+use crate::keep::keep_equations;
+use crate::layout::CONSTRAINTS;
+use crate::line::Listed;
+use crate::lines::add_absent;
+use crate::lines::add_typed;
+use crate::look::Looked;
+use crate::look::look;
+use crate::look::look_equations;
+use crate::page::Written;
+use crate::page::add_line;
+use crate::trail::undo;
+use crate::unify::Unified;
+use crate::unify::unify;
+use crate::walk::node_at;
+use crate::walk::skip;
+use word::Word;
+ghost use mathlib.Core.List.{List};
+ghost use Prim.Native.Nat.{ℕ, _≤_, _<_};
+ghost use lib.ListN.{length};
+ghost use Rattle.rules.specs.Syntax.{Constraint};
+ghost use Rattle.semantics.specs.Substitution.{Substitution};
+ghost use Rattle.semantics.specs.Answer.{all-lines};
+ghost use Rattle.semantics.proofs.Sound.{Sound};
+ghost use Rattle.engine.specs.Review.{Kept};
+ghost use Rattle.engine.specs.Adding.{Writing, AddedAs};
+
+// How the lines of constraints end: where the next one goes with the steps left, or a stop.
+pub enum Added {
+    Done(Written, u32),
+    StepsOut,
+    PathOut(u32),
+}
+
+// A disequality: its trial again. What it bound is taken back in every case, and listed if it succeeded.
+fn add_differ(
+    program: &[u32],
+    scratch: &mut [u32],
+    output: &mut [u32],
+    left: u32,
+    right: u32,
+    trail: u32,
+    first: usize,
+    end: usize,
+    written: Written,
+    steps: u32,
+) -> Added {
+    match unify(program, scratch, left, right, trail, steps) {
+        Unified::Failed(top, rest) => {
+            undo(scratch, trail, top);
+            return Added::Done(written, rest);
+        }
+        Unified::StepsOut(top) => {
+            undo(scratch, trail, top);
+            return Added::StepsOut;
+        }
+        Unified::PathOut(top, rest) => {
+            undo(scratch, trail, top);
+            return Added::PathOut(rest);
+        }
+        Unified::Joined(top, rest) => {
+            keep_equations(scratch, trail, top);
+            let mark = trail as usize;
+            let count = (top - trail) as usize;
+            match look_equations(program, scratch, mark, count, rest) {
+                Looked::StepsOut => {
+                    return Added::StepsOut;
+                }
+                Looked::PathOut(after) => {
+                    return Added::PathOut(after);
+                }
+                Looked::Done(after) => {
+                    let line = Listed::Differ(mark, count);
+                    let next = add_line(program, scratch, output, line, first, end, written, rest);
+                    return Added::Done(next, after);
+                }
+            }
+        }
+    }
+}
+
+// One constraint, by the reference of its goal.
+fn add_constraint(
+    program: &[u32],
+    scratch: &mut [u32],
+    output: &mut [u32],
+    constraint: u32,
+    trail: u32,
+    first: usize,
+    end: usize,
+    written: Written,
+    steps: u32,
+) -> Added {
+    let kind = node_at(program, constraint).kind;
+    if kind == Word::DIFFER {
+        let second = skip(program, constraint + 1);
+        return add_differ(
+            program,
+            scratch,
+            output,
+            constraint + 1,
+            second,
+            trail,
+            first,
+            end,
+            written,
+            steps,
+        );
+    }
+    let mut term = constraint + 1;
+    if kind == Word::ABSENTO {
+        term = constraint + 2;
+    }
+    match look(program, scratch, term, steps) {
+        Looked::StepsOut => {
+            return Added::StepsOut;
+        }
+        Looked::PathOut(rest) => {
+            return Added::PathOut(rest);
+        }
+        Looked::Done(rest) => {
+            if kind == Word::ABSENTO {
+                let tag = node_at(program, constraint + 1).bits;
+                let next = add_absent(
+                    program, scratch, output, tag, term, first, end, written, steps,
+                );
+                return Added::Done(next, rest);
+            }
+            let next = add_typed(program, scratch, output, kind, term, first, end, written);
+            return Added::Done(next, rest);
+        }
+    }
+}
+
+// All constraints that the path keeps.
+pub(crate) fn add_constraints(
+    program: &[u32],
+    scratch: &mut [u32],
+    output: &mut [u32],
+    kept: u32,
+    trail: u32,
+    first: usize,
+    end: usize,
+    page: Written,
+    steps: u32,
+) -> Added
+    requires { ⌜ (end ≤ length (now output)) × (end < 268435456) × Writing (now scratch) (now output) first end (page .at) (page .full)
+        × ((bs : Substitution) × (cs : List Constraint) × (made : ℕ) × Kept (now program) (now scratch) bs cs trail kept × Sound bs cs made) ⌝ }
+    ensures { λ r. ⌜ ((g : Writing (now (scratch .entry)) (now (output .entry)) first end (page .at) (page .full)) (bs : Substitution) (cs : List Constraint) (made : ℕ)
+        → Kept (now (program .entry)) (now (scratch .entry)) bs cs trail kept → Sound bs cs made
+        → AddedAs (now (program .entry)) (now (scratch .entry)) (now (scratch .exit)) g (now (output .exit)) bs (all-lines bs cs steps) r) ⌝ }
+{
+    let mut written = page;
+    let mut left = steps;
+    let mut i = 0;
+    while i < kept {
+        let constraint = scratch[CONSTRAINTS + i as usize];
+        match add_constraint(
+            program, scratch, output, constraint, trail, first, end, written, left,
+        ) {
+            Added::Done(next, rest) => {
+                written = next;
+                left = rest;
+                i += 1;
+            }
+            Added::StepsOut => {
+                return Added::StepsOut;
+            }
+            Added::PathOut(rest) => {
+                return Added::PathOut(rest);
+            }
+        }
+    }
+    Added::Done(written, left)
+}

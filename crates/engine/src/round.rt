@@ -1,0 +1,122 @@
+// One round: from answer to answer, up to its end.
+use crate::answer::Answered;
+use crate::answer::write_answer;
+use crate::choice::back;
+use crate::Bound;
+use crate::End;
+use crate::search::search;
+use crate::state::Resumed;
+use crate::state::Searched;
+use crate::state::State;
+use crate::state::Stop;
+use crate::table::relation;
+use crate::tally::Rounded;
+use crate::tally::Tally;
+use crate::trail::undo;
+ghost use mathlib.Core.Path.{_≡_};
+ghost use mathlib.Core.List.{List};
+ghost use Prim.Native.Nat.{ℕ, _+_, _≤_};
+ghost use Rattle.rules.specs.Syntax.{Program, Relation};
+ghost use Rattle.semantics.specs.Round as definition;
+
+fn end_of(stop: Stop) -> End {
+    match stop {
+        Stop::Steps => End::Steps,
+        Stop::Path(bound) => End::Path(bound),
+    }
+}
+
+fn with_left(state: State, left: u32) -> State {
+    State {
+        head: state.head,
+        trail: state.trail,
+        made: state.made,
+        put: state.put,
+        kept: state.kept,
+        calls: state.calls,
+        choices: state.choices,
+        left,
+    }
+}
+
+fn broken(end: End, left: u32, used: u32, answers: u32) -> Rounded {
+    Rounded::Broken(
+        end,
+        Tally {
+            left,
+            used,
+            answers,
+        },
+    )
+}
+
+// The round is completed: all that is bound is undone for the next.
+fn completed(scratch: &mut [u32], state: State, used: u32, answers: u32, cuts: u32) -> Rounded {
+    undo(scratch, 0, state.trail);
+    Rounded::Completed(
+        Tally {
+            left: state.left,
+            used,
+            answers,
+        },
+        cuts,
+    )
+}
+
+pub(crate) fn round(program: &[u32], scratch: &mut [u32], output: &mut [u32], number: u32, tally: Tally) -> Rounded
+{
+    let query = relation(program, scratch, 0);
+    let params = query.params;
+    let mut state = State {
+        head: 0,
+        trail: 0,
+        made: query.vars,
+        put: 1,
+        kept: 0,
+        calls: 0,
+        choices: 0,
+        left: tally.left,
+    };
+    let mut goal = query.body;
+    let mut used = tally.used;
+    let mut answers = tally.answers;
+    let mut cuts = 0;
+    loop {
+        match search(program, scratch, state, goal, number, cuts) {
+            Searched::Stops(why, left) => {
+                return broken(end_of(why), left, used, answers);
+            }
+            Searched::Over(last, cut) => {
+                return completed(scratch, last, used, answers, cut);
+            }
+            Searched::Answer(ended, cut) => {
+                match write_answer(program, scratch, output, ended, params, used) {
+                    Answered::Full(left) => {
+                        return broken(End::Output, left, used, answers);
+                    }
+                    Answered::StepsOut => {
+                        return broken(End::Steps, 0, used, answers);
+                    }
+                    Answered::PathOut(left) => {
+                        return broken(End::Path(Bound::Waiting), left, used, answers);
+                    }
+                    Answered::Written(words, left) => {
+                        let after = with_left(ended, left);
+                        used = words;
+                        answers += 1;
+                        cuts = cut;
+                        match back(program, scratch, after) {
+                            Resumed::Over => {
+                                return completed(scratch, after, used, answers, cuts);
+                            }
+                            Resumed::Goal(next, found) => {
+                                state = next;
+                                goal = found;
+                            }
+                        }
+                    }
+                }
+            }
+        }
+    }
+}

@@ -1,0 +1,58 @@
+// The rounds of a run, one after the other.
+use crate::End;
+use crate::Report;
+use crate::round::round;
+use crate::tally::Rounded;
+use crate::tally::Tally;
+ghost use Prim.Native.Nat.{_≤_};
+ghost use mathlib.Core.List.{[]};
+ghost use lib.ListN.{length};
+ghost use Rattle.rules.specs.Syntax.{Program, Relation};
+ghost use Rattle.semantics.specs.Round as definition;
+ghost use Rattle.semantics.specs.Run.{usable};
+ghost use Rattle.engine.specs.Rounds.{Ready, Reported, ResultAs};
+
+// The report of a run with this step limit.
+fn report(end: End, round: u32, limit: u32, tally: Tally) -> Report
+    requires { ⌜ tally .left ≤ limit ⌝ }
+    ensures { λ r. ⌜ Reported end round limit tally r ⌝ }
+{
+    Report {
+        end,
+        round,
+        steps: limit - tally.left,
+        answers: tally.answers,
+        words: tally.used,
+    }
+}
+
+// Rounds 0, 1, 2 and so on, up to one that is broken off, that cut no branch, or that is the limit.
+pub(crate) fn rounds(program: &[u32], scratch: &mut [u32], output: &mut [u32], limit: u32, steps: u32) -> Report
+    requires { ⌜ ((P : Program) × (R : Relation) × Ready (now program) (now scratch) P R limit) ⌝ }
+    ensures { λ r. ⌜ ((P : Program) (R : Relation) → Ready (now (program .entry)) (now (scratch .entry)) P R limit
+        → ResultAs (now (scratch .entry)) (now (output .entry)) (now (scratch .exit)) (now (output .exit)) (definition.rounds steps P R limit 0 (usable (length (now (output .entry)))) steps []) r) ⌝ }
+{
+    let mut number = 0;
+    let mut tally = Tally {
+        left: steps,
+        used: 0,
+        answers: 0,
+    };
+    loop {
+        match round(program, scratch, output, number, tally) {
+            Rounded::Broken(end, last) => {
+                return report(end, number, steps, last);
+            }
+            Rounded::Completed(last, cuts) => {
+                if cuts == 0 {
+                    return report(End::Finished, number, steps, last);
+                }
+                if limit <= number {
+                    return report(End::Rounds, number, steps, last);
+                }
+                tally = last;
+                number += 1;
+            }
+        }
+    }
+}

@@ -18,6 +18,7 @@ ghost use mathlib.Core.List.{List};
 ghost use Prim.Native.Nat.{ℕ, _+_, _≤_};
 ghost use Rattle.rules.specs.Syntax.{Program, Relation};
 ghost use Rattle.semantics.specs.Round as definition;
+ghost use Rattle.engine.specs.Rounds.{Starting, RoundedAs};
 
 fn end_of(stop: Stop) -> End {
     match stop {
@@ -64,6 +65,9 @@ fn completed(scratch: &mut [u32], state: State, used: u32, answers: u32, cuts: u
 }
 
 pub(crate) fn round(program: &[u32], scratch: &mut [u32], output: &mut [u32], number: u32, tally: Tally) -> Rounded
+    requires { ⌜ ((P : Program) × (R : Relation) × (a : definition.Tally) × Starting (now program) (now scratch) (now output) P R number tally a) ⌝ }
+    ensures { λ r. ⌜ ((P : Program) (R : Relation) (a : definition.Tally) → Starting (now (program .entry)) (now (scratch .entry)) (now (output .entry)) P R number tally a
+        → RoundedAs (now (program .entry)) (now (scratch .entry)) (now (output .entry)) (now (scratch .exit)) (now (output .exit)) P (definition.one-round P R number (a .room) (a .left) (a .written)) r) ⌝ }
 {
     let query = relation(program, scratch, 0);
     let params = query.params;

@@ -1,6 +1,9 @@
 // Taking calls: a relation's variables are made anew, its parameters bound to the arguments, its body put to wait.
-use crate::goal::wait;
 use crate::Bound;
+use crate::goal::wait;
+use crate::layout::ENVIRONMENT;
+use crate::layout::MOST_GOALS;
+use crate::layout::MOST_VARIABLES;
 use crate::state::State;
 use crate::state::Stop;
 use crate::state::Took;
@@ -32,7 +35,7 @@ fn last(program: &[u32], scratch: &[u32], term: u32) -> u32
         if node.kind != Word::VARIABLE {
             return at;
         }
-        let entry = scratch[(at / 16384 + node.payload) as usize];
+        let entry = scratch[(at / ENVIRONMENT + node.payload) as usize];
         if entry == 0 {
             return at;
         }
@@ -86,10 +89,10 @@ pub(crate) fn take_call(
         return Took::Cut(st);
     }
     let called = relation(program, scratch, node_at(program, goal + 1).payload);
-    if 2048 < st.made + called.vars {
+    if MOST_VARIABLES < st.made + called.vars {
         return Took::Stops(Stop::Path(Bound::Variables), st.left + 1);
     }
-    if 1024 <= st.put {
+    if MOST_GOALS <= st.put {
         return Took::Stops(Stop::Path(Bound::Goals), st.left + 1);
     }
     let trail = pass(program, scratch, goal + 2, st.made, called.params, st.trail);
@@ -103,5 +106,5 @@ pub(crate) fn take_call(
         choices: st.choices,
         left: st.left,
     };
-    Took::Goes(wait(scratch, made, called.body + 16384 * st.made))
+    Took::Goes(wait(scratch, made, called.body + ENVIRONMENT * st.made))
 }

@@ -1,4 +1,6 @@
 // Choice points: eight words each.
+use crate::layout::ENVIRONMENT;
+use crate::layout::POINTS;
 use crate::state::Resumed;
 use crate::state::State;
 use crate::trail::undo;
@@ -18,7 +20,7 @@ pub(crate) fn push(scratch: &mut [u32], st: State, rest: u32, end: u32) -> State
     requires { ⌜ (12288 ≤ length (now scratch)) × (st .choices < 256) ⌝ }
     ensures { λ r. ⌜ (r ≡ one-choice-more st) × (now (scratch .exit) ≡ point (now (scratch .entry)) (st .choices) rest end (registers st)) ⌝ }
 {
-    let at = (8192 + 8 * st.choices) as usize;
+    let at = (POINTS + 8 * st.choices) as usize;
     scratch[at] = rest;
     scratch[at + 1] = end;
     scratch[at + 2] = st.head;
@@ -44,7 +46,7 @@ fn saved_state(scratch: &[u32], st: State, choices: u32) -> State
     requires { ⌜ (12288 ≤ length (now scratch)) × (0 < st .choices) × (st .choices ≤ 256) × (resumed (now scratch) st choices .put ≤ 1024) ⌝ }
     ensures { λ r. ⌜ r ≡ resumed (now (scratch .entry)) st choices ⌝ }
 {
-    let at = (8192 + 8 * (st.choices - 1)) as usize;
+    let at = (POINTS + 8 * (st.choices - 1)) as usize;
     State {
         head: scratch[at + 2],
         trail: scratch[at + 3],
@@ -66,13 +68,13 @@ pub(crate) fn back(program: &[u32], scratch: &mut [u32], st: State) -> Resumed
     if st.choices == 0 {
         return Resumed::Over;
     }
-    let at = (8192 + 8 * (st.choices - 1)) as usize;
+    let at = (POINTS + 8 * (st.choices - 1)) as usize;
     let goal = scratch[at];
     let end = scratch[at + 1];
     let mark = scratch[at + 3];
     undo(scratch, mark, st.trail);
     let size = node_at(program, goal).payload;
-    if goal % 16384 + 1 + size == end {
+    if goal % ENVIRONMENT + 1 + size == end {
         return Resumed::Goal(saved_state(scratch, st, st.choices - 1), goal);
     }
     scratch[at] = goal + 1 + size;

@@ -1,6 +1,11 @@
 // Taking conjunctions and disjunctions.
-use crate::choice::push;
 use crate::Bound;
+use crate::choice::push;
+use crate::layout::CELL_GOAL;
+use crate::layout::CELL_NEXT;
+use crate::layout::ENVIRONMENT;
+use crate::layout::MOST_DISJUNCTIONS;
+use crate::layout::MOST_GOALS;
 use crate::state::State;
 use crate::state::Stop;
 use crate::state::Took;
@@ -20,17 +25,17 @@ pub(crate) fn take_conj(program: &[u32], scratch: &mut [u32], st: State, conjunc
     ensures { λ r. ⌜ ((P : Program) (p : Path) (cs : List ChoicePoint) (base : ℕ) (gs : Goals) → Taking P (now (program .entry)) (now (scratch .entry)) st conjunction p cs (base, conj gs)
         → TookAs P (now (program .entry)) (now (scratch .exit)) cs (take-conj p cs base gs (st .left)) r) ⌝ }
 {
-    let end = conjunction % 16384 + 1 + node_at(program, conjunction).payload;
+    let end = conjunction % ENVIRONMENT + 1 + node_at(program, conjunction).payload;
     let mut goal = conjunction + 1;
     let mut filled = st.put;
     loop {
-        if 1024 <= filled {
+        if MOST_GOALS <= filled {
             return Took::Stops(Stop::Path(Bound::Goals), st.left + 1);
         }
         let size = node_at(program, goal).payload;
-        let at = (6142 + 2 * (filled + 1)) as usize;
+        let at = (CELL_GOAL + 2 * (filled + 1)) as usize;
         scratch[at] = goal;
-        if goal % 16384 + 1 + size == end {
+        if goal % ENVIRONMENT + 1 + size == end {
             scratch[at + 1] = st.head;
             return Took::Goes(State {
                 head: st.put + 1,
@@ -54,8 +59,8 @@ pub(crate) fn wait(scratch: &mut [u32], st: State, goal: u32) -> State
     requires { ⌜ (12288 ≤ length (now scratch)) × (st .put < 1024) ⌝ }
     ensures { λ r. ⌜ (r ≡ one-waits st) × (now (scratch .exit) ≡ cell (now (scratch .entry)) (st .put + 1) goal (st .head)) ⌝ }
 {
-    let at = (6142 + 2 * (st.put + 1)) as usize;
-    let next = (6143 + 2 * (st.put + 1)) as usize;
+    let at = (CELL_GOAL + 2 * (st.put + 1)) as usize;
+    let next = (CELL_NEXT + 2 * (st.put + 1)) as usize;
     scratch[at] = goal;
     scratch[next] = st.head;
     State {
@@ -76,16 +81,16 @@ pub(crate) fn take_disj(program: &[u32], scratch: &mut [u32], st: State, disjunc
     ensures { λ r. ⌜ ((P : Program) (p : Path) (cs : List ChoicePoint) (base : ℕ) (gs : Goals) → Taking P (now (program .entry)) (now (scratch .entry)) st disjunction p cs (base, disj gs)
         → TookAs P (now (program .entry)) (now (scratch .exit)) cs (take-disj p cs base gs (st .left)) r) ⌝ }
 {
-    if 1024 <= st.put {
+    if MOST_GOALS <= st.put {
         return Took::Stops(Stop::Path(Bound::Goals), st.left + 1);
     }
-    let end = disjunction % 16384 + 1 + node_at(program, disjunction).payload;
+    let end = disjunction % ENVIRONMENT + 1 + node_at(program, disjunction).payload;
     let first = disjunction + 1;
     let size = node_at(program, first).payload;
-    if first % 16384 + 1 + size == end {
+    if first % ENVIRONMENT + 1 + size == end {
         return Took::Goes(wait(scratch, st, first));
     }
-    if 256 <= st.choices {
+    if MOST_DISJUNCTIONS <= st.choices {
         return Took::Stops(Stop::Path(Bound::Disjunctions), st.left + 1);
     }
     let pushed = push(scratch, st, first + 1 + size, end);

@@ -1,9 +1,10 @@
 // Taking equalities and constraints: they narrow a path, or it is left.
+use crate::Bound;
 use crate::layout::CONSTRAINTS;
+use crate::layout::MOST_CONSTRAINTS;
 use crate::review::Reviewed;
 use crate::review::review;
 use crate::review::review_all;
-use crate::Bound;
 use crate::state::State;
 use crate::state::Stop;
 use crate::state::Took;
@@ -74,7 +75,7 @@ pub(crate) fn take_constraint(program: &[u32], scratch: &mut [u32], st: State, g
     ensures { λ r. ⌜ ((P : Program) (p : Path) (cs : List ChoicePoint) (base : ℕ) (c : Constraint) → Ready P (now (program .entry)) (now (scratch .entry)) st goal p cs (base, constrain c)
         → TookAs P (now (program .entry)) (now (scratch .exit)) cs (take-constraint p cs (shift-constraint base c) (st .left)) r) ⌝ }
 {
-    if 512 <= st.kept {
+    if MOST_CONSTRAINTS <= st.kept {
         return Took::Stops(Stop::Path(Bound::Constraints), st.left + 1);
     }
     scratch[CONSTRAINTS + st.kept as usize] = goal;

@@ -1,5 +1,6 @@
 // Reviews of constraints: does one fail?
 use crate::layout::CONSTRAINTS;
+use crate::layout::ENVIRONMENT;
 use crate::scan::Scanned;
 use crate::scan::scan;
 use crate::trail::undo;
@@ -42,7 +43,7 @@ fn reaches(program: &[u32], scratch: &[u32], constraint: u32, kind: u32, variabl
     if node.kind != Word::VARIABLE {
         return false;
     }
-    if found / 16384 + node.payload != variable {
+    if found / ENVIRONMENT + node.payload != variable {
         return false;
     }
     true
@@ -99,7 +100,7 @@ fn review_type(
             program,
             scratch,
             other,
-            found / 16384 + node.payload,
+            found / ENVIRONMENT + node.payload,
             trail,
             kept,
         ) {

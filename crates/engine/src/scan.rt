@@ -1,4 +1,6 @@
 // The nodes of a followed term, first part before second, up to the first find: the one traversal of the occurs check, of an absento review and of the writer.
+use crate::layout::ENVIRONMENT;
+use crate::layout::MOST_NODES;
 use crate::walk::node_at;
 use crate::walk::walk;
 use word::Word;
@@ -38,7 +40,7 @@ pub(crate) fn scan(
         let node = node_at(program, found);
         let kind = node.kind;
         if kind == Word::VARIABLE {
-            if found / 16384 + node.payload == sought {
+            if found / ENVIRONMENT + node.payload == sought {
                 return Scanned::Found(left - 1);
             }
             return Scanned::Clear(left - 1);
@@ -49,7 +51,7 @@ pub(crate) fn scan(
             }
             return Scanned::Clear(left - 1);
         }
-        if 512 <= waiting {
+        if MOST_NODES <= waiting {
             return Scanned::PathOut(left);
         }
         match scan(program, scratch, sought, found + 1, waiting + 1, left - 1) {

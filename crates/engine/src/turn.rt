@@ -1,5 +1,7 @@
 // One turn of a round: a goal is taken, and the next one found.
 use crate::choice::back;
+use crate::layout::CELL_GOAL;
+use crate::layout::CELL_NEXT;
 use crate::state::Resumed;
 use crate::state::State;
 use crate::state::Took;
@@ -39,8 +41,8 @@ fn go_on(program: &[u32], scratch: &mut [u32], st: State, round: u32) -> Turned
         }
         return leave(program, scratch, st, 0);
     }
-    let goal = (6142 + 2 * st.head) as usize;
-    let next = (6143 + 2 * st.head) as usize;
+    let goal = (CELL_GOAL + 2 * st.head) as usize;
+    let next = (CELL_NEXT + 2 * st.head) as usize;
     let popped = State {
         head: scratch[next],
         trail: st.trail,

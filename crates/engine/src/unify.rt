@@ -1,4 +1,6 @@
 // Unification: a pair of terms is looked at, and pairs of second parts wait in the scratch.
+use crate::layout::ENVIRONMENT;
+use crate::layout::MOST_PAIRS;
 use crate::layout::PAIRS;
 use crate::scan::Scanned;
 use crate::scan::scan;
@@ -50,17 +52,17 @@ fn compare(program: &[u32], left: u32, right: u32) -> Compared
     let a_payload = a.payload;
     let b_payload = b.payload;
     if a_kind == Word::VARIABLE {
-        let x = left / 16384 + a_payload;
+        let x = left / ENVIRONMENT + a_payload;
         if b_kind != Word::VARIABLE {
             return Compared::Binds(x, right);
         }
-        if right / 16384 + b_payload == x {
+        if right / ENVIRONMENT + b_payload == x {
             return Compared::Agrees;
         }
         return Compared::Binds(x, right);
     }
     if b_kind == Word::VARIABLE {
-        return Compared::Binds(right / 16384 + b_payload, left);
+        return Compared::Binds(right / ENVIRONMENT + b_payload, left);
     }
     if a_kind == Word::PAIR {
         if b_kind != Word::PAIR {
@@ -146,7 +148,7 @@ pub(crate) fn unify(
                 rest = after;
             }
             Met::Parts(c, d, e, f) => {
-                if 512 <= waiting {
+                if MOST_PAIRS <= waiting {
                     return Unified::PathOut(trail, rest);
                 }
                 let at = PAIRS + 2 * waiting;

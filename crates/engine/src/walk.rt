@@ -1,4 +1,5 @@
 // Terms by reference: a position in the program and, 16,384 times, the base of its environment. Nothing is copied.
+use crate::layout::ENVIRONMENT;
 use word::Word;
 ghost use mathlib.Core.Path.{_≡_};
 ghost use Prim.Native.Nat.{_+_, _<_};
@@ -19,7 +20,7 @@ pub(crate) fn node_at(program: &[u32], reference: u32) -> Node
     requires { ⌜ pos-of reference < length (now program) ⌝ }
     ensures { λ r. ⌜ NodeAt (now (program .entry)) reference (r .bits) (r .kind) (r .payload) ⌝ }
 {
-    let bits = program[(reference % 16384) as usize];
+    let bits = program[(reference % ENVIRONMENT) as usize];
     let word = Word::from_bits(bits);
     Node {
         bits,
@@ -39,7 +40,7 @@ pub(crate) fn walk(program: &[u32], scratch: &[u32], term: u32) -> u32
         if node.kind != Word::VARIABLE {
             return at;
         }
-        let entry = scratch[(at / 16384 + node.payload) as usize];
+        let entry = scratch[(at / ENVIRONMENT + node.payload) as usize];
         if entry == 0 {
             return at;
         }

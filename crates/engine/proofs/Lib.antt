@@ -34,3 +34,4 @@ pub mod LinesLaws
 pub mod KeepLaws
 pub mod LookLaws
 pub mod WriterLaws
+pub mod RoundLaws

@@ -15,19 +15,27 @@ use crate::tally::Tally;
 use crate::trail::undo;
 ghost use mathlib.Core.Path.{_≡_};
 ghost use mathlib.Core.List.{List};
-ghost use Prim.Native.Nat.{ℕ, _+_, _≤_};
+ghost use Prim.Native.Nat.{ℕ};
 ghost use Rattle.rules.specs.Syntax.{Program, Relation};
+ghost use Rattle.semantics.specs.Path.{Path, ChoicePoint};
 ghost use Rattle.semantics.specs.Round as definition;
-ghost use Rattle.engine.specs.Rounds.{Starting, RoundedAs};
+ghost use Rattle.engine.specs.Report.{ran, ended};
+ghost use Rattle.engine.specs.Taking.{Holds, stop-of, narrow};
+ghost use Rattle.engine.specs.Rounds.{Clean, Starting, RoundedAs};
+ghost use Rattle.engine.specs.declared.tally.Rounded.the-variants.{Completed, Broken};
 
-fn end_of(stop: Stop) -> End {
+fn end_of(stop: Stop) -> End
+    ensures { λ r. ⌜ ended r ≡ ran (definition.end-of (stop-of stop)) ⌝ }
+{
     match stop {
         Stop::Steps => End::Steps,
         Stop::Path(bound) => End::Path(bound),
     }
 }
 
-fn with_left(state: State, left: u32) -> State {
+fn with_left(state: State, left: u32) -> State
+    ensures { λ r. ⌜ r ≡ narrow state (state .trail) (state .kept) left ⌝ }
+{
     State {
         head: state.head,
         trail: state.trail,
@@ -40,7 +48,9 @@ fn with_left(state: State, left: u32) -> State {
     }
 }
 
-fn broken(end: End, left: u32, used: u32, answers: u32) -> Rounded {
+fn broken(end: End, left: u32, used: u32, answers: u32) -> Rounded
+    ensures { λ r. ⌜ r ≡ Broken end (record { left = left; used = used; answers = answers }) ⌝ }
+{
     Rounded::Broken(
         end,
         Tally {
@@ -52,7 +62,11 @@ fn broken(end: End, left: u32, used: u32, answers: u32) -> Rounded {
 }
 
 // The round is completed: all that is bound is undone for the next.
-fn completed(scratch: &mut [u32], state: State, used: u32, answers: u32, cuts: u32) -> Rounded {
+fn completed(scratch: &mut [u32], state: State, used: u32, answers: u32, cuts: u32) -> Rounded
+    requires { ⌜ ((P : Program) × (ws : List ℕ) × (p : Path) × (cs : List ChoicePoint) × Holds P ws (now scratch) state p cs) ⌝ }
+    ensures { λ r. ⌜ (r ≡ Completed (record { left = state .left; used = used; answers = answers }) cuts)
+        × ((P : Program) (ws : List ℕ) (p : Path) (cs : List ChoicePoint) → Holds P ws (now (scratch .entry)) state p cs → Clean ws (now (scratch .exit)) P) ⌝ }
+{
     undo(scratch, 0, state.trail);
     Rounded::Completed(
         Tally {

@@ -155,6 +155,10 @@ completed-is {ws} {s} {output} {s′} {output′} {P} {t = t} {c = c} q l clean 
 abbrev pub RoundAs : List ℕ → List ℕ → List ℕ → Program → Relation → ℕ → Tally → List ℕ → List ℕ → code-rounded.Rounded → Type 0
 RoundAs ws s₀ output₀ P R k a s output x = RoundedAs ws s₀ output₀ s output P (one-round P R k (a .room) (a .left) (a .written)) x
 
+-- what a part of the code returned, as the round's result
+pub round-result : {ws s output s′ output′ : List ℕ} {P : Program} {x : Rounded} {y z : code-rounded.Rounded} → y ≡ z → RoundedAs ws s output s′ output′ P x z → RoundedAs ws s output s′ output′ P x y
+round-result {ws} {s} {output} {s′} {output′} {P} {x} e h = subst (RoundedAs ws s output s′ output′ P x) (sym e) h
+
 -- The search has stopped, in s′.
 module _ {ws s₀ output₀ : List ℕ} {P : Program} {R : Relation} {k n : ℕ} {a : Tally} {s output : List ℕ} {st : State} {goal used answers cuts : ℕ} (h : Rounding ws s₀ output₀ P R k n a s output st goal used answers cuts)
     (s′ : List ℕ) (r : Searched) (told : SearchedAs P (h .well-formed) n k ws s′ (h .state) (h .fuel) r) where

@@ -1,10 +1,9 @@
 -- One round, from answer to answer: what the loop of `round` keeps, and one law for each way in which it returns or goes on.
-use Prim.Native.Nat.{ℕ, zero, suc, _+_, _-_, _≤_, _<_}
+use Prim.Native.Nat.{ℕ, suc, _+_, _≤_, _<_}
 use mathlib.Core.Path.{_≡_, refl, sym, ap, subst, _∙_}
 use mathlib.Core.Option.{some}
 use mathlib.Core.List.{List, [], _∷_, _++_, append-assoc, append-nil}
 use native.Mathlib.Omega.{arith}
-use lib.Dec.{leb}
 use lib.ListN.{length, take, getElem?, length-append}
 use borrow.Author.Tests.{le-leb, lt-leb}
 use Rattle.rules.specs.Syntax.{Goals, one, more, disj, Program, Relation}
@@ -23,13 +22,13 @@ use Rattle.semantics.proofs.Programs.{ProgramIn, program-in}
 use Rattle.semantics.proofs.Turn.{Fine, ChoicesFine, StateFine}
 use Rattle.semantics.proofs.Fair.{RoundedFair, search-fair}
 use Rattle.semantics.proofs.Whole.{start-fine}
-use Rattle.engine.specs.Reference.{at, TaskAt, pos-of}
+use Rattle.engine.specs.Reference.{pos-of}
 use Rattle.engine.specs.Memory.{Registers, Stored}
-use Rattle.engine.specs.Trail.{Trailed, Undone}
+use Rattle.engine.specs.Trail.{Undone}
 use Rattle.engine.specs.Report.{ran, ended}
 use Rattle.engine.specs.Taking.{Holds, RelationIs, BackAs, narrow, stop-of}
 use Rattle.engine.specs.Searching.{Searching, counted-to, Answers, SearchedAs}
-use Rattle.engine.specs.Answering.{Answering, AnswerLeft, AnswerSays, AnsweredAs}
+use Rattle.engine.specs.Answering.{Answering, AnswerSays, AnsweredAs}
 use Rattle.engine.specs.Rounds.{Clean, TallyAs, Starting, Left, RoundedAs, completed-as, broken-as}
 use Rattle.engine.specs.declared.End.{End}
 use Rattle.engine.specs.declared.End.the-variants as ends
@@ -46,7 +45,7 @@ use Rattle.engine.specs.declared.tally.Tally as code
 use Rattle.engine.specs.declared.tally.Rounded as code-rounded
 use Rattle.engine.specs.declared.tally.Rounded.the-variants.{Completed, Broken}
 use Rattle.engine.proofs.FrameLaws.{table-same, names-same}
-use Rattle.engine.proofs.StartLaws.{first-registers, start-stored, marked-whole}
+use Rattle.engine.proofs.StartLaws.{first-registers, start-stored}
 
 -- all that is bound is undone
 pub undone-clean : {P : Program} {ws s s′ : List ℕ} {r : Registers} {n : ℕ} {p : Path} {cs : List ChoicePoint} → Stored P ws s r n p cs → Undone ws s s′ [] → Clean ws s′ P

@@ -1,9 +1,9 @@
 // One round: from answer to answer, up to its end.
+use crate::Bound;
+use crate::End;
 use crate::answer::Answered;
 use crate::answer::write_answer;
 use crate::choice::back;
-use crate::Bound;
-use crate::End;
 use crate::search::search;
 use crate::state::Resumed;
 use crate::state::Searched;
@@ -78,7 +78,13 @@ fn completed(scratch: &mut [u32], state: State, used: u32, answers: u32, cuts: u
     )
 }
 
-pub(crate) fn round(program: &[u32], scratch: &mut [u32], output: &mut [u32], number: u32, tally: Tally) -> Rounded
+pub(crate) fn round(
+    program: &[u32],
+    scratch: &mut [u32],
+    output: &mut [u32],
+    number: u32,
+    tally: Tally,
+) -> Rounded
     requires { ⌜ ((P : Program) × (R : Relation) × (a : definition.Tally) × Starting (now program) (now scratch) (now output) P R number tally a) ⌝ }
     ensures { λ r. ⌜ ((P : Program) (R : Relation) (a : definition.Tally) → Starting (now (program .entry)) (now (scratch .entry)) (now (output .entry)) P R number tally a
         → RoundedAs (now (program .entry)) (now (scratch .entry)) (now (output .entry)) (now (scratch .exit)) (now (output .exit)) P (definition.one-round P R number (a .room) (a .left) (a .written)) r) ⌝ }

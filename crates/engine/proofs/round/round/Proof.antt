@@ -1,14 +1,12 @@
 -- `round` goes from answer to answer: a search from the state reached ends as the round does.
-use mathlib.Core.Path.{_≡_, refl, _∙_}
+use mathlib.Core.Path.{refl, _∙_}
 use mathlib.Core.List.{[]}
-use Prim.Native.Nat.{ℕ, suc, _<_}
 use native.Mathlib.Omega.{arith}
 use borrow.Author.Needs.{needs}
-use lib.ListN.{length}
 use Rattle.rules.specs.Syntax.{Program, Relation}
 use Rattle.semantics.specs.Round as definition
 use Rattle.engine.specs.Rounds.{Starting, Left}
-use Rattle.engine.proofs.RoundLaws.{Rounding, round-result, round-starts, round-stops, over-held, round-over, round-answers, round-answering, answers-few, wrote-full, wrote-steps-out, wrote-path-out, Wrote, wrote, wrote-held, last-held, last-over, next-round}
+use Rattle.engine.proofs.RoundLaws.{Rounding, round-result, round-starts, round-stops, over-held, round-over, round-answers, round-answering, answers-few, wrote-full, wrote-steps-out, wrote-path-out, wrote, wrote-held, last-held, last-over, next-round}
 use Rattle.engine.proofs.round.round.Statement.{statement}
 use Rattle.engine.proofs.round.round.Tie as tie
 use Rattle.engine.proofs.round.round.Reads as reads
@@ -290,16 +288,18 @@ loop-again : tie.Need-loop-again Inv-loop μ-loop
 loop-again c =
     let retreat = c .before .before .before .before .before in
     let writer = retreat .before .before .before .before .before .before .before .before .before .before in
-    let searched = writer .before .before .before .before .before .before .before .before in
-    (record { scratch-length = retreat .back .kept .1 .0 ∙ writer .write-answer .kept .1 .0 ∙ searched .search .kept .1 .0 ∙ searched .before .before .loop .inv .0 .scratch-length; output-length = writer .write-answer .kept .1 .1 .0 ∙ searched .before .before .loop .inv .0 .output-length }, λ P R a i.
-      let h = searched .before .before .loop .inv .1 P R a i in
-      let told = searched .search .ensures P (h .well-formed) _ (h .state) (h .fuel) (h .under) (h .enough) in
-      let x = round-answers h _ _ told (writer .before .before .before .before .ended .given .1) in
-      let said = writer .write-answer .ensures P (x .path) (x .choices) (round-answering h x) in
-      let y = wrote h x (searched .search .kept .1 .0) said (retreat .before .before .before .before .words .given .1) in
-      let is = retreat .before .before .with-left .ensures in
-      let led = retreat .back .ensures P (x .path) (x .choices) (y .tally) (wrote-held h x (searched .search .kept .1 .0) said y _ is) in
-      next-round h x (searched .search .kept .1 .0) said y _ is _ _ led (c .before .next .given .1) (retreat .back .kept .1 .0) .0)
+    let searched = writer .before .before .before .before .before .before .before .before in (
+      record { scratch-length = retreat .back .kept .1 .0 ∙ writer .write-answer .kept .1 .0 ∙ searched .search .kept .1 .0 ∙ searched .before .before .loop .inv .0 .scratch-length; output-length = writer .write-answer .kept .1 .1 .0 ∙ searched .before .before .loop .inv .0 .output-length },
+      λ P R a i.
+          let h = searched .before .before .loop .inv .1 P R a i in
+          let told = searched .search .ensures P (h .well-formed) _ (h .state) (h .fuel) (h .under) (h .enough) in
+          let x = round-answers h _ _ told (writer .before .before .before .before .ended .given .1) in
+          let said = writer .write-answer .ensures P (x .path) (x .choices) (round-answering h x) in
+          let y = wrote h x (searched .search .kept .1 .0) said (retreat .before .before .before .before .words .given .1) in
+          let is = retreat .before .before .with-left .ensures in
+          let led = retreat .back .ensures P (x .path) (x .choices) (y .tally) (wrote-held h x (searched .search .kept .1 .0) said y _ is) in
+          next-round h x (searched .search .kept .1 .0) said y _ is _ _ led (c .before .next .given .1) (retreat .back .kept .1 .0) .0,
+    )
 
 pub round-spec : {M : Type 1} → statement M
 round-spec =

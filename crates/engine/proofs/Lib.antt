@@ -35,3 +35,4 @@ pub mod KeepLaws
 pub mod LookLaws
 pub mod WriterLaws
 pub mod RoundLaws
+pub mod ClearLaws

@@ -36,3 +36,4 @@ pub mod LookLaws
 pub mod WriterLaws
 pub mod RoundLaws
 pub mod ClearLaws
+pub mod RoundsLaws

@@ -2,8 +2,8 @@
 use Prim.Native.Nat.{ℕ, _+_, _-_, _≤_, _<_}
 use mathlib.Core.Path.{_≡_}
 use mathlib.Core.Option.{some}
-use mathlib.Core.List.{List, _++_}
-use lib.ListN.{length, take, replicate, getElem?}
+use mathlib.Core.List.{List}
+use lib.ListN.{length, take, getElem?}
 use Rattle.rules.specs.Syntax.{Program, Relation}
 use Rattle.rules.specs.Accept.{read, accepted}
 use Rattle.semantics.specs.Round as definition
@@ -71,15 +71,3 @@ pub record Reported (end : End) (round limit : ℕ) (t : Tally) (r : Report) : T
   pub is-steps : r .steps ≡ limit - t .left
   pub is-answers : r .answers ≡ t .answers
   pub is-words : r .words ≡ t .used
-
--- an accepted program, and a scratch that is all 0
-pub record Filling (ws s : List ℕ) : Type 0 where
-  pub program : Program
-  pub is-read : read ws ≡ accepted program
-  pub all-zero : s ≡ replicate (length s) 0
-  pub long : 12288 ≤ length s
-
--- the table is filled, and nothing else is in the scratch
-pub record Filled (ws s s′ : List ℕ) : Type 0 where
-  pub same-length : length s′ ≡ length s
-  pub clean : (P : Program) → read ws ≡ accepted P → Clean ws s′ P

@@ -47,3 +47,6 @@ clear-done before from ws at h l = ext-getD 0 ws (cleared before from) (h .same-
         let z : i ≡ length (take from before) + (i - from) = omega (arith, m) in
         h .zero-up-to i q (omega arith)
         ∙ sym (ap (λ j. getD (cleared before from) j 0) z ∙ getD-append-add (take from before) (replicate (length before - from) 0) (i - from) 0 ∙ getD-replicate (length before - from) (i - from) 0 0 (omega (arith, h .same-length)))
+
+pub cleared-zero : (ws : List ℕ) (i : ℕ) → i < length ws → getD (cleared ws 0) i 0 ≡ 0
+cleared-zero ws i h = getD-replicate (length ws - 0) i 0 0 (omega arith)

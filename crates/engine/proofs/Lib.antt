@@ -37,3 +37,4 @@ pub mod WriterLaws
 pub mod RoundLaws
 pub mod ClearLaws
 pub mod RoundsLaws
+pub mod RunLaws

@@ -1,0 +1,134 @@
+-- A run as a whole: refusals, and what the rounds and the clearing come to.
+use Prim.Native.Nat.{ℕ, zero, suc, _+_, _-_, _<_, _≤_}
+use mathlib.Core.Path.{_≡_, refl, sym, ap, _∙_, subst}
+use mathlib.Core.Bool.{Bool, true, false, _&&_}
+use mathlib.Core.Option.{some}
+use mathlib.Core.List.{List, [], _∷_, _++_}
+use native.Mathlib.Omega.{arith}
+use lib.Dec.{leb}
+use lib.ListN.{length, take, replicate, getElem?, length-append, length-take, length-replicate}
+use borrow.Author.Tests.{le-leb, lt-leb}
+use Rattle.rules.specs.Syntax.{Program, Relation}
+use Rattle.rules.specs.Accept.{Accept, accepted, refused, read, read-with}
+use Rattle.rules.specs.Settings.{settings-good}
+use Rattle.rules.specs.Verdict.{Said, yes-said, no-said, said}
+use Rattle.rules.specs.Inner.{RelationsAt}
+use Rattle.rules.proofs.Stands.{stands-self}
+use Rattle.rules.proofs.Accepted.{read-is-written, accepted-query}
+use Rattle.semantics.specs.Round.{Result, rounds}
+use Rattle.semantics.specs.Run.{Report, refusal, ran, returns, report-read, report-program, leave, run, usable, page, counts}
+use Rattle.semantics.proofs.Words.{demand3-run}
+use Rattle.engine.specs.declared.Report as code
+use Rattle.engine.specs.Report.{cleared, ended, Kept, Turned, Admitted}
+use Rattle.engine.specs.Rounds.{Clean, Ready, Left, ResultAs}
+use Rattle.engine.specs.Reference.{at}
+use Rattle.engine.specs.Memory.{TableIn}
+use Rattle.engine.specs.Trail.{Same}
+use Rattle.engine.proofs.ClearLaws.{cleared-length, cleared-zero}
+
+-- what was said, back to the reading
+pub accepted-said : (r : Accept) → yes-said ≡ said r → (P : Program) × (r ≡ accepted P)
+accepted-said (accepted P) e = (P, refl)
+accepted-said (refused d q) e = absurd (let z : _≡_ {A = ℕ} 0 1 = cc in omega arith)
+
+refused-said : (r : Accept) (c p : ℕ) → no-said c p ≡ said r → r ≡ refused c p
+refused-said (accepted P) c p e = absurd (let z : _≡_ {A = ℕ} 0 1 = cc in omega arith)
+refused-said (refused d q) c p e = let x : c ≡ d = cc in let y : p ≡ q = cc in rw (x, y) refl
+
+-- the relations of an accepted program stand in its words
+relations-there : (words : List ℕ) (P : Program) → read words ≡ accepted P → RelationsAt words 0 P × (length P ≤ 256)
+relations-there words P e =
+    let w = read-is-written words P e in
+    (record { stands = rw (sym (w .is-written)) (stands-self words); to = omega (arith, ap length (w .is-written)); good = w .well-formed .relations; short = w .few-words }, w .well-formed .few)
+
+module _ (words : List ℕ) (round-limit step-limit : ℕ) (output scratch : List ℕ) where
+  comes-to : Report
+  comes-to = returns words round-limit step-limit (length output) (length scratch)
+
+  kept-refusal : (c p : ℕ) (r : code.Report) → Turned c p r → comes-to ≡ refusal c p → Kept words round-limit step-limit output scratch r output scratch
+  unfolding comes-to
+  kept-refusal c p r t e =
+      let z : run words round-limit step-limit output scratch ≡ leave (refusal c p) output scratch = ap (λ x. leave x output scratch) e in
+      record {
+        is-end = ap ended (t .is-end) ∙ rw z refl;
+        is-round = t .is-round ∙ rw z refl;
+        is-steps = t .is-steps ∙ rw z refl;
+        is-answers = t .is-answers ∙ rw z refl;
+        is-words = t .is-words ∙ rw z refl;
+        is-output = rw z refl;
+        is-scratch = rw z refl;
+        demand = λ x q. absurd (let y : refusal c p ≡ ran x = sym (ap (λ (w : _). w .report) z) ∙ q in let n : _≡_ {A = ℕ} 0 1 = cc in omega arith)
+      }
+
+  pub rounds-refused : (r : code.Report) → Turned 9 0 r → 255 < round-limit → Kept words round-limit step-limit output scratch r output scratch
+  unfolding comes-to
+  rounds-refused r t h = kept-refusal 9 0 r t (simp (lt-leb round-limit 255 h))
+
+  pub scratch-refused : (r : code.Report) → Turned 9 0 r → round-limit ≤ 255 → length scratch < 16384 → Kept words round-limit step-limit output scratch r output scratch
+  unfolding comes-to
+  scratch-refused r t h k = kept-refusal 9 0 r t (simp (le-leb round-limit 255 h, lt-leb 16384 (length scratch) k))
+
+  pub program-refused : (c p : ℕ) (r : code.Report) → Turned c p r → round-limit ≤ 255 → 16384 ≤ length scratch → no-said c p ≡ said (read words) → Kept words round-limit step-limit output scratch r output scratch
+  unfolding comes-to
+  program-refused c p r t h k e = kept-refusal c p r t (simp (le-leb round-limit 255 h, le-leb 16384 (length scratch) k, refused-said (read words) c p e))
+
+  pub admitted : round-limit ≤ 255 → 16384 ≤ length scratch → yes-said ≡ said (read words) → Admitted words round-limit scratch
+  admitted h k e = let q = accepted-said (read words) e in record { program = q .0; is-read = q .1; few-rounds = h; long = k }
+
+  -- the result of an accepted program
+  module _ (a : Admitted words round-limit scratch) where
+    abbrev pub query-of : Relation
+    query-of = accepted-query words (a .program) (a .is-read) .0
+
+    is-query : getElem? (a .program) 0 ≡ some query-of
+    is-query = ap (λ (P : Program). getElem? P 0) (accepted-query words (a .program) (a .is-read) .2)
+
+    comes-to-run : comes-to ≡ ran (rounds step-limit (a .program) query-of round-limit 0 (usable (length output)) step-limit [])
+    unfolding comes-to
+    comes-to-run =
+        let q = accepted-query words (a .program) (a .is-read) in
+        simp (le-leb round-limit 255 (a .few-rounds), le-leb 16384 (length scratch) (a .long), a .is-read)
+        (subst (λ (P : Program). report-program P round-limit step-limit (length output) ≡ ran (rounds step-limit P (q .0) round-limit 0 (usable (length output)) step-limit [])) (sym (q .2)) refl)
+
+    pub filling : (s : List ℕ) → s ≡ cleared scratch 0 → (P : Program) × RelationsAt words 0 P × (length P ≤ 256) × (12288 ≤ length s)
+    filling s e =
+        let n : length s ≡ length scratch = ap length e ∙ cleared-length scratch 0 in
+        let r = relations-there words (a .program) (a .is-read) in
+        (a .program, r .0, r .1, omega (arith, a .long))
+
+    -- the table filled, in a scratch that was all 0
+    pub ready : (s s′ : List ℕ) → s ≡ cleared scratch 0 → length s′ ≡ length s → ((P : Program) → RelationsAt words 0 P → length P ≤ 256 → TableIn words s′ P) → Same s s′ 0 11776
+        → Ready words s′ (a .program) query-of round-limit
+    ready s s′ e l table low =
+        let n : length s ≡ length scratch = ap length e ∙ cleared-length scratch 0 in
+        let r = relations-there words (a .program) (a .is-read) in
+        let zeros : (i : ℕ) → i < 11776 → at s′ i ≡ 0 = λ i h. low i (omega arith) h ∙ ap (λ (ws : List ℕ). at ws i) e ∙ cleared-zero scratch i (omega (arith, a .long)) in
+        record {
+          is-read = a .is-read;
+          query = is-query;
+          clean = record { long = omega (arith, a .long); table = table (a .program) (r .0) (r .1); open-all = λ x h. zeros x (omega arith); nameless = λ i h k. zeros i (omega arith) };
+          few-rounds = a .few-rounds
+        }
+
+    pub kept-run : (s t s′ output′ : List ℕ) (r : code.Report) → t ≡ cleared scratch 0 → length s ≡ length t
+        → ResultAs s output s′ output′ (rounds step-limit (a .program) query-of round-limit 0 (usable (length output)) step-limit []) r
+        → Kept words round-limit step-limit output scratch r (cleared output′ (r .words)) (cleared s′ 0)
+    unfolding comes-to
+    kept-run s t s′ output′ r c n h =
+        let m : length s ≡ length scratch = n ∙ ap length c ∙ cleared-length scratch 0 in
+        let x : Result = rounds step-limit (a .program) query-of round-limit 0 (usable (length output)) step-limit [] in
+        let z : run words round-limit step-limit output scratch ≡ leave (ran x) output scratch = ap (λ y. leave y output scratch) comes-to-run in
+        let o : cleared output′ (r .words) ≡ page (x .answers) ++ replicate (length output - length (page (x .answers))) 0 =
+            ap (λ p. p ++ replicate (length output′ - r .words) 0) (h .page-is) ∙ ap (λ m. page (x .answers) ++ replicate m 0) (ap (λ m. m - r .words) (h .lengths .output-length) ∙ ap (λ m. length output - m) (h .is-words)) in
+        let y : length s′ - 0 ≡ length scratch = omega (arith, h .lengths .scratch-length) in
+        let after : run words round-limit step-limit output scratch .output ≡ cleared output′ (r .words) = rw z (sym o) in
+        record {
+          is-end = h .is-end ∙ rw z refl;
+          is-round = h .is-round ∙ rw z refl;
+          is-steps = h .is-steps ∙ rw z refl;
+          is-answers = h .is-answers ∙ rw z refl;
+          is-words = h .is-words ∙ rw z refl;
+          is-output = sym after;
+          is-scratch = ap (λ m. replicate m 0) y ∙ rw z refl;
+          demand = λ v q. rw (← after) (demand3-run words round-limit step-limit output scratch v q)
+        }

@@ -1,0 +1,53 @@
+-- `run_accepted` clears the scratch, fills the table, runs the rounds, and clears what is left.
+use mathlib.Core.List.{[]}
+use Rattle.engine.proofs.RunLaws.{query-of, filling, ready, kept-run}
+use borrow.Author.Needs.{needs}
+use Rattle.engine.proofs.run_accepted.Statement.{statement}
+use Rattle.engine.proofs.run_accepted.Tie as tie
+use Rattle.engine.proofs.run_accepted.Reads as reads
+use Rattle.engine.proofs.run_accepted.Lts as lts
+use Rattle.engine.proofs.clear.clear.Reads as clear-reads
+use Rattle.engine.proofs.rounds.rounds.Reads as rounds-reads
+use Rattle.engine.proofs.table.fill.Reads as fill-reads
+
+clear-requires : tie.Need-clear-requires
+clear-requires c κs = search needs
+
+fill-requires : tie.Need-fill-requires
+fill-requires c κs = filling _ _ 0 [] _ (c .before .before .before .before .before .before .before .before .pre) _ (c .before .before .before .clear .ensures)
+
+rounds-requires : tie.Need-rounds-requires
+rounds-requires c κs = (c .before .before .before .before .before .before .before .before .before .before .before .before .before .pre .program, query-of _ _ 0 [] _ (c .before .before .before .before .before .before .before .before .before .before .before .before .before .pre), ready _ _ 0 [] _ (c .before .before .before .before .before .before .before .before .before .before .before .before .before .pre) _ _ (c .before .before .before .before .before .before .before .before .clear .ensures) (c .before .before .before .before .fill .kept .1 .0) (c .before .before .before .before .fill .ensures .0) (c .before .before .before .before .fill .ensures .1))
+
+cast-used : tie.Need-cast-used
+cast-used c = search needs
+
+clear-requires-2 : tie.Need-clear-requires-2
+clear-requires-2 c κs = search needs
+
+clear-requires-3 : tie.Need-clear-requires-3
+clear-requires-3 c κs = search needs
+
+same-length : tie.Need-same-length
+same-length c = search needs
+
+same-length-2 : tie.Need-same-length-2
+same-length-2 c = search needs
+
+returns : tie.Need-returns
+returns c = rw (c .before .before .clear3 .ensures, c .before .before .before .before .before .before .clear2 .ensures) (kept-run _ _ _ _ _ (c .before .before .before .before .before .before .before .before .before .before .before .before .before .before .before .before .before .before .before .before .before .before .before .before .before .before .before .pre) _ _ _ _ _ (c .before .before .before .before .before .before .before .before .before .before .before .before .before .before .before .before .before .before .before .before .before .before .clear .ensures) (c .before .before .before .before .before .before .before .before .before .before .before .before .before .before .before .before .before .before .fill .kept .1 .0)
+    (c .before .before .before .before .before .before .before .before .before .before .before .before .before .rounds .ensures (c .before .before .before .before .before .before .before .before .before .before .before .before .before .before .before .before .before .before .before .before .before .before .before .before .before .before .before .pre .program) (query-of _ _ 0 [] _ (c .before .before .before .before .before .before .before .before .before .before .before .before .before .before .before .before .before .before .before .before .before .before .before .before .before .before .before .pre)) (ready _ _ 0 [] _ (c .before .before .before .before .before .before .before .before .before .before .before .before .before .before .before .before .before .before .before .before .before .before .before .before .before .before .before .pre) _ _ (c .before .before .before .before .before .before .before .before .before .before .before .before .before .before .before .before .before .before .before .before .before .before .clear .ensures) (c .before .before .before .before .before .before .before .before .before .before .before .before .before .before .before .before .before .before .fill .kept .1 .0) (c .before .before .before .before .before .before .before .before .before .before .before .before .before .before .before .before .before .before .fill .ensures .0) (c .before .before .before .before .before .before .before .before .before .before .before .before .before .before .before .before .before .before .fill .ensures .1))))
+
+pub run-accepted-spec : {M : Type 1} → statement M
+run-accepted-spec =
+    tie.close
+    (tie.spec
+    clear-requires
+    fill-requires
+    rounds-requires
+    cast-used
+    clear-requires-2
+    clear-requires-3
+    same-length
+    same-length-2
+    returns)

@@ -8,7 +8,7 @@ use lib.Dec.{ltb}
 use lib.ListN.{length, getD, set, take, replicate, length-append, length-take, length-replicate, length-set, getD-replicate, List·getD-append}
 use lib.Seq.{ext-getD, getD-take, getD-append-add, getD-set-same, getD-set-other}
 use borrow.Author.Tests.{ltb-true, ltb-false}
-use Rattle.engine.specs.Report.{cleared}
+use Rattle.engine.specs.Running.{cleared}
 
 -- the words from `from` up to `at` are 0, and those before it as they were
 pub record Clearing (before : List ℕ) (from : ℕ) (ws : List ℕ) (at : ℕ) : Type 0 where

@@ -38,3 +38,4 @@ pub mod RoundLaws
 pub mod ClearLaws
 pub mod RoundsLaws
 pub mod RunLaws
+pub mod NumberLaws

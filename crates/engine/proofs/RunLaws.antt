@@ -19,7 +19,8 @@ use Rattle.semantics.specs.Round.{Result, rounds}
 use Rattle.semantics.specs.Run.{Report, refusal, ran, returns, report-read, report-program, leave, run, usable, page, counts}
 use Rattle.semantics.proofs.Words.{demand3-run}
 use Rattle.engine.specs.declared.Report as code
-use Rattle.engine.specs.Report.{cleared, ended, Kept, Turned, Admitted}
+use Rattle.engine.specs.Report.{ended, Kept}
+use Rattle.engine.specs.Running.{cleared, Turned, Admitted}
 use Rattle.engine.specs.Rounds.{Clean, Ready, Left, ResultAs}
 use Rattle.engine.specs.Reference.{at}
 use Rattle.engine.specs.Memory.{TableIn}

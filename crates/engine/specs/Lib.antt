@@ -19,4 +19,5 @@ pub mod Look
 pub mod Adding
 pub mod Answering
 pub mod Report
+pub mod Running
 pub mod Rounds

@@ -1,10 +1,11 @@
 -- What a run returns and leaves, in the words of crate semantics.
-use Prim.Native.Nat.{ℕ, _-_, _≤_}
+use Prim.Native.Nat.{ℕ}
 use mathlib.Core.Path.{_≡_}
-use mathlib.Core.List.{List, _++_}
-use lib.ListN.{length, replicate, take}
-use Rattle.rules.specs.Syntax.{Program}
-use Rattle.rules.specs.Accept.{read, accepted}
+use mathlib.Core.List.{List, [], _∷_, _++_}
+use lib.Dec.{leb}
+use lib.ListN.{length, drop}
+use Rattle.rules.specs.Reading.{choose}
+use Rattle.semantics.specs.Steps as steps
 use Rattle.semantics.specs.Round as round
 use Rattle.semantics.specs.Run as run
 use Rattle.semantics.proofs.Words.{Promised}
@@ -12,10 +13,6 @@ use Rattle.engine.specs.Taking.{bound-of}
 use Rattle.engine.specs.declared.End.{End}
 use Rattle.engine.specs.declared.End.the-variants.{Finished, Rounds, Steps, Output, Path, Refused}
 use Rattle.engine.specs.declared.Report.{Report}
-
--- "0 to its end" from a place on
-abbrev pub cleared : List ℕ → ℕ → List ℕ
-cleared ws from = take from ws ++ replicate (length ws - from) 0
 
 -- how a call ended: as a run does, or refused by number and place
 pub data Ended : Type 0 where
@@ -47,17 +44,40 @@ pub record Kept (words : List ℕ) (round-limit step-limit : ℕ) (output scratc
   pub is-scratch : scratch-after ≡ run.run words round-limit step-limit output scratch .scratch
   pub demand : (x : round.Result) → run.run words round-limit step-limit output scratch .report ≡ run.ran x → Promised words round-limit step-limit output output-after x
 
--- the report of a refused call: "number and place with all counts 0"
-pub record Turned (number place : ℕ) (r : Report) : Type 0 where
-  pub is-end : r .end ≡ Refused number place
-  pub is-round : r .round ≡ 0
-  pub is-steps : r .steps ≡ 0
-  pub is-answers : r .answers ≡ 0
-  pub is-words : r .words ≡ 0
+-- For callers in other languages a result is seven numbers: how the call ended (0 to 4 in the order of document 01, "How a run ends", 5 if refused), which bound of a path (1 to 5
+-- as "Bounds" lists them) or the refusal's number, the refusal's place, then round, steps, answers and words. What does not apply is 0.
+abbrev pub bound-number : steps.Bound → ℕ
+bound-number steps.variables = 1
+bound-number steps.goals = 2
+bound-number steps.disjunctions = 3
+bound-number steps.constraints = 4
+bound-number steps.waiting = 5
 
--- an accepted program, with settings in their bounds
-pub record Admitted (words : List ℕ) (round-limit : ℕ) (scratch : List ℕ) : Type 0 where
-  pub program : Program
-  pub is-read : read words ≡ accepted program
-  pub few-rounds : round-limit ≤ 255
-  pub long : 16384 ≤ length scratch
+abbrev pub end-numbers : Ended → List ℕ
+end-numbers (ran round.finished) = 0 ∷ 0 ∷ 0 ∷ []
+end-numbers (ran round.rounds-used) = 1 ∷ 0 ∷ 0 ∷ []
+end-numbers (ran round.steps-used) = 2 ∷ 0 ∷ 0 ∷ []
+end-numbers (ran round.output-full) = 3 ∷ 0 ∷ 0 ∷ []
+end-numbers (ran (round.path-limit b)) = 4 ∷ bound-number b ∷ 0 ∷ []
+end-numbers (turned-away number place) = 5 ∷ number ∷ place ∷ []
+
+abbrev pub numbers : run.Report → List ℕ
+numbers x = end-numbers (report-ended x) ++ (run.counts x .round ∷ run.counts x .steps ∷ run.counts x .answers ∷ run.counts x .words ∷ [])
+
+-- what such a call returns and leaves
+pub record Call : Type 0 where
+  pub result : ℕ
+  pub output : List ℕ
+  pub scratch : List ℕ
+  pub numbers : List ℕ
+
+-- with so many words lent for the numbers: 0 and the run, or 1 if they are fewer than seven, and then nothing is run
+abbrev pub call : run.Run → List ℕ → List ℕ → List ℕ → Call
+call x output scratch lent =
+    choose (leb 7 (length lent)) (λ _. record { result = 0; output = x .output; scratch = x .scratch; numbers = numbers (x .report) ++ drop 7 lent })
+    (λ _. record { result = 1; output = output; scratch = scratch; numbers = lent })
+
+-- The promise of `kindcanvas_run`, with demand 3 of the page.
+pub record Called (words : List ℕ) (round-limit step-limit : ℕ) (output scratch lent : List ℕ) (result : ℕ) (output-after scratch-after lent-after : List ℕ) : Type 0 where
+  pub is-call : call (run.run words round-limit step-limit output scratch) output scratch lent ≡ record { result = result; output = output-after; scratch = scratch-after; numbers = lent-after }
+  pub demand : result ≡ 0 → (x : round.Result) → run.run words round-limit step-limit output scratch .report ≡ run.ran x → Promised words round-limit step-limit output output-after x

@@ -1,0 +1,28 @@
+-- What the private functions of a run promise one another.
+use Prim.Native.Nat.{ℕ, _-_, _≤_}
+use mathlib.Core.Path.{_≡_}
+use mathlib.Core.List.{List, _++_}
+use lib.ListN.{length, replicate, take}
+use Rattle.rules.specs.Syntax.{Program}
+use Rattle.rules.specs.Accept.{read, accepted}
+use Rattle.engine.specs.declared.End.the-variants.{Refused}
+use Rattle.engine.specs.declared.Report.{Report}
+
+-- "0 to its end" from a place on
+abbrev pub cleared : List ℕ → ℕ → List ℕ
+cleared ws from = take from ws ++ replicate (length ws - from) 0
+
+-- the report of a refused call: "number and place with all counts 0"
+pub record Turned (number place : ℕ) (r : Report) : Type 0 where
+  pub is-end : r .end ≡ Refused number place
+  pub is-round : r .round ≡ 0
+  pub is-steps : r .steps ≡ 0
+  pub is-answers : r .answers ≡ 0
+  pub is-words : r .words ≡ 0
+
+-- an accepted program, with settings in their bounds
+pub record Admitted (words : List ℕ) (round-limit : ℕ) (scratch : List ℕ) : Type 0 where
+  pub program : Program
+  pub is-read : read words ≡ accepted program
+  pub few-rounds : round-limit ≤ 255
+  pub long : 16384 ≤ length scratch

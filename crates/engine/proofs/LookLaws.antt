@@ -1,4 +1,4 @@
--- Looking at all nodes of a term: nothing is found, and each pair takes a step.
+-- Looking at all nodes of a term: nothing is found, and each pair takes a step. And of a trial's right sides, one after the other.
 use Prim.Native.Nat.{ℕ, zero, suc, _+_, _<_, _≤_}
 use mathlib.Core.Path.{_≡_, refl, sym, ap, subst, _∙_}
 use mathlib.Core.Bool.{Bool, true, false, true≢false}
@@ -9,18 +9,22 @@ use lib.ListN.{length}
 use borrow.Author.Tests.{ne-eqb}
 use Rattle.rules.specs.Syntax.{Atom, Term, var, atom, pair}
 use Rattle.semantics.specs.Substitution.{Substitution, resolve, walk}
-use Rattle.semantics.specs.Steps.{waiting, no-steps, at-bound, Outcome, done, stop}
+use Rattle.semantics.specs.Steps.{waiting, no-steps, at-bound, Outcome, done, stop, and-then}
 use Rattle.semantics.specs.Unify.{scan, never}
+use Rattle.semantics.specs.Shows.{Each}
+use Rattle.semantics.specs.Answer.{look-through}
 use Rattle.semantics.proofs.Basics.{clash}
 use Rattle.semantics.proofs.TermLaws.{term-size}
 use Rattle.semantics.proofs.SubstitutionLaws.{Good, Seen, walk-seen, size-pair}
 use Rattle.semantics.proofs.ScanLaws.{Leaf, ScanStep, hit, down, full, last, further, scan-step}
-use Rattle.engine.specs.Reference.{AtomIs}
+use Rattle.engine.specs.Reference.{at, AtomIs, Stands}
 use Rattle.engine.specs.Walk.{Follows}
 use Rattle.engine.specs.Scan.{TestAs, scan-says, ScanAs}
-use Rattle.engine.specs.Look.{LookedAs}
+use Rattle.engine.specs.Keep.{Keeps, Kept}
+use Rattle.engine.specs.Look.{LookedAs, Looks, rights, Small, ThroughAs}
 use Rattle.engine.specs.declared.scan.Scanned.{Scanned}
 use Rattle.engine.specs.declared.scan.Scanned.the-variants.{Found, Clear, StepsOut, PathOut}
+use Rattle.engine.specs.declared.look.Looked.{Looked}
 use Rattle.engine.specs.declared.look.Looked.the-variants as looked
 use Rattle.engine.proofs.ReferenceLaws.{atom-low}
 
@@ -90,3 +94,67 @@ module _ {ws s : List ℕ} {bs : Substitution} {w : ℕ} {t : Term} (steps : ℕ
   pub look-path : {left : ℕ} → r ≡ PathOut left → LookedAs bs t steps (looked.PathOut left)
   unfolding LookedAs scan-says
   look-path e = rw e at said
+
+-- the right sides of a trial, from equation i on
+pub record Looking (ws s : List ℕ) (bs : Substitution) (cs : List (ℕ × Term)) (mark count steps i left : ℕ) : Type 0 where
+  pub later : List (ℕ × Term)
+  pub kept : Kept ws s mark i later
+  pub count-is : i + length later ≡ count
+  pub same : look-through bs (rights cs) steps ≡ look-through bs (rights later) left
+  pub fewer : left ≤ steps
+  pub small : Each (Small bs steps) later → Each (Small bs steps) cs
+
+pub looking-start : {ws s : List ℕ} {bs : Substitution} {cs : List (ℕ × Term)} {mark count : ℕ} (steps : ℕ) → Looks ws s bs cs mark count → Looking ws s bs cs mark count steps 0 steps
+looking-start {cs = cs} steps h = record { later = cs; kept = h .kept; count-is = omega (arith, h .count-is); same = refl; fewer = omega arith; small = λ e. e }
+
+module _ {ws s : List ℕ} {bs : Substitution} {cs : List (ℕ × Term)} {mark count steps i left : ℕ} (g : Looking ws s bs cs mark count steps i left) where
+  pub looking-end : count ≤ i → ThroughAs bs cs steps (looked.Done left)
+  unfolding ThroughAs
+  looking-end le = go (g .later) (g .count-is) (g .same) (g .small)
+    where
+      go : (later : List (ℕ × Term)) → i + length later ≡ count → look-through bs (rights cs) steps ≡ look-through bs (rights later) left → (Each (Small bs steps) later → Each (Small bs steps) cs) → (look-through bs (rights cs) steps ≡ done tt left) × Each (Small bs steps) cs
+      go [] n e f = (e, f tt)
+      go (b ∷ later) n e f = absurd (omega arith)
+
+  pub record LookingNext : Type 0 where
+    pub one : ℕ × Term
+    pub others : List (ℕ × Term)
+    pub is : g .later ≡ one ∷ others
+    pub stands : Stands ws (at s (2048 + mark + i)) (one .1)
+    pub kept : Kept ws s mark (i + 1) others
+
+  pub looking-next : i < count → LookingNext
+  unfolding Kept
+  looking-next lt = go (g .later) refl (g .kept) (g .count-is)
+    where
+      go : (later : List (ℕ × Term)) → g .later ≡ later → Kept ws s mark i later → i + length later ≡ count → LookingNext
+      go [] e h n = absurd (omega arith)
+      go (b ∷ later) e h n = record { one = b; others = later; is = e; stands = h .0 .right; kept = h .1 }
+
+  module _ (n : LookingNext) (r : Looked) (told : LookedAs bs (n .one .1) left r) where
+    looks-is : look-through bs (rights cs) steps ≡ and-then (scan never bs [] (n .one .1) left) (λ _ l. look-through bs (rights (n .others)) l)
+    looks-is = g .same ∙ ap (λ z. look-through bs (rights z) left) (n .is)
+
+    pub looking-steps : r ≡ looked.StepsOut → ThroughAs bs cs steps looked.StepsOut
+    unfolding ThroughAs LookedAs
+    looking-steps e = let q : scan never bs [] (n .one .1) left ≡ stop no-steps 0 = rw e at told in looks-is ∙ ap (λ z. and-then z (λ _ l. look-through bs (rights (n .others)) l)) q
+
+    pub looking-path : {rest : ℕ} → r ≡ looked.PathOut rest → ThroughAs bs cs steps (looked.PathOut rest)
+    unfolding ThroughAs LookedAs
+    looking-path {rest} e = let q : scan never bs [] (n .one .1) left ≡ stop (at-bound waiting) rest = rw e at told in looks-is ∙ ap (λ z. and-then z (λ _ l. look-through bs (rights (n .others)) l)) q
+
+    pub looking-on : {rest : ℕ} → r ≡ looked.Done rest → Looking ws s bs cs mark count steps (i + 1) rest
+    unfolding LookedAs
+    looking-on {rest} e =
+        let q : (scan never bs [] (n .one .1) left ≡ done false rest) × (term-size (resolve bs (n .one .1)) + rest < left) = rw e at told in
+        let l : length (g .later) ≡ suc (length (n .others)) = ap length (n .is) in
+        let p : term-size (resolve bs (n .one .1)) + rest < left = q .1 in
+        let f : left ≤ steps = g .fewer in
+        record {
+          later = n .others;
+          kept = n .kept;
+          count-is = omega (arith, g .count-is);
+          same = looks-is ∙ ap (λ z. and-then z (λ _ l. look-through bs (rights (n .others)) l)) (q .0);
+          fewer = omega arith;
+          small = λ h. g .small (subst (Each (Small bs steps)) (sym (n .is)) (omega arith, h));
+        }

@@ -3,10 +3,17 @@ use Prim.Native.Nat.{ℕ, _≤_, _<_}
 use mathlib.Core.Path.{_≡_}
 use mathlib.Core.Bool.{Bool}
 use mathlib.Core.List.{List}
+use lib.ListN.{length}
+use Rattle.rules.specs.Syntax.{Term, Constraint}
 use Rattle.semantics.specs.Substitution.{Substitution}
 use Rattle.semantics.specs.Steps.{waiting, no-steps, at-bound, Outcome, done, stop}
 use Rattle.semantics.specs.Answer.{Line}
+use Rattle.semantics.proofs.LineLaws.{Unforced}
+use Rattle.semantics.proofs.ReviewLaws.{Passes}
+use Rattle.engine.specs.Reference.{KeepsAt}
 use Rattle.engine.specs.Memory.{BindingsIn}
+use Rattle.engine.specs.Walk.{Binds}
+use Rattle.engine.specs.Unify.{Meets}
 use Rattle.engine.specs.Trail.{Apart}
 use Rattle.engine.specs.Names.{Names}
 use Rattle.engine.specs.Put.{Touched}
@@ -40,3 +47,15 @@ pub record AddedAs (ws s s′ : List ℕ) {out : List ℕ} {first end place : �
   pub bindings-in : BindingsIn ws s′ bs
   pub apart : Apart s s′
   pub touched : Touched (g .before) out′ (g .begin) end
+
+-- A disequality whose line is to be added: some assignment of the path meets it, so a trial that succeeds binds something.
+pub record Differs (ws s : List ℕ) (bs : Substitution) (a : ℕ) (u : Term) (b : ℕ) (v : Term) (trail : ℕ) : Type 0 where
+  pub meets : Meets ws s bs a u b v trail
+  pub unforced : Unforced bs u v
+
+-- a constraint of those kept, whose lines are to be added; its review has passed
+pub record Lists (ws s : List ℕ) (bs : Substitution) (cs : List Constraint) (w : ℕ) (c : Constraint) (trail : ℕ) : Type 0 where
+  pub held : Binds ws s bs
+  pub keeps : KeepsAt ws w c
+  pub trail-is : trail ≡ length bs
+  pub passes : Passes bs cs c

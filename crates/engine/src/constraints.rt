@@ -15,15 +15,19 @@ use crate::unify::unify;
 use crate::walk::node_at;
 use crate::walk::skip;
 use word::Word;
+ghost use mathlib.Core.Path.{_≡_};
 ghost use mathlib.Core.List.{List};
 ghost use Prim.Native.Nat.{ℕ, _≤_, _<_};
 ghost use lib.ListN.{length};
-ghost use Rattle.rules.specs.Syntax.{Constraint};
+ghost use Rattle.rules.specs.Syntax.{Atom, Term, Sort, Constraint, differ, typed, absento};
+ghost use Rattle.rules.specs.Written.{sort-kind};
 ghost use Rattle.semantics.specs.Substitution.{Substitution};
-ghost use Rattle.semantics.specs.Answer.{all-lines};
+ghost use Rattle.semantics.specs.Answer.{lines-of, all-lines};
 ghost use Rattle.semantics.proofs.Sound.{Sound};
+ghost use Rattle.engine.specs.Reference.{KeepsAt};
+ghost use Rattle.engine.specs.Walk.{Binds, Follows};
 ghost use Rattle.engine.specs.Review.{Kept};
-ghost use Rattle.engine.specs.Adding.{Writing, AddedAs};
+ghost use Rattle.engine.specs.Adding.{Writing, AddedAs, Differs, Lists};
 
 // How the lines of constraints end: where the next one goes with the steps left, or a stop.
 pub enum Added {
@@ -44,7 +48,13 @@ fn add_differ(
     end: usize,
     written: Written,
     steps: u32,
-) -> Added {
+) -> Added
+    requires { ⌜ (end ≤ length (now output)) × (end < 268435456) × Writing (now scratch) (now output) first end (written .at) (written .full)
+        × ((bs : Substitution) × (u : Term) × (v : Term) × Differs (now program) (now scratch) bs left u right v trail) ⌝ }
+    ensures { λ r. ⌜ ((g : Writing (now (scratch .entry)) (now (output .entry)) first end (written .at) (written .full)) (bs : Substitution) (u v : Term)
+        → Differs (now (program .entry)) (now (scratch .entry)) bs left u right v trail
+        → AddedAs (now (program .entry)) (now (scratch .entry)) (now (scratch .exit)) g (now (output .exit)) bs (lines-of bs (differ u v) steps) r) ⌝ }
+{
     match unify(program, scratch, left, right, trail, steps) {
         Unified::Failed(top, rest) => {
             undo(scratch, trail, top);
@@ -79,6 +89,73 @@ fn add_differ(
     }
 }
 
+// An absence: its term's nodes, then a line for each open variable in it.
+fn add_absento(
+    program: &[u32],
+    scratch: &[u32],
+    output: &mut [u32],
+    constraint: u32,
+    first: usize,
+    end: usize,
+    written: Written,
+    steps: u32,
+) -> Added
+    requires { ⌜ (end ≤ length (now output)) × (end < 268435456) × Writing (now scratch) (now output) first end (written .at) (written .full)
+        × ((bs : Substitution) × (a : Atom) × (t : Term) × Binds (now program) (now scratch) bs × KeepsAt (now program) constraint (absento a t)) ⌝ }
+    ensures { λ r. ⌜ ((g : Writing (now (scratch .entry)) (now (output .entry)) first end (written .at) (written .full)) (bs : Substitution) (a : Atom) (t : Term)
+        → Binds (now (program .entry)) (now (scratch .entry)) bs → KeepsAt (now (program .entry)) constraint (absento a t)
+        → AddedAs (now (program .entry)) (now (scratch .entry)) (now (scratch .entry)) g (now (output .exit)) bs (lines-of bs (absento a t) steps) r) ⌝ }
+{
+    let term = constraint + 2;
+    match look(program, scratch, term, steps) {
+        Looked::StepsOut => {
+            return Added::StepsOut;
+        }
+        Looked::PathOut(rest) => {
+            return Added::PathOut(rest);
+        }
+        Looked::Done(rest) => {
+            let tag = node_at(program, constraint + 1).bits;
+            let next = add_absent(
+                program, scratch, output, tag, term, first, end, written, steps,
+            );
+            return Added::Done(next, rest);
+        }
+    }
+}
+
+// A type: its term's nodes, then a line if it is an open variable.
+fn add_type(
+    program: &[u32],
+    scratch: &[u32],
+    output: &mut [u32],
+    kind: u32,
+    term: u32,
+    first: usize,
+    end: usize,
+    written: Written,
+    steps: u32,
+) -> Added
+    requires { ⌜ (end ≤ length (now output)) × (end < 268435456) × Writing (now scratch) (now output) first end (written .at) (written .full)
+        × ((bs : Substitution) × (k : Sort) × (t : Term) × Follows (now program) (now scratch) bs term t × (kind ≡ sort-kind k)) ⌝ }
+    ensures { λ r. ⌜ ((g : Writing (now (scratch .entry)) (now (output .entry)) first end (written .at) (written .full)) (bs : Substitution) (k : Sort) (t : Term)
+        → Follows (now (program .entry)) (now (scratch .entry)) bs term t → kind ≡ sort-kind k
+        → AddedAs (now (program .entry)) (now (scratch .entry)) (now (scratch .entry)) g (now (output .exit)) bs (lines-of bs (typed k t) steps) r) ⌝ }
+{
+    match look(program, scratch, term, steps) {
+        Looked::StepsOut => {
+            return Added::StepsOut;
+        }
+        Looked::PathOut(rest) => {
+            return Added::PathOut(rest);
+        }
+        Looked::Done(rest) => {
+            let next = add_typed(program, scratch, output, kind, term, first, end, written);
+            return Added::Done(next, rest);
+        }
+    }
+}
+
 // One constraint, by the reference of its goal.
 fn add_constraint(
     program: &[u32],
@@ -90,7 +167,13 @@ fn add_constraint(
     end: usize,
     written: Written,
     steps: u32,
-) -> Added {
+) -> Added
+    requires { ⌜ (end ≤ length (now output)) × (end < 268435456) × Writing (now scratch) (now output) first end (written .at) (written .full)
+        × ((bs : Substitution) × (cs : List Constraint) × (c : Constraint) × Lists (now program) (now scratch) bs cs constraint c trail) ⌝ }
+    ensures { λ r. ⌜ ((g : Writing (now (scratch .entry)) (now (output .entry)) first end (written .at) (written .full)) (bs : Substitution) (cs : List Constraint) (c : Constraint)
+        → Lists (now (program .entry)) (now (scratch .entry)) bs cs constraint c trail
+        → AddedAs (now (program .entry)) (now (scratch .entry)) (now (scratch .exit)) g (now (output .exit)) bs (lines-of bs c steps) r) ⌝ }
+{
     let kind = node_at(program, constraint).kind;
     if kind == Word::DIFFER {
         let second = skip(program, constraint + 1);
@@ -107,29 +190,22 @@ fn add_constraint(
             steps,
         );
     }
-    let mut term = constraint + 1;
     if kind == Word::ABSENTO {
-        term = constraint + 2;
+        return add_absento(
+            program, scratch, output, constraint, first, end, written, steps,
+        );
     }
-    match look(program, scratch, term, steps) {
-        Looked::StepsOut => {
-            return Added::StepsOut;
-        }
-        Looked::PathOut(rest) => {
-            return Added::PathOut(rest);
-        }
-        Looked::Done(rest) => {
-            if kind == Word::ABSENTO {
-                let tag = node_at(program, constraint + 1).bits;
-                let next = add_absent(
-                    program, scratch, output, tag, term, first, end, written, steps,
-                );
-                return Added::Done(next, rest);
-            }
-            let next = add_typed(program, scratch, output, kind, term, first, end, written);
-            return Added::Done(next, rest);
-        }
-    }
+    add_type(
+        program,
+        scratch,
+        output,
+        kind,
+        constraint + 1,
+        first,
+        end,
+        written,
+        steps,
+    )
 }
 
 // All constraints that the path keeps.

@@ -2,10 +2,12 @@
 use crate::layout::TRAIL;
 use crate::scan::Scanned;
 use crate::scan::scan;
+ghost use mathlib.Core.List.{List};
+ghost use Prim.Native.Nat.{ℕ};
 ghost use Rattle.rules.specs.Syntax.{Term};
 ghost use Rattle.semantics.specs.Substitution.{Substitution};
 ghost use Rattle.engine.specs.Walk.{Follows};
-ghost use Rattle.engine.specs.Look.{LookedAs};
+ghost use Rattle.engine.specs.Look.{LookedAs, Looks, ThroughAs};
 
 // A number is the steps left.
 pub enum Looked {
@@ -42,7 +44,10 @@ pub(crate) fn look_equations(
     mark: usize,
     count: usize,
     steps: u32,
-) -> Looked {
+) -> Looked
+    requires { ⌜ ((bs : Substitution) × (cs : List (ℕ × Term)) × Looks (now program) (now scratch) bs cs mark count) ⌝ }
+    ensures { λ r. ⌜ ((bs : Substitution) (cs : List (ℕ × Term)) → Looks (now (program .entry)) (now (scratch .entry)) bs cs mark count → ThroughAs bs cs steps r) ⌝ }
+{
     let mut left = steps;
     let mut i = 0;
     while i < count {

@@ -39,3 +39,4 @@ pub mod ClearLaws
 pub mod RoundsLaws
 pub mod RunLaws
 pub mod NumberLaws
+pub mod AddingLaws

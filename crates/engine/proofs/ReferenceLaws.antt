@@ -167,7 +167,7 @@ atom-word (symbol p) = 268435456 + p
 atom-word (number p) = 536870912 + p
 atom-word empty = 805306368
 
-atom-word-is : (w : ℕ) (a : Atom) → AtomIs w a → w ≡ atom-word a
+pub atom-word-is : (w : ℕ) (a : Atom) → AtomIs w a → w ≡ atom-word a
 atom-word-is w (symbol p) h = omega (arith, h .0, h .1)
 atom-word-is w (number p) h = omega (arith, h .0, h .1)
 atom-word-is w empty h = omega (arith, h .0, h .1)

@@ -1,0 +1,327 @@
+-- The lines of constraints, in the shape of the code's tests: a trial's, those of a term that was looked through, and of all constraints kept.
+use Prim.Native.Nat.{ℕ, suc, _+_, _-_, _≤_, _<_}
+use mathlib.Core.Path.{_≡_, refl, sym, ap, subst, _∙_}
+use mathlib.Core.Bool.{Bool, false}
+use mathlib.Core.Option.{Option, none, some}
+use mathlib.Core.List.{List, [], _∷_, _++_, reverse, append-assoc, append-nil}
+use native.Mathlib.Omega.{arith}
+use lib.ListN.{length, length-append, length-reverse}
+use Rattle.rules.specs.Syntax.{Atom, Term, var, atom, pair, Sort, Constraint, differ, typed, absento}
+use Rattle.rules.specs.Written.{sort-kind}
+use Rattle.semantics.specs.Substitution.{Substitution, resolve, walk}
+use Rattle.semantics.specs.Steps.{waiting, no-steps, at-bound, Outcome, done, stop, and-then}
+use Rattle.semantics.specs.Unify.{scan, never, unify-terms}
+use Rattle.semantics.specs.Shows.{Each}
+use Rattle.semantics.specs.Answer.{appear, Line, not-all, trial-bindings, resolve-right, look-through, trial-lines, typed-lines, lacks-each, lines-of, all-lines}
+use Rattle.semantics.proofs.TermLaws.{term-size}
+use Rattle.semantics.proofs.SubstitutionLaws.{Good, Seen, walk-seen}
+use Rattle.semantics.proofs.UnifyLaws.{unify-some, no-news}
+use Rattle.semantics.proofs.ReviewLaws.{Passes}
+use Rattle.semantics.proofs.Sound.{Sound}
+use Rattle.engine.specs.Reference.{at, pos-of, KeepsAt}
+use Rattle.engine.specs.Memory.{BindingsIn, KeptIn}
+use Rattle.engine.specs.Walk.{NodeAt, Binds, Follows}
+use Rattle.engine.specs.Follow.{Resolves}
+use Rattle.engine.specs.Trail.{Trailed, Undone, Apart}
+use Rattle.engine.specs.Unify.{Meets, Went, UnifiedAs}
+use Rattle.engine.specs.Keep.{AllKept}
+use Rattle.engine.specs.Look.{LookedAs, Looks, rights, Small, ThroughAs}
+use Rattle.engine.specs.Lines.{Equations, LineAs, as-differ}
+use Rattle.engine.specs.Names.{Names}
+use Rattle.engine.specs.Put.{Touched}
+use Rattle.engine.specs.Page.{Page, add-line, add-lines, occurrences, AddsAbsent, AddsTyped}
+use Rattle.engine.specs.Adding.{Writing, AddedSays, AddedAs, Differs, Lists}
+use Rattle.engine.specs.Review.{Kept}
+use Rattle.engine.specs.declared.page.Written.{Written}
+use Rattle.engine.specs.declared.line.Listed.the-variants.{Differ}
+use Rattle.engine.specs.declared.look.Looked.{Looked}
+use Rattle.engine.specs.declared.look.Looked.the-variants as looked
+use Rattle.engine.specs.declared.unify.Unified.{Unified}
+use Rattle.engine.specs.declared.unify.Unified.the-variants as unified
+use Rattle.engine.specs.declared.constraints.Added.{Added}
+use Rattle.engine.specs.declared.constraints.Added.the-variants.{Done, StepsOut, PathOut}
+use Rattle.engine.proofs.ReferenceLaws.{atom-word-is}
+use Rattle.engine.proofs.FrameLaws.{kept-same}
+use Rattle.engine.proofs.TrailLaws.{fresh-few, apart-same, apart-trans, undone-apart}
+use Rattle.engine.proofs.LinesLaws.{add-append}
+use Rattle.engine.proofs.WriterLaws.{absent-once, trial-new, equations-kept}
+use Rattle.engine.proofs.ReviewSteps.{absento-term, absento-tag, DifferAt, Trial, trial-joined, trial-failed, trial-stepped, trial-pathed, kept-again}
+
+-- names are where a trial stores nothing
+pub names-apart : {s s′ : List ℕ} {top : ℕ} {names : List ℕ} → Apart s s′ → Names s top names → Names s′ top names
+names-apart a h = record { top-is = h .top-is; words = λ y l. a .middle (4096 + y) (omega arith) (omega arith) ∙ h .words y l; distinct = h .distinct }
+
+-- A disequality
+
+module _ {ws s : List ℕ} {bs : Substitution} {a : ℕ} {u : Term} {b : ℕ} {v : Term} {trail : ℕ} (steps : ℕ) (d : Differs ws s bs a u b v trail) (s₁ : List ℕ) (r : Unified) (told : UnifiedAs ws s s₁ bs (unify-terms bs u v steps) r) where
+  pub trial-grown : {n rest : ℕ} → r ≡ unified.Joined n rest → trail ≤ n
+  unfolding UnifiedAs
+  trial-grown {n} {rest} e =
+      let q : (w : Went ws s bs s₁ n) × (unify-terms bs u v steps ≡ done (some (w .next)) rest) = rw e at told in
+      omega (arith, d .meets .trail-is, q .0 .trail-is, ap length (q .0 .grows), length-append (q .0 .new) bs)
+
+  -- the trial did not succeed, and was undone
+  module _ {out : List ℕ} {first end : ℕ} {w : Written} (g : Writing s out first end (w .at) (w .full)) (s₂ : List ℕ) (n : ℕ) (undone : (ws : List ℕ) (new bs : Substitution) → Trailed ws s₁ new bs trail n → Undone ws s₁ s₂ bs) where
+    given-back : Trial ws s₁ bs trail n → Apart s s₁ → {o : Outcome (List Line)} {x : Added} → AddedSays g out o x → AddedAs ws s s₂ g out bs o x
+    given-back t p y = let z = undone ws (t .new) bs (t .trailed) in record { says = y; bindings-in = z .bindings-in; apart = apart-trans p (undone-apart z); touched = g .page .touched }
+
+    pub differ-failed : {rest : ℕ} → r ≡ unified.Failed n rest → AddedAs ws s s₂ g out bs (lines-of bs (differ u v) steps) (Done w rest)
+    unfolding UnifiedAs AddedSays add-lines
+    differ-failed {rest} e =
+        let q : (w : Went ws s bs s₁ n) × (unify-terms bs u v steps ≡ done none rest) = rw e at told in
+        given-back (trial-failed steps (d .meets) s₁ r told e) (q .0 .apart) (subst (λ o. AddedSays g out (and-then o (λ x l. trial-lines bs x l)) (Done w rest)) (sym (q .1)) (refl, g .page))
+
+    pub differ-stepped : r ≡ unified.StepsOut n → AddedAs ws s s₂ g out bs (lines-of bs (differ u v) steps) StepsOut
+    unfolding UnifiedAs AddedSays
+    differ-stepped e =
+        let q : (w : Went ws s bs s₁ n) × (unify-terms bs u v steps ≡ stop no-steps 0) = rw e at told in
+        given-back (trial-stepped steps (d .meets) s₁ r told e) (q .0 .apart) (subst (λ o. AddedSays g out (and-then o (λ x l. trial-lines bs x l)) StepsOut) (sym (q .1)) (refl, refl))
+
+    pub differ-pathed : {rest : ℕ} → r ≡ unified.PathOut n rest → AddedAs ws s s₂ g out bs (lines-of bs (differ u v) steps) (PathOut rest)
+    unfolding UnifiedAs AddedSays
+    differ-pathed {rest} e =
+        let q : (w : Went ws s bs s₁ n) × (unify-terms bs u v steps ≡ stop (at-bound waiting) rest) = rw e at told in
+        given-back (trial-pathed steps (d .meets) s₁ r told e) (q .0 .apart) (subst (λ o. AddedSays g out (and-then o (λ x l. trial-lines bs x l)) (PathOut rest)) (sym (q .1)) (refl, refl))
+
+-- The trial succeeded: its equations are kept, one at least.
+pub record Tried (ws s s₂ : List ℕ) (bs : Substitution) (u v : Term) (trail n steps rest : ℕ) : Type 0 where
+  pub new : Substitution
+  pub joins : unify-terms bs u v steps ≡ done (some (new ++ bs)) rest
+  pub looks : Looks ws s₂ bs (reverse new) trail (n - trail)
+  pub some-new : 0 < length new
+  pub apart : Apart s s₂
+
+pub tried : {ws s : List ℕ} {bs : Substitution} {a : ℕ} {u : Term} {b : ℕ} {v : Term} {trail : ℕ} (steps : ℕ) (d : Differs ws s bs a u b v trail) (s₁ : List ℕ) (r : Unified) → UnifiedAs ws s s₁ bs (unify-terms bs u v steps) r
+    → {n rest : ℕ} → r ≡ unified.Joined n rest → (s₂ : List ℕ) → ((ws : List ℕ) (new bs : Substitution) → Trailed ws s₁ new bs trail n → AllKept ws s₁ s₂ new bs trail) → Tried ws s s₂ bs u v trail n steps rest
+unfolding UnifiedAs
+tried {ws} {s} {bs} {a} {u} {b} {v} {trail} steps d s₁ r told {n} {rest} e s₂ keep =
+    let q : (w : Went ws s bs s₁ n) × (unify-terms bs u v steps ≡ done (some (w .next)) rest) = rw e at told in
+    let new : Substitution = q .0 .new in
+    let held : Binds ws s bs = d .meets .held in
+    let long : 12288 ≤ length s = held .long in
+    let is-next : n ≡ length (q .0 .next) = q .0 .trail-is in
+    let is-long : length (q .0 .next) ≡ length (new ++ bs) = ap length (q .0 .grows) in
+    let is-sum : length (new ++ bs) ≡ length new + length bs = length-append new bs in
+    let is-trail : trail ≡ length bs = d .meets .trail-is in
+    let few : length (q .0 .next) ≤ 2048 = fresh-few (q .0 .next) (q .0 .held .bindings-in .fresh) in
+    let more : ¬ (length (q .0 .next) ≡ length bs) = λ z. d .unforced (no-news (unify-some 0 steps bs (held .good) u v steps (q .0 .next) rest (q .1)) z) in
+    let k = keep ws new bs (record { long = q .0 .held .long; bindings-in = subst (BindingsIn ws s₁) (q .0 .grows) (q .0 .held .bindings-in); mark-is = is-trail; trail-is = is-next ∙ is-long }) in
+    let p : Apart s s₂ = apart-trans (q .0 .apart) (k .apart) in
+    let some-new : ¬ (length new ≡ 0) = λ z. more (omega arith) in
+    record {
+      new = new;
+      joins = q .1 ∙ ap (λ z. done (some z) rest) (q .0 .grows);
+      looks = record {
+        held = record { short = held .short; long = omega (arith, p .long); bindings-in = k .bindings-in; good = held .good };
+        kept = k .kept;
+        count-is = omega (arith, length-reverse new);
+        few = omega arith;
+      };
+      some-new = omega arith;
+      apart = p;
+    }
+
+right-length : (bs : Substitution) (cs : List (ℕ × Term)) → length (resolve-right bs cs) ≡ length cs
+right-length bs [] = refl
+right-length bs (b ∷ cs) = ap suc (right-length bs cs)
+
+equations-line : {ws s : List ℕ} {pairs mark count : ℕ} (es : List (ℕ × Term)) → 0 < length es → Equations ws s pairs mark 0 es → count ≡ length es → mark + count ≤ 2048 → LineAs ws s pairs (Differ mark count) (not-all es)
+equations-line [] l h n f = absurd (omega arith)
+equations-line (b ∷ cs) l h n f = as-differ b cs h n f
+
+module _ {ws s s₂ : List ℕ} {bs : Substitution} {u v : Term} {trail n steps rest : ℕ} (t : Tried ws s s₂ bs u v trail n steps rest) (r : Looked) (told : ThroughAs bs (reverse (t .new)) rest r) where
+  pub tried-line-is : Line
+  tried-line-is = not-all (resolve-right bs (reverse (t .new)))
+
+  lines-tried : lines-of bs (differ u v) steps ≡ and-then (look-through bs (rights (reverse (t .new))) rest) (λ _ l. done (not-all (resolve-right bs (reverse (t .new))) ∷ []) l)
+  lines-tried = ap (λ o. and-then o (λ x l. trial-lines bs x l)) (t .joins) ∙ ap (λ cs. and-then (look-through bs (rights cs) rest) (λ _ l. done (not-all (resolve-right bs cs) ∷ []) l)) (trial-new (t .new) bs)
+
+  pub tried-line : {after : ℕ} → r ≡ looked.Done after → LineAs ws s₂ rest (Differ trail (n - trail)) tried-line-is
+  unfolding ThroughAs tried-line-is
+  tried-line {after} e =
+      let q : (look-through bs (rights (reverse (t .new))) rest ≡ done tt after) × Each (Small bs rest) (reverse (t .new)) = rw e at told in
+      let h = t .looks in
+      let l : length (resolve-right bs (reverse (t .new))) ≡ length (reverse (t .new)) = right-length bs (reverse (t .new)) in
+      equations-line (resolve-right bs (reverse (t .new))) (omega (arith, length-reverse (t .new), t .some-new)) (equations-kept rest trail 0 (reverse (t .new)) (h .held) (h .kept) (q .1)) (h .count-is ∙ sym l) (h .few)
+
+  module _ {out : List ℕ} {first end place : ℕ} {full : Bool} (g : Writing s out first end place full) where
+    kept-back : {out′ : List ℕ} (o : Outcome (List Line)) {x : Added} → AddedSays g out′ o x → lines-of bs (differ u v) steps ≡ o → Touched (g .before) out′ (g .begin) end → AddedAs ws s s₂ g out′ bs (lines-of bs (differ u v) steps) x
+    kept-back {out′} o {x} y e z = record { says = subst (λ p. AddedSays g out′ p x) (sym e) y; bindings-in = t .looks .held .bindings-in; apart = t .apart; touched = z }
+
+    looked-is : (o : Outcome (Unit {0})) → look-through bs (rights (reverse (t .new))) rest ≡ o → lines-of bs (differ u v) steps ≡ and-then o (λ _ l. done (not-all (resolve-right bs (reverse (t .new))) ∷ []) l)
+    looked-is o e = lines-tried ∙ ap (λ z. and-then z (λ _ l. done (not-all (resolve-right bs (reverse (t .new))) ∷ []) l)) e
+
+    pub tried-steps : r ≡ looked.StepsOut → AddedAs ws s s₂ g out bs (lines-of bs (differ u v) steps) StepsOut
+    unfolding ThroughAs AddedSays
+    tried-steps e = kept-back (stop no-steps 0) (refl, refl) (looked-is (stop no-steps 0) (rw e at told)) (g .page .touched)
+
+    pub tried-path : {after : ℕ} → r ≡ looked.PathOut after → AddedAs ws s s₂ g out bs (lines-of bs (differ u v) steps) (PathOut after)
+    unfolding ThroughAs AddedSays
+    tried-path {after} e = kept-back (stop (at-bound waiting) after) (refl, refl) (looked-is (stop (at-bound waiting) after) (rw e at told)) (g .page .touched)
+
+    pub tried-done : {after : ℕ} {out′ : List ℕ} {w : Written} → r ≡ looked.Done after → Page (g .before) out′ (g .begin) first end (w .at) (w .full) (g .head) (add-line (g .names) (g .lines) tried-line-is) → AddedAs ws s s₂ g out′ bs (lines-of bs (differ u v) steps) (Done w after)
+    unfolding ThroughAs AddedSays add-lines tried-line-is
+    tried-done {after} e p =
+        let q : (look-through bs (rights (reverse (t .new))) rest ≡ done tt after) × Each (Small bs rest) (reverse (t .new)) = rw e at told in
+        kept-back (done (tried-line-is ∷ []) after) (refl, p) (looked-is (done tt after) (q .0)) (p .touched)
+
+-- A term that was looked through, with the lines that its constraint comes to
+
+module _ {ws s : List ℕ} {bs : Substitution} {out : List ℕ} {first end place : ℕ} {full : Bool} (g : Writing s out first end place full) (held : Binds ws s bs) (t : Term) (steps : ℕ) (r : Looked) (told : LookedAs bs t steps r) (lines : List Line) where
+  abbrev term-lines : Outcome (List Line)
+  term-lines = and-then (scan never bs [] t steps) (λ _ l. done lines l)
+
+  untouched : {out′ : List ℕ} (o : Outcome Bool) {x : Added} → scan never bs [] t steps ≡ o → AddedSays g out′ (and-then o (λ _ l. done lines l)) x → Touched (g .before) out′ (g .begin) end → AddedAs ws s s g out′ bs term-lines x
+  untouched {out′} o {x} e y z = record { says = subst (λ p. AddedSays g out′ (and-then p (λ _ l. done lines l)) x) (sym e) y; bindings-in = held .bindings-in; apart = apart-same s; touched = z }
+
+  pub term-steps : r ≡ looked.StepsOut → AddedAs ws s s g out bs term-lines StepsOut
+  unfolding LookedAs AddedSays
+  term-steps e = untouched (stop no-steps 0) (rw e at told) (refl, refl) (g .page .touched)
+
+  pub term-path : {rest : ℕ} → r ≡ looked.PathOut rest → AddedAs ws s s g out bs term-lines (PathOut rest)
+  unfolding LookedAs AddedSays
+  term-path {rest} e = untouched (stop (at-bound waiting) rest) (rw e at told) (refl, refl) (g .page .touched)
+
+  pub term-done : {rest : ℕ} {out′ : List ℕ} {w : Written} → r ≡ looked.Done rest → Page (g .before) out′ (g .begin) first end (w .at) (w .full) (g .head) (add-lines (g .names) (g .lines) lines) → AddedAs ws s s g out′ bs term-lines (Done w rest)
+  unfolding LookedAs AddedSays
+  term-done {rest} e p =
+      let q : (scan never bs [] t steps ≡ done false rest) × (term-size (resolve bs t) + rest < steps) = rw e at told in
+      untouched (done false rest) (q .0) (refl, p) (p .touched)
+
+-- an absence
+module _ {ws s : List ℕ} {w : ℕ} {bs : Substitution} {a : Atom} {t : Term} (held : Binds ws s bs) (h : KeepsAt ws w (absento a t)) where
+  pub absento-follows : Follows ws s bs (w + 2) t
+  absento-follows = record { binds = held; stands = absento-term ws w a t h }
+
+  module _ {out : List ℕ} {first end place : ℕ} {full : Bool} {steps : ℕ} (g : Writing s out first end place full) (r : Looked) (told : LookedAs bs t steps r) {rest : ℕ} (e : r ≡ looked.Done rest) {bits k p : ℕ} (node : NodeAt ws (w + 1) bits k p) where
+    pub absento-adds : AddsAbsent ws s out bits (w + 2) first end place full steps
+    unfolding LookedAs
+    absento-adds =
+        let q : (scan never bs [] t steps ≡ done false rest) × (term-size (resolve bs t) + rest < steps) = rw e at told in
+        let l : term-size (resolve bs t) + rest < steps = q .1 in
+        record {
+          before = g .before;
+          begin = g .begin;
+          head = g .head;
+          lines = g .lines;
+          top = g .top;
+          names = g .names;
+          page = g .page;
+          named = g .named;
+          tag-of = a;
+          is-tag = atom-word-is bits a (absento-tag ws w a t h node);
+          term = resolve bs t;
+          here = record { bindings = bs; term = t; follows = absento-follows; is = refl };
+          small = omega arith;
+        }
+
+    pub absento-page : {out′ : List ℕ} {place′ : ℕ} {full′ : Bool}
+        → ((k : AddsAbsent ws s out bits (w + 2) first end place full steps) → Page (k .before) out′ (k .begin) first end place′ full′ (k .head) (add-lines (k .names) (k .lines) (lacks-each (k .tag-of) (occurrences (k .term)))))
+        → Page (g .before) out′ (g .begin) first end place′ full′ (g .head) (add-lines (g .names) (g .lines) (lacks-each a (appear [] (resolve bs t))))
+    unfolding absento-adds
+    absento-page {out′} {place′} {full′} f = subst (Page (g .before) out′ (g .begin) first end place′ full′ (g .head)) (absent-once (g .names) a (g .lines) (resolve bs t)) (f absento-adds)
+
+-- a type
+typed-walked : (bs : Substitution) → Good bs → (k : Sort) (t : Term) → typed-lines k (resolve bs t) ≡ typed-lines k (walk bs t)
+typed-walked bs good k t = go (walk bs t) (walk-seen bs good t)
+  where
+    go : (f : Term) → Seen bs (resolve bs t) f → typed-lines k (resolve bs t) ≡ typed-lines k f
+    go (var x) q = ap (typed-lines k) (q .1)
+    go (atom a) q = ap (typed-lines k) q
+    go (pair a b) q = ap (typed-lines k) q
+
+module _ {ws s : List ℕ} {bs : Substitution} {w : ℕ} {t : Term} {kind : ℕ} {out : List ℕ} {first end place : ℕ} {full : Bool} (k : Sort) (g : Writing s out first end place full) (f : Follows ws s bs w t) (e : kind ≡ sort-kind k) where
+  pub typed-adds : AddsTyped ws s out kind w first end place full
+  typed-adds = record {
+    before = g .before;
+    begin = g .begin;
+    head = g .head;
+    lines = g .lines;
+    top = g .top;
+    names = g .names;
+    page = g .page;
+    named = g .named;
+    sort = k;
+    is-kind = e;
+    term = resolve bs t;
+    here = record { bindings = bs; term = t; follows = f; is = refl };
+  }
+
+  pub typed-page : {out′ : List ℕ} {place′ : ℕ} {full′ : Bool}
+      → ((a : AddsTyped ws s out kind w first end place full) → Page (a .before) out′ (a .begin) first end place′ full′ (a .head) (add-lines (a .names) (a .lines) (typed-lines (a .sort) (a .term))))
+      → Page (g .before) out′ (g .begin) first end place′ full′ (g .head) (add-lines (g .names) (g .lines) (typed-lines k (walk bs t)))
+  unfolding typed-adds
+  typed-page {out′} {place′} {full′} a = subst (λ ls. Page (g .before) out′ (g .begin) first end place′ full′ (g .head) (add-lines (g .names) (g .lines) ls)) (typed-walked bs (f .binds .good) k t) (a typed-adds)
+
+-- One constraint, whatever its kind
+
+module _ {ws s : List ℕ} {bs : Substitution} {cs : List Constraint} {w : ℕ} {c : Constraint} {trail : ℕ} (h : Lists ws s bs cs w c trail) where
+  pub lists-differ : (q : DifferAt ws w c) {second : ℕ} → second + pos-of (w + 1) ≡ w + 1 + q .first .to → Differs ws s bs (w + 1) (q .left) second (q .right) trail
+  lists-differ q {second} e = record {
+    meets = record { held = h .held; left = q .first; right = q .second second e; trail-is = h .trail-is };
+    unforced = subst (Passes bs cs) (q .is) (h .passes);
+  }
+
+pub added-one : {ws s s′ : List ℕ} {out : List ℕ} {first end place : ℕ} {full : Bool} {g : Writing s out first end place full} {out′ : List ℕ} {bs : Substitution} {r : Added} (c d : Constraint) (steps : ℕ) → c ≡ d
+    → AddedAs ws s s′ g out′ bs (lines-of bs d steps) r → AddedAs ws s s′ g out′ bs (lines-of bs c steps) r
+added-one {ws} {s} {s′} {g = g} {out′ = out′} {bs = bs} {r = r} c d steps e h = subst (λ z. AddedAs ws s s′ g out′ bs (lines-of bs z steps) r) (sym e) h
+
+-- All constraints
+
+-- where the loop is: constraints from i on are left, the lines of those before are added
+pub record Adding (ws s₀ : List ℕ) {out₀ : List ℕ} {first end place₀ : ℕ} {full₀ : Bool} (g : Writing s₀ out₀ first end place₀ full₀) (bs : Substitution) (cs : List Constraint) (trail kept steps : ℕ) (s out : List ℕ) (place : ℕ) (full : Bool) (left i : ℕ) : Type 0 where
+  pub whole : Kept ws s bs cs trail kept
+  pub apart : Apart s₀ s
+  pub later : List Constraint
+  pub kept-in : KeptIn ws s i later
+  pub count : i + length later ≡ kept
+  pub passes : Each (Passes bs cs) later
+  pub lines : List Line
+  pub page : Page (g .before) out (g .begin) first end place full (g .head) (add-lines (g .names) (g .lines) lines)
+  pub same : all-lines bs cs steps ≡ and-then (all-lines bs later left) (λ ms m. done (lines ++ ms) m)
+
+then-self : (o : Outcome (List Line)) → o ≡ and-then o (λ ms m. done ([] ++ ms) m)
+then-self (done ls l) = refl
+then-self (stop why l) = refl
+
+then-more : (ls ms : List Line) (o : Outcome (List Line)) → and-then (and-then o (λ ns m. done (ms ++ ns) m)) (λ ns m. done (ls ++ ns) m) ≡ and-then o (λ ns m. done ((ls ++ ms) ++ ns) m)
+then-more ls ms (done ns l) = ap (λ z. done z l) (sym (append-assoc ls ms ns))
+then-more ls ms (stop why l) = refl
+
+pub adding-start : {ws s out : List ℕ} {first end place : ℕ} {full : Bool} (g : Writing s out first end place full) {bs : Substitution} {cs : List Constraint} {made trail kept : ℕ} (steps : ℕ) → Kept ws s bs cs trail kept → Sound bs cs made
+    → Adding ws s g bs cs trail kept steps s out place full steps 0
+unfolding add-lines
+adding-start {s = s} g {bs} {cs} steps h k = record {
+  whole = h;
+  apart = apart-same s;
+  later = cs;
+  kept-in = h .kept-in;
+  count = omega (arith, h .kept-is);
+  passes = k .passes;
+  lines = [];
+  page = g .page;
+  same = then-self (all-lines bs cs steps);
+}
+
+module _ {ws s₀ out₀ : List ℕ} {first end place₀ : ℕ} {full₀ : Bool} {g : Writing s₀ out₀ first end place₀ full₀} {bs : Substitution} {cs : List Constraint} {trail kept steps : ℕ} {s out : List ℕ} {place : ℕ} {full : Bool} {left i : ℕ} (h : Adding ws s₀ g bs cs trail kept steps s out place full left i) where
+  pub adding-long : length out ≡ length out₀
+  adding-long = h .page .touched .long ∙ sym (g .page .touched .long)
+
+  -- the answer under way is that of the caller, with more lines
+  abbrev pub adding-writing : Writing s out first end place full
+  adding-writing = record { before = g .before; begin = g .begin; head = g .head; lines = add-lines (g .names) (g .lines) (h .lines); top = g .top; names = g .names; page = h .page; named = names-apart (h .apart) (g .named) }
+
+  pub record AddingNext : Type 0 where
+    pub one : Constraint
+    pub others : List Constraint
+    pub is : h .later ≡ one ∷ others
+    pub lists : Lists ws s bs cs (at s (10240 + i)) one trail
+    pub kept-in : KeptIn ws s (suc i) others
+    pub passes : Each (Passes bs cs) others
+
+  pub adding-next : i < kept → AddingNext
+  adding-next lt = go (h .later) refl (h .kept-in) (h .count) (h .passes)
+    where
+      go : (later : List Constraint) → h .later ≡ later → KeptIn ws s i later → i + length later ≡ kept → Each (Passes bs cs) later → AddingNext
+      go [] e k n p = absurd (omega arith)
+      go (c ∷ later) e k n p = record { one = c; others = later; is = e; lists = record { held = h .whole .held; keeps = k .0; trail-is = h .whole .trail-is; passes = p .0 }; kept-in = k .1; passes = p .1 }

@@ -303,6 +303,28 @@ adding-start {s = s} g {bs} {cs} steps h k = record {
   same = then-self (all-lines bs cs steps);
 }
 
+-- what each case says of the outcome
+record Says {s out : List ℕ} {first end place : ℕ} {full : Bool} (g : Writing s out first end place full) (out′ : List ℕ) (o : Outcome (List Line)) (w : Written) (rest : ℕ) : Type 0 where
+  pub lines : List Line
+  pub is : o ≡ done lines rest
+  pub page : Page (g .before) out′ (g .begin) first end (w .at) (w .full) (g .head) (add-lines (g .names) (g .lines) lines)
+
+module _ {s out : List ℕ} {first end place : ℕ} {full : Bool} (g : Writing s out first end place full) (out′ : List ℕ) where
+  says-done : (o : Outcome (List Line)) (w : Written) (rest : ℕ) → AddedSays g out′ o (Done w rest) → Says g out′ o w rest
+  unfolding AddedSays
+  says-done (done ls l) w rest h = record { lines = ls; is = ap (done ls) (sym (h .0)); page = h .1 }
+  says-done (stop why l) w rest h = absurd h
+
+  says-steps : (o : Outcome (List Line)) → AddedSays g out′ o StepsOut → o ≡ stop no-steps 0
+  unfolding AddedSays
+  says-steps (done ls l) h = absurd h
+  says-steps (stop why l) h = ap (λ z. stop z l) (h .0) ∙ ap (stop no-steps) (h .1)
+
+  says-path : (o : Outcome (List Line)) (rest : ℕ) → AddedSays g out′ o (PathOut rest) → o ≡ stop (at-bound waiting) rest
+  unfolding AddedSays
+  says-path (done ls l) rest h = absurd h
+  says-path (stop why l) rest h = ap (λ z. stop z l) (h .0) ∙ ap (stop (at-bound waiting)) (sym (h .1))
+
 module _ {ws s₀ out₀ : List ℕ} {first end place₀ : ℕ} {full₀ : Bool} {g : Writing s₀ out₀ first end place₀ full₀} {bs : Substitution} {cs : List Constraint} {trail kept steps : ℕ} {s out : List ℕ} {place : ℕ} {full : Bool} {left i : ℕ} (h : Adding ws s₀ g bs cs trail kept steps s out place full left i) where
   pub adding-long : length out ≡ length out₀
   adding-long = h .page .touched .long ∙ sym (g .page .touched .long)
@@ -325,3 +347,56 @@ module _ {ws s₀ out₀ : List ℕ} {first end place₀ : ℕ} {full₀ : Bool}
       go : (later : List Constraint) → h .later ≡ later → KeptIn ws s i later → i + length later ≡ kept → Each (Passes bs cs) later → AddingNext
       go [] e k n p = absurd (omega arith)
       go (c ∷ later) e k n p = record { one = c; others = later; is = e; lists = record { held = h .whole .held; keeps = k .0; trail-is = h .whole .trail-is; passes = p .0 }; kept-in = k .1; passes = p .1 }
+
+  pub adding-end : (w : Written) → place ≡ w .at → full ≡ w .full → kept ≤ i → AddedAs ws s₀ s g out bs (all-lines bs cs steps) (Done w left)
+  unfolding AddedSays
+  adding-end w at-w full-w le = record {
+    says = subst (λ o. AddedSays g out o (Done w left)) (sym (h .same ∙ go (h .later) (h .count)))
+        (refl, subst (λ b. Page (g .before) out (g .begin) first end (w .at) b (g .head) (add-lines (g .names) (g .lines) (h .lines))) full-w (subst (λ z. Page (g .before) out (g .begin) first end z full (g .head) (add-lines (g .names) (g .lines) (h .lines))) at-w (h .page)));
+    bindings-in = h .whole .held .bindings-in;
+    apart = h .apart;
+    touched = h .page .touched;
+  }
+    where
+      go : (later : List Constraint) → i + length later ≡ kept → and-then (all-lines bs later left) (λ ms m. done (h .lines ++ ms) m) ≡ done (h .lines) left
+      go [] e = ap (λ z. done z left) (append-nil (h .lines))
+      go (c ∷ later) e = absurd (omega arith)
+
+  module _ (n : AddingNext) (s′ out′ : List ℕ) (r : Added) (told : AddedAs ws s s′ adding-writing out′ bs (lines-of bs (n .one) left) r) where
+    pub adding-still : length s′ ≡ length s₀
+    adding-still = told .apart .long ∙ h .apart .long
+
+    pub adding-room : length out′ ≡ length out₀
+    adding-room = told .touched .long ∙ sym (g .page .touched .long)
+
+    next-is : (o : Outcome (List Line)) → lines-of bs (n .one) left ≡ o → all-lines bs cs steps ≡ and-then (and-then o (λ ls l. and-then (all-lines bs (n .others) l) (λ ms m. done (ls ++ ms) m))) (λ ms m. done (h .lines ++ ms) m)
+    next-is o e = h .same ∙ ap (λ z. and-then (all-lines bs z left) (λ ms m. done (h .lines ++ ms) m)) (n .is) ∙ ap (λ z. and-then (and-then z (λ ls l. and-then (all-lines bs (n .others) l) (λ ms m. done (ls ++ ms) m))) (λ ms m. done (h .lines ++ ms) m)) e
+
+    stopped : (o : Outcome (List Line)) {x : Added} → all-lines bs cs steps ≡ o → AddedSays g out′ o x → AddedAs ws s₀ s′ g out′ bs (all-lines bs cs steps) x
+    stopped o {x} e y = record { says = subst (λ z. AddedSays g out′ z x) (sym e) y; bindings-in = told .bindings-in; apart = apart-trans (h .apart) (told .apart); touched = told .touched }
+
+    pub adding-stops : r ≡ StepsOut → AddedAs ws s₀ s′ g out′ bs (all-lines bs cs steps) StepsOut
+    unfolding AddedSays
+    adding-stops e = stopped (stop no-steps 0) (next-is (stop no-steps 0) (says-steps adding-writing out′ (lines-of bs (n .one) left) (subst (AddedSays adding-writing out′ (lines-of bs (n .one) left)) e (told .says)))) (refl, refl)
+
+    pub adding-bound : {rest : ℕ} → r ≡ PathOut rest → AddedAs ws s₀ s′ g out′ bs (all-lines bs cs steps) (PathOut rest)
+    unfolding AddedSays
+    adding-bound {rest} e =
+        stopped (stop (at-bound waiting) rest) (next-is (stop (at-bound waiting) rest) (says-path adding-writing out′ (lines-of bs (n .one) left) rest (subst (AddedSays adding-writing out′ (lines-of bs (n .one) left)) e (told .says)))) (refl, refl)
+
+    pub adding-on : {w : Written} {rest : ℕ} → r ≡ Done w rest → Adding ws s₀ g bs cs trail kept steps s′ out′ (w .at) (w .full) rest (i + 1)
+    adding-on {w} {rest} e =
+        let q = says-done adding-writing out′ (lines-of bs (n .one) left) w rest (subst (AddedSays adding-writing out′ (lines-of bs (n .one) left)) e (told .says)) in
+        let l : length (h .later) ≡ suc (length (n .others)) = ap length (n .is) in
+        let z : suc i ≡ i + 1 = omega arith in
+        record {
+          whole = kept-again (told .apart) (told .bindings-in) (h .whole);
+          apart = apart-trans (h .apart) (told .apart);
+          later = n .others;
+          kept-in = kept-same ws s s′ (i + 1) (n .others) (λ j lo hi. told .apart .middle j (omega arith) (omega (arith, h .count, h .whole .few))) (subst (λ k. KeptIn ws s k (n .others)) z (n .kept-in));
+          count = omega (arith, h .count);
+          passes = n .passes;
+          lines = h .lines ++ q .lines;
+          page = subst (Page (g .before) out′ (g .begin) first end (w .at) (w .full) (g .head)) (sym (add-append (g .names) (g .lines) (h .lines) (q .lines))) (q .page);
+          same = next-is (done (q .lines) rest) (q .is) ∙ then-more (h .lines) (q .lines) (all-lines bs (n .others) rest);
+        }

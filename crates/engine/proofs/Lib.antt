@@ -40,3 +40,4 @@ pub mod RoundsLaws
 pub mod RunLaws
 pub mod NumberLaws
 pub mod AddingLaws
+pub mod QueryLaws

@@ -17,6 +17,7 @@ pub mod Page
 pub mod Keep
 pub mod Look
 pub mod Adding
+pub mod Query
 pub mod Answering
 pub mod Report
 pub mod Running

@@ -11,10 +11,17 @@ use crate::query::name_parameters;
 use crate::query::put_parameters;
 use crate::state::State;
 use word::Word;
-ghost use mathlib.Core.List.{List};
+ghost use mathlib.Core.Path.{_≡_};
+ghost use mathlib.Core.List.{List, []};
+ghost use Prim.Native.Nat.{ℕ, _≤_, _<_, _+_};
+ghost use lib.ListN.{length};
 ghost use Rattle.rules.specs.Syntax.{Program};
+ghost use Rattle.semantics.specs.Substitution.{Substitution};
 ghost use Rattle.semantics.specs.Path.{Path, ChoicePoint};
 ghost use Rattle.semantics.specs.Answer.{answer};
+ghost use Rattle.semantics.specs.Run.{usable as words-used};
+ghost use Rattle.engine.specs.Page.{Page};
+ghost use Rattle.engine.specs.Query.{Query, query-words, Ends, EndedAs};
 ghost use Rattle.engine.specs.Answering.{Answering, AnsweredAs};
 
 // The output words used then and the steps left; that it does not fit, with the steps left; or a stop.
@@ -26,7 +33,9 @@ pub enum Answered {
 }
 
 // At most the first 268,435,455 words of the output are used.
-fn usable(output: usize) -> usize {
+fn usable(output: usize) -> usize
+    ensures { λ r. ⌜ r ≡ words-used output ⌝ }
+{
     if 268435455 < output {
         return 268435455;
     }
@@ -42,7 +51,10 @@ fn begin_page(
     start: usize,
     end: usize,
     pairs: u32,
-) -> Written {
+) -> Written
+    requires { ⌜ (end ≤ length (now output)) × (end < 268435456) × (params ≤ 2048) × ((bs : Substitution) × (names : List ℕ) × Query (now program) (now scratch) params pairs bs names) ⌝ }
+    ensures { λ r. ⌜ ((bs : Substitution) (names : List ℕ) → Query (now (program .entry)) (now (scratch .entry)) params pairs bs names → Page (now (output .entry)) (now (output .exit)) (start + 1) (r .at) end (r .at) (r .full) (query-words bs names 0 params) []) ⌝ }
+{
     if end <= start {
         return Written {
             at: start,
@@ -66,7 +78,10 @@ fn begin_page(
 }
 
 // The answer's own word, if all of it fits.
-fn end_page(output: &mut [u32], start: usize, added: Added) -> Answered {
+fn end_page(output: &mut [u32], start: usize, added: Added) -> Answered
+    requires { ⌜ ((o : List ℕ) × (end : ℕ) × (v : List ℕ) × (end ≤ length (now output)) × (end < 268435456) × Ends o (now output) start end v added) ⌝ }
+    ensures { λ r. ⌜ ((o : List ℕ) (end : ℕ) (v : List ℕ) → Ends o (now (output .entry)) start end v added → EndedAs o (now (output .entry)) (now (output .exit)) start end v added r) ⌝ }
+{
     match added {
         Added::StepsOut => {
             return Answered::StepsOut;

@@ -8,18 +8,19 @@ use crate::put::put_term;
 use crate::put::put_variable;
 ghost use mathlib.Core.Path.{_≡_};
 ghost use mathlib.Core.Bool.{true};
-ghost use mathlib.Core.List.{List};
+ghost use mathlib.Core.List.{List, []};
 ghost use Prim.Native.Nat.{ℕ, _≤_, _<_};
 ghost use lib.ListN.{length};
 ghost use Rattle.rules.specs.Syntax.{var};
 ghost use Rattle.rules.specs.Written.{term-words};
 ghost use Rattle.semantics.specs.Substitution.{Substitution, resolve};
-ghost use Rattle.semantics.specs.Answer.{appear, reify, vars-in};
+ghost use Rattle.semantics.specs.Answer.{appear, reify, vars-in, names-of};
 ghost use Rattle.semantics.proofs.TermLaws.{term-size};
 ghost use Rattle.engine.specs.Walk.{Binds};
 ghost use Rattle.engine.specs.Names.{Names, Named};
 ghost use Rattle.engine.specs.Put.{Placed};
 ghost use Rattle.engine.specs.Look.{LookedAs};
+ghost use Rattle.engine.specs.Query.{Small, ThroughAs, Query, query-words};
 
 pub(crate) fn look_parameter(program: &[u32], scratch: &[u32], x: u32, steps: u32) -> Looked
     requires { ⌜ (x < 2048) × ((bs : Substitution) × Binds (now program) (now scratch) bs) ⌝ }
@@ -72,7 +73,10 @@ pub(crate) fn put_parameter(
 }
 
 // All parameters, one after the other.
-pub(crate) fn look_parameters(program: &[u32], scratch: &[u32], count: u32, steps: u32) -> Looked {
+pub(crate) fn look_parameters(program: &[u32], scratch: &[u32], count: u32, steps: u32) -> Looked
+    requires { ⌜ (count ≤ 2048) × ((bs : Substitution) × Binds (now program) (now scratch) bs) ⌝ }
+    ensures { λ r. ⌜ ((bs : Substitution) → Binds (now (program .entry)) (now (scratch .entry)) bs → ThroughAs bs count steps r) ⌝ }
+{
     let mut left = steps;
     let mut x = 0;
     while x < count {
@@ -92,7 +96,10 @@ pub(crate) fn look_parameters(program: &[u32], scratch: &[u32], count: u32, step
     Looked::Done(left)
 }
 
-pub(crate) fn name_parameters(program: &[u32], scratch: &mut [u32], count: u32, pairs: u32) -> u32 {
+pub(crate) fn name_parameters(program: &[u32], scratch: &mut [u32], count: u32, pairs: u32) -> u32
+    requires { ⌜ (count ≤ 2048) × ((bs : Substitution) × Binds (now program) (now scratch) bs × Names (now scratch) 0 [] × Small bs count pairs) ⌝ }
+    ensures { λ r. ⌜ ((bs : Substitution) → Binds (now (program .entry)) (now (scratch .entry)) bs → Names (now (scratch .entry)) 0 [] → Small bs count pairs → Named (now (scratch .entry)) (now (scratch .exit)) r (names-of bs count)) ⌝ }
+{
     let mut top = 0;
     let mut x = 0;
     while x < count {
@@ -110,7 +117,10 @@ pub(crate) fn put_parameters(
     start: usize,
     end: usize,
     pairs: u32,
-) -> Put {
+) -> Put
+    requires { ⌜ (start ≤ end) × (end ≤ length (now output)) × (end < 268435456) × (count ≤ 2048) × ((bs : Substitution) × (names : List ℕ) × Query (now program) (now scratch) count pairs bs names) ⌝ }
+    ensures { λ r. ⌜ ((bs : Substitution) (names : List ℕ) → Query (now (program .entry)) (now (scratch .entry)) count pairs bs names → Placed (now (output .entry)) (now (output .exit)) start end true (query-words bs names 0 count) r) ⌝ }
+{
     let mut at = start;
     let mut x = 0;
     while x < count {

@@ -41,3 +41,4 @@ pub mod RunLaws
 pub mod NumberLaws
 pub mod AddingLaws
 pub mod QueryLaws
+pub mod AnswerLaws

@@ -96,7 +96,7 @@ pub record NamingAll (ws s₀ s : List ℕ) (bs : Substitution) (n x top : ℕ) 
   pub binds : Binds ws s bs
   pub is : appear-all names (query-terms bs x (n - x)) ≡ names-of bs n
 
-binds-named : {ws s s′ : List ℕ} {bs : Substitution} {top : ℕ} {names : List ℕ} → Named s s′ top names → Binds ws s bs → Binds ws s′ bs
+pub binds-named : {ws s s′ : List ℕ} {bs : Substitution} {top : ℕ} {names : List ℕ} → Named s s′ top names → Binds ws s bs → Binds ws s′ bs
 binds-named {ws} {s} {s′} {bs} m b = record {
   short = b .short;
   long = omega (arith, b .long, m .long);

@@ -23,7 +23,7 @@ clear-next before from ws at h l =
       same-length = length-set ws at 0 ∙ h .same-length;
       onward = omega (arith, h .onward);
       kept = λ i k. getD-set-other ws at i 0 0 (omega (arith, h .onward)) ∙ h .kept i k;
-      zero-up-to = λ i k m. go i k m (ltb i at) refl
+      zero-up-to = λ i k m. go i k m (ltb i at) refl;
     }
   where
     go : (i : ℕ) → from ≤ i → i < at + 1 → (b : Bool) → ltb i at ≡ b → getD (set ws at 0) i 0 ≡ 0

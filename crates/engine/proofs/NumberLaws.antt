@@ -1,6 +1,6 @@
 -- A report as seven numbers, written at the start of a lent slice.
 use Prim.Native.Nat.{ℕ, _≤_, _<_}
-use mathlib.Core.Path.{_≡_, refl, sym, ap, subst, _∙_}
+use mathlib.Core.Path.{_≡_, refl, sym, ap, _∙_}
 use mathlib.Core.Bool.{Bool, true, false}
 use mathlib.Core.List.{List, [], _∷_, _++_}
 use native.Mathlib.Omega.{arith}
@@ -15,7 +15,7 @@ use Rattle.semantics.specs.Round as round
 use Rattle.semantics.specs.Run as definition
 use Rattle.semantics.specs.Run.{Run, run, returns, refusal, ran, report-read, report-program, leave, counts}
 use Rattle.semantics.proofs.Basics.{clash}
-use Rattle.engine.specs.Report.{end-numbers, ended, report-ended, numbers, Call, call, Kept, Called}
+use Rattle.engine.specs.Report.{end-numbers, ended, report-ended, numbers, call, Kept, Called}
 use Rattle.engine.specs.declared.End.{End}
 use Rattle.engine.specs.declared.Report.{Report}
 use Rattle.engine.specs.declared.EndNumbers.{EndNumbers}
@@ -73,7 +73,7 @@ module _ (words : List ℕ) (round-limit step-limit : ℕ) (output scratch lent 
   called-run r output′ scratch′ n h k e =
       record {
         is-call = answered (run words round-limit step-limit output scratch) output′ scratch′ _ (k .is-output) (k .is-scratch) (seven lent (n .end) (n .which) (n .place) (r .round) (r .steps) (r .answers) (r .words) h ∙ told);
-        demand = λ z. k .demand
+        demand = λ z. k .demand;
       }
     where
       seven : (lent : List ℕ) (a b c d e f g : ℕ) → 7 ≤ length lent → set (set (set (set (set (set (set lent 0 a) 1 b) 2 c) 3 d) 4 e) 5 f) 6 g ≡ a ∷ b ∷ c ∷ d ∷ e ∷ f ∷ g ∷ drop 7 lent

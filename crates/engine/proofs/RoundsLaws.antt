@@ -49,11 +49,11 @@ start-going ws s output limit steps t l u a few =
         record { left = steps; room = usable (length output); cuts = 0; written = [] },
         record {
           ready = record { is-read = r .is-read; query = r .query; clean = r .clean; few-rounds = omega arith };
-          tally = record { left = l; used = u; room = omega (arith, u); answers = a; page-is = rw u refl; counted = omega arith }
+          tally = record { left = l; used = u; room = omega (arith, u); answers = a; page-is = rw u refl; counted = omega arith };
         },
         omega arith,
-        (let z : limit - 0 ≡ limit = omega arith in rw z refl)
-      )
+        (let z : limit - 0 ≡ limit = omega arith in rw z refl),
+      );
     }
 
 pub starts : (ws s₀ output₀ : List ℕ) (limit steps : ℕ) (s output : List ℕ) (k : ℕ) (t : code-tally.Tally) → Going ws s₀ output₀ limit steps s output k t → (P : Program) × (R : Relation) × Ready ws s₀ P R limit
@@ -147,7 +147,7 @@ resulted s output s′ output′ limit k e b d t r x z l ta q h =
       is-steps = h .is-steps ∙ ap (λ n. limit - n) (ta .left);
       is-answers = h .is-answers ∙ ta .answers;
       is-words = h .is-words ∙ ta .used;
-      page-is = rw (h .is-words) (ta .page-is)
+      page-is = rw (h .is-words) (ta .page-is);
     })
 
 module _ (ws s₀ output₀ : List ℕ) (limit steps : ℕ) (s output : List ℕ) (k : ℕ) (t : code-tally.Tally) (g : Going ws s₀ output₀ limit steps s output k t) (s′ output′ : List ℕ) where
@@ -192,7 +192,7 @@ module _ (ws s₀ output₀ : List ℕ) (limit steps : ℕ) (s output : List ℕ
       let a = n .0 in
       let o = broken-off ws s output s′ output′ P R k a (one-round P R k (a .room) (a .left) (a .written)) r d u refl (h P R a (n .1)) e in
       let z : definition.rounds steps P R limit 0 (usable (length output₀)) steps [] ≡ definition.result steps (o .end) k (o .last) =
-          n .3 ∙ rounds-rest steps P R (limit - k) k (a .room) (a .left) (a .written) ∙ ap (rest-of steps P R (limit - k) k (a .room) (a .left) (a .written)) (o .is-round) ∙ broken-rest steps P R (limit - k) k (a .room) (a .left) (a .written) (o .end) (o .last) in
+      n .3 ∙ rounds-rest steps P R (limit - k) k (a .room) (a .left) (a .written) ∙ ap (rest-of steps P R (limit - k) k (a .room) (a .left) (a .written)) (o .is-round) ∙ broken-rest steps P R (limit - k) k (a .room) (a .left) (a .written) (o .end) (o .last) in
       resulted s₀ output₀ s′ output′ steps k (o .end) (o .last) d u x _ z (left-trans s₀ output₀ s output s′ output′ (g .lengths) (o .lengths)) (o .tally) (o .is-end) y
 
   pub finished-result : (r : code-rounded.Rounded) (u : code-tally.Tally) (c : ℕ) (x : Report) → Told r → r ≡ Completed u c → c ≡ 0 → Reported Finished k steps u x → (P : Program) (R : Relation) → Ready ws s₀ P R limit
@@ -202,8 +202,8 @@ module _ (ws s₀ output₀ : List ℕ) (limit steps : ℕ) (s output : List ℕ
       let a = n .0 in
       let o = completed-off ws s output s′ output′ P R k a (one-round P R k (a .room) (a .left) (a .written)) r u c refl (h P R a (n .1)) e in
       let z : definition.rounds steps P R limit 0 (usable (length output₀)) steps [] ≡ definition.result steps definition.finished k (o .last) =
-          n .3 ∙ rounds-rest steps P R (limit - k) k (a .room) (a .left) (a .written) ∙ ap (rest-of steps P R (limit - k) k (a .room) (a .left) (a .written)) (o .is-round)
-          ∙ finished-rest steps P R (limit - k) k (a .room) (a .left) (a .written) (o .last) (sym (o .is-cuts) ∙ w) in
+      n .3 ∙ rounds-rest steps P R (limit - k) k (a .room) (a .left) (a .written) ∙ ap (rest-of steps P R (limit - k) k (a .room) (a .left) (a .written)) (o .is-round)
+      ∙ finished-rest steps P R (limit - k) k (a .room) (a .left) (a .written) (o .last) (sym (o .is-cuts) ∙ w) in
       resulted s₀ output₀ s′ output′ steps k definition.finished (o .last) Finished u x _ z (left-trans s₀ output₀ s output s′ output′ (g .lengths) (o .lengths)) (o .tally) refl y
 
   pub rounds-result : (r : code-rounded.Rounded) (u : code-tally.Tally) (c : ℕ) (x : Report) → Told r → r ≡ Completed u c → (c ≡ 0 → ⊥) → limit ≤ k → Reported Rounds k steps u x → (P : Program) (R : Relation) → Ready ws s₀ P R limit
@@ -213,8 +213,8 @@ module _ (ws s₀ output₀ : List ℕ) (limit steps : ℕ) (s output : List ℕ
       let a = n .0 in
       let o = completed-off ws s output s′ output′ P R k a (one-round P R k (a .room) (a .left) (a .written)) r u c refl (h P R a (n .1)) e in
       let z : definition.rounds steps P R limit 0 (usable (length output₀)) steps [] ≡ definition.result steps definition.rounds-used k (o .last) =
-          n .3 ∙ rounds-rest steps P R (limit - k) k (a .room) (a .left) (a .written) ∙ ap (rest-of steps P R (limit - k) k (a .room) (a .left) (a .written)) (o .is-round)
-          ∙ last-rest steps P R (limit - k) k (a .room) (a .left) (a .written) (o .last) (λ v. w (o .is-cuts ∙ v)) (omega arith) in
+      n .3 ∙ rounds-rest steps P R (limit - k) k (a .room) (a .left) (a .written) ∙ ap (rest-of steps P R (limit - k) k (a .room) (a .left) (a .written)) (o .is-round)
+      ∙ last-rest steps P R (limit - k) k (a .room) (a .left) (a .written) (o .last) (λ v. w (o .is-cuts ∙ v)) (omega arith) in
       resulted s₀ output₀ s′ output′ steps k definition.rounds-used (o .last) Rounds u x _ z (left-trans s₀ output₀ s output s′ output′ (g .lengths) (o .lengths)) (o .tally) refl y
 
   pub next-going : (r : code-rounded.Rounded) (u : code-tally.Tally) (c : ℕ) → Told r → r ≡ Completed u c → (c ≡ 0 → ⊥) → k < limit → Asked → Going ws s₀ output₀ limit steps s′ output′ (k + 1) u
@@ -223,17 +223,18 @@ module _ (ws s₀ output₀ : List ℕ) (limit steps : ℕ) (s output : List ℕ
         up-to = omega arith;
         lengths = completed-lengths r u c h e z₀;
         on = λ P R q.
-          let n = g .on P R q in
-          let a = n .0 in
-          let o = completed-off ws s output s′ output′ P R k a (one-round P R k (a .room) (a .left) (a .written)) r u c refl (h P R a (n .1)) e in
-          let f = completed-fewer r u c h e (P, R, q) in
-          let v : suc k ≡ k + 1 = omega arith in
-          let z : definition.rounds steps P R limit 0 (usable (length output₀)) steps [] ≡ definition.rounds steps P R (limit - (k + 1)) (k + 1) (o .last .room) (o .last .left) (o .last .written) =
-              n .3 ∙ rounds-rest steps P R (limit - k) k (a .room) (a .left) (a .written) ∙ ap (rest-of steps P R (limit - k) k (a .room) (a .left) (a .written)) (o .is-round)
-              ∙ next-rest steps P R (limit - k) k (a .room) (a .left) (a .written) (o .last) (λ v. w (o .is-cuts ∙ v)) (limit - (k + 1)) (omega arith)
-              ∙ ap (λ j. definition.rounds steps P R (limit - (k + 1)) j (o .last .room) (o .last .left) (o .last .written)) v in
-          (o .last,
-           record { ready = record { is-read = q .is-read; query = q .query; clean = o .clean; few-rounds = omega (arith, q .few-rounds) }; tally = o .tally },
-           omega (arith, f, o .tally .left),
-           z)
+            let n = g .on P R q in
+            let a = n .0 in
+            let o = completed-off ws s output s′ output′ P R k a (one-round P R k (a .room) (a .left) (a .written)) r u c refl (h P R a (n .1)) e in
+            let f = completed-fewer r u c h e (P, R, q) in
+            let v : suc k ≡ k + 1 = omega arith in
+            let z : definition.rounds steps P R limit 0 (usable (length output₀)) steps [] ≡ definition.rounds steps P R (limit - (k + 1)) (k + 1) (o .last .room) (o .last .left) (o .last .written) =
+            n .3 ∙ rounds-rest steps P R (limit - k) k (a .room) (a .left) (a .written) ∙ ap (rest-of steps P R (limit - k) k (a .room) (a .left) (a .written)) (o .is-round)
+            ∙ next-rest steps P R (limit - k) k (a .room) (a .left) (a .written) (o .last) (λ v. w (o .is-cuts ∙ v)) (limit - (k + 1)) (omega arith)
+            ∙ ap (λ j. definition.rounds steps P R (limit - (k + 1)) j (o .last .room) (o .last .left) (o .last .written)) v in (
+              o .last,
+              record { ready = record { is-read = q .is-read; query = q .query; clean = o .clean; few-rounds = omega (arith, q .few-rounds) }; tally = o .tally },
+              omega (arith, f, o .tally .left),
+              z,
+            );
       }

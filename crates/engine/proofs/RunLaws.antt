@@ -1,27 +1,24 @@
 -- A run as a whole: refusals, and what the rounds and the clearing come to.
-use Prim.Native.Nat.{ℕ, zero, suc, _+_, _-_, _<_, _≤_}
+use Prim.Native.Nat.{ℕ, _-_, _<_, _≤_}
 use mathlib.Core.Path.{_≡_, refl, sym, ap, _∙_, subst}
-use mathlib.Core.Bool.{Bool, true, false, _&&_}
 use mathlib.Core.Option.{some}
-use mathlib.Core.List.{List, [], _∷_, _++_}
+use mathlib.Core.List.{List, [], _++_}
 use native.Mathlib.Omega.{arith}
-use lib.Dec.{leb}
-use lib.ListN.{length, take, replicate, getElem?, length-append, length-take, length-replicate}
+use lib.ListN.{length, replicate, getElem?}
 use borrow.Author.Tests.{le-leb, lt-leb}
 use Rattle.rules.specs.Syntax.{Program, Relation}
-use Rattle.rules.specs.Accept.{Accept, accepted, refused, read, read-with}
-use Rattle.rules.specs.Settings.{settings-good}
-use Rattle.rules.specs.Verdict.{Said, yes-said, no-said, said}
+use Rattle.rules.specs.Accept.{Accept, accepted, refused, read}
+use Rattle.rules.specs.Verdict.{yes-said, no-said, said}
 use Rattle.rules.specs.Inner.{RelationsAt}
 use Rattle.rules.proofs.Stands.{stands-self}
 use Rattle.rules.proofs.Accepted.{read-is-written, accepted-query}
 use Rattle.semantics.specs.Round.{Result, rounds}
-use Rattle.semantics.specs.Run.{Report, refusal, ran, returns, report-read, report-program, leave, run, usable, page, counts}
+use Rattle.semantics.specs.Run.{Report, refusal, ran, returns, report-program, leave, run, usable, page}
 use Rattle.semantics.proofs.Words.{demand3-run}
 use Rattle.engine.specs.declared.Report as code
 use Rattle.engine.specs.Report.{ended, Kept}
 use Rattle.engine.specs.Running.{cleared, Turned, Admitted}
-use Rattle.engine.specs.Rounds.{Clean, Ready, Left, ResultAs}
+use Rattle.engine.specs.Rounds.{Ready, ResultAs}
 use Rattle.engine.specs.Reference.{at}
 use Rattle.engine.specs.Memory.{TableIn}
 use Rattle.engine.specs.Trail.{Same}
@@ -58,7 +55,7 @@ module _ (words : List ℕ) (round-limit step-limit : ℕ) (output scratch : Lis
         is-words = t .is-words ∙ rw z refl;
         is-output = rw z refl;
         is-scratch = rw z refl;
-        demand = λ x q. absurd (let y : refusal c p ≡ ran x = sym (ap (λ (w : _). w .report) z) ∙ q in let n : _≡_ {A = ℕ} 0 1 = cc in omega arith)
+        demand = λ x q. absurd (let y : refusal c p ≡ ran x = sym (ap (λ (w : _). w .report) z) ∙ q in let n : _≡_ {A = ℕ} 0 1 = cc in omega arith);
       }
 
   pub rounds-refused : (r : code.Report) → Turned 9 0 r → 255 < round-limit → Kept words round-limit step-limit output scratch r output scratch
@@ -108,7 +105,7 @@ module _ (words : List ℕ) (round-limit step-limit : ℕ) (output scratch : Lis
           is-read = a .is-read;
           query = is-query;
           clean = record { long = omega (arith, a .long); table = table (a .program) (r .0) (r .1); open-all = λ x h. zeros x (omega arith); nameless = λ i h k. zeros i (omega arith) };
-          few-rounds = a .few-rounds
+          few-rounds = a .few-rounds;
         }
 
     pub kept-run : (s t s′ output′ : List ℕ) (r : code.Report) → t ≡ cleared scratch 0 → length s ≡ length t
@@ -120,7 +117,7 @@ module _ (words : List ℕ) (round-limit step-limit : ℕ) (output scratch : Lis
         let x : Result = rounds step-limit (a .program) query-of round-limit 0 (usable (length output)) step-limit [] in
         let z : run words round-limit step-limit output scratch ≡ leave (ran x) output scratch = ap (λ y. leave y output scratch) comes-to-run in
         let o : cleared output′ (r .words) ≡ page (x .answers) ++ replicate (length output - length (page (x .answers))) 0 =
-            ap (λ p. p ++ replicate (length output′ - r .words) 0) (h .page-is) ∙ ap (λ m. page (x .answers) ++ replicate m 0) (ap (λ m. m - r .words) (h .lengths .output-length) ∙ ap (λ m. length output - m) (h .is-words)) in
+        ap (λ p. p ++ replicate (length output′ - r .words) 0) (h .page-is) ∙ ap (λ m. page (x .answers) ++ replicate m 0) (ap (λ m. m - r .words) (h .lengths .output-length) ∙ ap (λ m. length output - m) (h .is-words)) in
         let y : length s′ - 0 ≡ length scratch = omega (arith, h .lengths .scratch-length) in
         let after : run words round-limit step-limit output scratch .output ≡ cleared output′ (r .words) = rw z (sym o) in
         record {
@@ -131,5 +128,5 @@ module _ (words : List ℕ) (round-limit step-limit : ℕ) (output scratch : Lis
           is-words = h .is-words ∙ rw z refl;
           is-output = sym after;
           is-scratch = ap (λ m. replicate m 0) y ∙ rw z refl;
-          demand = λ v q. rw (← after) (demand3-run words round-limit step-limit output scratch v q)
+          demand = λ v q. rw (← after) (demand3-run words round-limit step-limit output scratch v q);
         }

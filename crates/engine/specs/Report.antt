@@ -44,8 +44,8 @@ pub record Kept (words : List ℕ) (round-limit step-limit : ℕ) (output scratc
   pub is-scratch : scratch-after ≡ run.run words round-limit step-limit output scratch .scratch
   pub demand : (x : round.Result) → run.run words round-limit step-limit output scratch .report ≡ run.ran x → Promised words round-limit step-limit output output-after x
 
--- For callers in other languages a result is seven numbers: how the call ended (0 to 4 in the order of document 01, "How a run ends", 5 if refused), which bound of a path (1 to 5
--- as "Bounds" lists them) or the refusal's number, the refusal's place, then round, steps, answers and words. What does not apply is 0.
+-- For callers in other languages a report is seven numbers: how the call ended (0 to 4 in the order of document 01, "How a run ends", 5 if refused), which bound of a path (1 to 5
+-- as "Bounds" lists them) or the refusal's number, the refusal's place, round, steps, answers, words. What does not apply is 0.
 abbrev pub bound-number : steps.Bound → ℕ
 bound-number steps.variables = 1
 bound-number steps.goals = 2
@@ -71,7 +71,7 @@ pub record Call : Type 0 where
   pub scratch : List ℕ
   pub numbers : List ℕ
 
--- with so many words lent for the numbers: 0 and the run, or 1 if they are fewer than seven, and then nothing is run
+-- 0, the run, and its numbers at the start of the words lent for them; or 1 if these are fewer than seven, and nothing is run
 abbrev pub call : run.Run → List ℕ → List ℕ → List ℕ → Call
 call x output scratch lent =
     choose (leb 7 (length lent)) (λ _. record { result = 0; output = x .output; scratch = x .scratch; numbers = numbers (x .report) ++ drop 7 lent })

@@ -97,7 +97,13 @@ fn refuse(number: u32, place: usize) -> Report
 }
 
 // Runs the program through its rounds. Answers go to `output`, one after the other; `scratch` is all 0 afterwards. A refusal leaves both as lent.
-pub fn run(program: &[u32], rounds: u32, steps: u32, output: &mut [u32], scratch: &mut [u32]) -> Report
+pub fn run(
+    program: &[u32],
+    rounds: u32,
+    steps: u32,
+    output: &mut [u32],
+    scratch: &mut [u32],
+) -> Report
     ensures { λ r. ⌜ Kept (now (program .entry)) rounds steps (now (output .entry)) (now (scratch .entry)) r (now (output .exit)) (now (scratch .exit)) ⌝ }
 {
     if 255 < rounds {
@@ -113,7 +119,13 @@ pub fn run(program: &[u32], rounds: u32, steps: u32, output: &mut [u32], scratch
 }
 
 // Runs a program that is accepted, with settings in their bounds.
-fn run_accepted(program: &[u32], limit: u32, steps: u32, output: &mut [u32], scratch: &mut [u32]) -> Report
+fn run_accepted(
+    program: &[u32],
+    limit: u32,
+    steps: u32,
+    output: &mut [u32],
+    scratch: &mut [u32],
+) -> Report
     requires { ⌜ Admitted (now program) limit (now scratch) ⌝ }
     ensures { λ r. ⌜ Kept (now (program .entry)) limit steps (now (output .entry)) (now (scratch .entry)) r (now (output .exit)) (now (scratch .exit)) ⌝ }
 {
@@ -127,10 +139,10 @@ fn run_accepted(program: &[u32], limit: u32, steps: u32, output: &mut [u32], scr
 }
 
 // An end in numbers: how, which bound or refusal, and where.
-pub struct EndNumbers {
-    pub end: u32,
-    pub which: u32,
-    pub place: usize,
+struct EndNumbers {
+    end: u32,
+    which: u32,
+    place: usize,
 }
 
 fn numbered(end: End) -> EndNumbers
@@ -149,16 +161,19 @@ fn numbered(end: End) -> EndNumbers
 fn by_number(end: u32, which: u32, place: usize) -> EndNumbers
     ensures { λ r. ⌜ (r .end ≡ end) × (r .which ≡ which) × (r .place ≡ place) ⌝ }
 {
-    EndNumbers {
-        end,
-        which,
-        place,
-    }
+    EndNumbers { end, which, place }
 }
 
 // For Rust and C: `run`, with its result as seven numbers at the start of `numbers`. 0, or 1 if `numbers` is too short: then nothing is run.
 #[no_mangle]
-pub extern "C" fn kindcanvas_run(program: &[u32], rounds: u32, steps: u32, output: &mut [u32], scratch: &mut [u32], numbers: &mut [u32]) -> u32
+pub extern "C" fn kindcanvas_run(
+    program: &[u32],
+    rounds: u32,
+    steps: u32,
+    output: &mut [u32],
+    scratch: &mut [u32],
+    numbers: &mut [u32],
+) -> u32
     ensures { λ r. ⌜ Called (now (program .entry)) rounds steps (now (output .entry)) (now (scratch .entry)) (now (numbers .entry)) r (now (output .exit)) (now (scratch .exit)) (now (numbers .exit)) ⌝ }
 {
     if numbers.len() < 7 {

@@ -7,10 +7,6 @@ use Rattle.engine.proofs.NumberLaws.{place-fits, called-short, called-r
 use borrow.Author.Needs.{needs}
 use Rattle.engine.proofs.kindcanvas_run.Statement.{statement}
 use Rattle.engine.proofs.kindcanvas_run.Tie as tie
-use Rattle.engine.proofs.kindcanvas_run.Reads as reads
-use Rattle.engine.proofs.kindcanvas_run.Lts as lts
-use Rattle.engine.proofs.numbered.Reads as numbered-reads
-use Rattle.engine.proofs.run.Reads as run-reads
 
 returns : tie.Need-returns
 returns c = called-short _ _ _ _ _ _ (c .if1 .taken)

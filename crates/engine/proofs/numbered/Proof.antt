@@ -5,10 +5,6 @@ use Rattle.engine.proofs.NumberLaws.{in-case}
 use borrow.Author.Needs.{needs}
 use Rattle.engine.proofs.numbered.Statement.{statement}
 use Rattle.engine.proofs.numbered.Tie as tie
-use Rattle.engine.proofs.numbered.Reads as reads
-use Rattle.engine.proofs.numbered.Lts as lts
-use Rattle.engine.proofs.Bound.number.Reads as number-reads
-use Rattle.engine.proofs.by_number.Reads as by-number-reads
 
 enum-told : tie.Need-enum-told
 enum-told c = search needs

@@ -6,12 +6,6 @@ use Rattle.engine.proofs.RunLaws.{rounds-refused, scratch-refused, prog
 use borrow.Author.Needs.{needs}
 use Rattle.engine.proofs.run.Statement.{statement}
 use Rattle.engine.proofs.run.Tie as tie
-use Rattle.engine.proofs.run.Reads as reads
-use Rattle.engine.proofs.run.Lts as lts
-use Rattle.engine.proofs.refuse.Reads as refuse-reads
-use Rattle.engine.proofs.run_accepted.Reads as run-accepted-reads
-use Rattle.rules.proofs.Condition.number.Reads as number-reads
-use Rattle.rules.proofs.check.Reads as check-reads
 
 refuse-requires : tie.Need-refuse-requires
 refuse-requires c κs = search needs

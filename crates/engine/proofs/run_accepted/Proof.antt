@@ -4,11 +4,6 @@ use Rattle.engine.proofs.RunLaws.{query-of, filling, ready, kept-run}
 use borrow.Author.Needs.{needs}
 use Rattle.engine.proofs.run_accepted.Statement.{statement}
 use Rattle.engine.proofs.run_accepted.Tie as tie
-use Rattle.engine.proofs.run_accepted.Reads as reads
-use Rattle.engine.proofs.run_accepted.Lts as lts
-use Rattle.engine.proofs.clear.clear.Reads as clear-reads
-use Rattle.engine.proofs.rounds.rounds.Reads as rounds-reads
-use Rattle.engine.proofs.table.fill.Reads as fill-reads
 
 clear-requires : tie.Need-clear-requires
 clear-requires c κs = search needs

@@ -6,8 +6,6 @@ use Rattle.engine.proofs.ClearLaws.{Clearing, clear-next, clear-done}
 use mathlib.Core.Path.{refl}
 use Rattle.engine.proofs.clear.clear.Statement.{statement}
 use Rattle.engine.proofs.clear.clear.Tie as tie
-use Rattle.engine.proofs.clear.clear.Reads as reads
-use Rattle.engine.proofs.clear.clear.Lts as lts
 
 abbrev Inv-loop : tie.InvT-loop
 Inv-loop words₀ from at₀ words at = Clearing words₀ from words at

@@ -6,10 +6,6 @@ use mathlib.Core.Path.{refl}
 use Rattle.engine.proofs.RoundsLaws.{Going, start-going, starts, broken-fewer, completed-fewer, broken-lengths, completed-lengths, broken-result, finished-result, rounds-result, next-going}
 use Rattle.engine.proofs.rounds.rounds.Statement.{statement}
 use Rattle.engine.proofs.rounds.rounds.Tie as tie
-use Rattle.engine.proofs.rounds.rounds.Reads as reads
-use Rattle.engine.proofs.rounds.rounds.Lts as lts
-use Rattle.engine.proofs.round.round.Reads as round-reads
-use Rattle.engine.proofs.rounds.report.Reads as report-reads
 
 abbrev Inv-loop : tie.InvT-loop
 Inv-loop program scratch₀ output₀ limit steps number₀ tally₀ scratch output number tally = Going program scratch₀ output₀ limit steps scratch output number tally

@@ -1,0 +1,79 @@
+-- `write_answer` writes the answer of a path, as the definition has it.
+use native.Mathlib.Omega.{arith}
+use Rattle.engine.proofs.AnswerLaws.{answer-low, answer-binds, answer-kept, unnamed, steps-out-now, path-out-now, small-now, named-now, query-now, page-now, writing-now, apart-now, touched-now, names-now, ends-now, answered-now}
+use borrow.Author.Needs.{needs}
+use Rattle.engine.proofs.answer.write_answer.Statement.{statement}
+use Rattle.engine.proofs.answer.write_answer.Tie as tie
+
+look-parameters-requires : tie.Need-look-parameters-requires
+look-parameters-requires c κs = let a = c .before .before .before .before .pre .3 in (answer-low a, (_, answer-binds a))
+
+enum-told : tie.Need-enum-told
+enum-told c = search needs
+
+same-length : tie.Need-same-length
+same-length c = search needs
+
+returns : tie.Need-returns
+returns c = λ P p cs a. steps-out-now a _ (c .before .before .look-parameters .ensures) (c .enum-told .given .1)
+
+enum-known-left : tie.Need-enum-known-left
+enum-known-left c = search needs
+
+same-length-2 : tie.Need-same-length-2
+same-length-2 c = search needs
+
+returns-2 : tie.Need-returns-2
+returns-2 c = λ P p cs a. path-out-now a _ (c .before .before .before .look-parameters .ensures) (c .before .left .given .1)
+
+enum-known-left-2 : tie.Need-enum-known-left-2
+enum-known-left-2 c = search needs
+
+usable-requires : tie.Need-usable-requires
+usable-requires c κs = search needs
+
+name-parameters-requires : tie.Need-name-parameters-requires
+name-parameters-requires c κs = let a = c .before .before .before .before .before .before .before .before .before .before .pre .3 in (answer-low a, (_, answer-binds a, unnamed (a .stored .nameless), small-now a _ (c .before .before .before .before .before .look-parameters .ensures) _ (c .before .before .before .left2 .given .1)))
+
+begin-page-requires : tie.Need-begin-page-requires
+begin-page-requires c κs = let a = c .before .before .before .before .before .before .before .before .before .before .before .before .before .before .before .pre .3 in (omega (arith, c .before .before .before .before .before .before .usable .ensures), omega (arith, c .before .before .before .before .before .before .usable .ensures), answer-low a, (_, _, query-now a _ (c .before .before .before .before .before .before .before .before .before .before .look-parameters .ensures) _ (c .before .before .before .before .before .before .before .before .left2 .given .1) (c .before .before .before .before .name-parameters .ensures)))
+
+add-constraints-requires : tie.Need-add-constraints-requires
+add-constraints-requires c κs = let a = c .before .before .before .before .before .before .before .before .before .before .before .before .before .before .before .before .before .before .before .before .pre .3 in (omega (arith, c .before .before .before .before .before .before .before .before .before .before .before .usable .ensures, page-now a _ (c .before .before .before .before .before .before .before .before .before .before .before .before .before .before .before .look-parameters .ensures) _ (c .before .before .before .before .before .before .before .before .before .before .before .before .before .left2 .given .1) (c .before .before .before .before .before .before .before .before .before .name-parameters .ensures) (c .before .before .before .before .begin-page .ensures) .touched .long), omega (arith, c .before .before .before .before .before .before .before .before .before .before .before .usable .ensures), writing-now a _ (c .before .before .before .before .before .before .before .before .before .before .before .before .before .before .before .look-parameters .ensures) _ (c .before .before .before .before .before .before .before .before .before .before .before .before .before .left2 .given .1) (c .before .before .before .before .before .before .before .before .before .name-parameters .ensures) (c .before .before .before .before .begin-page .ensures), (_, _, _, answer-kept a (named-now a _ (c .before .before .before .before .before .before .before .before .before .before .before .before .before .before .before .look-parameters .ensures) _ (c .before .before .before .before .before .before .before .before .before .before .before .before .before .left2 .given .1) (c .before .before .before .before .before .before .before .before .before .name-parameters .ensures)), a .sound))
+
+clear-names-requires : tie.Need-clear-names-requires
+clear-names-requires c κs = let a = c .before .before .before .before .before .before .before .before .before .before .before .before .before .before .before .before .before .before .before .before .before .before .before .before .before .before .pre .3 in (omega (arith, a .stored .roomy .long, named-now a _ (c .before .before .before .before .before .before .before .before .before .before .before .before .before .before .before .before .before .before .before .before .before .look-parameters .ensures) _ (c .before .before .before .before .before .before .before .before .before .before .before .before .before .before .before .before .before .before .before .left2 .given .1) (c .before .before .before .before .before .before .before .before .before .before .before .before .before .before .before .name-parameters .ensures) .long, apart-now a _ (c .before .before .before .before .before .before .before .before .before .before .before .before .before .before .before .before .before .before .before .before .before .look-parameters .ensures) _ (c .before .before .before .before .before .before .before .before .before .before .before .before .before .before .before .before .before .before .before .left2 .given .1) (c .before .before .before .before .before .before .before .before .before .before .before .before .before .before .before .name-parameters .ensures) (c .before .before .before .before .before .before .before .before .before .before .begin-page .ensures) _ (c .before .before .before .before .before .add-constraints .ensures) .long), (_, names-now a _ (c .before .before .before .before .before .before .before .before .before .before .before .before .before .before .before .before .before .before .before .before .before .look-parameters .ensures) _ (c .before .before .before .before .before .before .before .before .before .before .before .before .before .before .before .before .before .before .before .left2 .given .1) (c .before .before .before .before .before .before .before .before .before .before .before .before .before .before .before .name-parameters .ensures) (c .before .before .before .before .before .before .before .before .before .before .begin-page .ensures) _ (c .before .before .before .before .before .add-constraints .ensures)))
+
+end-page-requires : tie.Need-end-page-requires
+end-page-requires c κs = let a = c .before .before .before .before .before .before .before .before .before .before .before .before .before .before .before .before .before .before .before .before .before .before .before .before .before .before .before .before .before .before .pre .3 in (c .before .before .before .before .before .before .before .before .before .before .before .before .before .before .before .before .before .before .before .before .before .before .before .before .before .before .before .before .before .before .args .output .now, c .before .before .before .before .before .before .before .before .before .before .before .before .before .before .before .before .before .before .before .before .before .usable .result, _, omega (arith, c .before .before .before .before .before .before .before .before .before .before .before .before .before .before .before .before .before .before .before .before .before .usable .ensures, touched-now a _ (c .before .before .before .before .before .before .before .before .before .before .before .before .before .before .before .before .before .before .before .before .before .before .before .before .before .look-parameters .ensures) _ (c .before .before .before .before .before .before .before .before .before .before .before .before .before .before .before .before .before .before .before .before .before .before .before .left2 .given .1) (c .before .before .before .before .before .before .before .before .before .before .before .before .before .before .before .before .before .before .before .name-parameters .ensures) (c .before .before .before .before .before .before .before .before .before .before .before .before .before .before .begin-page .ensures) _ (c .before .before .before .before .before .before .before .before .before .add-constraints .ensures) .long), omega (arith, c .before .before .before .before .before .before .before .before .before .before .before .before .before .before .before .before .before .before .before .before .before .usable .ensures), ends-now a _ (c .before .before .before .before .before .before .before .before .before .before .before .before .before .before .before .before .before .before .before .before .before .before .before .before .before .look-parameters .ensures) _ (c .before .before .before .before .before .before .before .before .before .before .before .before .before .before .before .before .before .before .before .before .before .before .before .left2 .given .1) (c .before .before .before .before .before .before .before .before .before .before .before .before .before .before .before .before .before .before .before .name-parameters .ensures) (c .before .before .before .before .before .before .before .before .before .before .before .before .before .before .begin-page .ensures) _ (c .before .before .before .before .before .before .before .before .before .add-constraints .ensures))
+
+same-length-3 : tie.Need-same-length-3
+same-length-3 c = search needs
+
+same-length-4 : tie.Need-same-length-4
+same-length-4 c = search needs
+
+returns-3 : tie.Need-returns-3
+returns-3 c = λ P p cs a. answered-now a _ (c .before .before .before .before .before .before .before .before .before .before .before .before .before .before .before .before .before .before .before .before .before .before .before .before .before .before .before .before .look-parameters .ensures) _ (c .before .before .before .before .before .before .before .before .before .before .before .before .before .before .before .before .before .before .before .before .before .before .before .before .before .before .left2 .given .1) (c .before .before .before .before .before .before .before .before .before .before .before .before .before .before .before .before .before .before .before .before .before .before .name-parameters .ensures) (c .before .before .before .before .before .before .before .before .before .before .before .before .before .before .before .before .before .begin-page .ensures) _ (c .before .before .before .before .before .before .before .before .before .before .before .before .add-constraints .ensures) _ _ (c .before .before .before .before .before .before .before .before .before .before .before .before .before .before .before .before .before .before .before .before .before .before .before .before .usable .ensures) (c .before .before .before .before .before .before .clear-names .ensures) (c .before .before .end-page .ensures)
+
+pub write-answer-spec : {M : Type 1} → statement M
+write-answer-spec =
+    tie.close
+    (tie.spec
+    look-parameters-requires
+    enum-told
+    same-length
+    returns
+    enum-known-left
+    same-length-2
+    returns-2
+    enum-known-left-2
+    usable-requires
+    name-parameters-requires
+    begin-page-requires
+    add-constraints-requires
+    clear-names-requires
+    end-page-requires
+    same-length-3
+    same-length-4
+    returns-3)

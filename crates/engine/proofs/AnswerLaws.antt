@@ -2,11 +2,11 @@
 use Prim.Native.Nat.{ℕ, zero, suc, _+_, _-_, _<_, _≤_}
 use mathlib.Core.Path.{_≡_, refl, sym, ap, ap₂, subst, _∙_}
 use mathlib.Core.Bool.{Bool, true, false, true≢false}
-use mathlib.Core.List.{List, [], _∷_, _++_, append-nil, map}
+use mathlib.Core.List.{List, [], _∷_, _++_, append-nil}
 use native.Mathlib.Omega.{arith}
 use native.Mathlib.Nat.{zero-add, suc-add}
 use native.Mathlib.Decide.{decLt}
-use lib.ListN.{length, take, length-append}
+use lib.ListN.{length, take}
 use Rattle.rules.specs.Syntax.{Term, var, Constraint, Program}
 use Rattle.rules.specs.Written.{part}
 use Rattle.rules.specs.Inner.{Stands as Spells}
@@ -16,17 +16,17 @@ use Rattle.semantics.specs.Steps.{waiting, no-steps, at-bound, Outcome, done, s
 use Rattle.semantics.specs.Shows.{Each}
 use Rattle.semantics.specs.Path.{Path, ChoicePoint}
 use Rattle.semantics.specs.Run.{usable}
-use Rattle.semantics.specs.Answer.{vars-in, Line, listed, lines-words, parameters, query-terms, names-of, answer-words, look-through, all-lines, answer}
+use Rattle.semantics.specs.Answer.{vars-in, Line, parameters, query-terms, names-of, answer-words, look-through, all-lines, answer}
 use Rattle.semantics.proofs.Basics.{compared, same, other}
 use Rattle.semantics.proofs.Names.{appear-all-has}
 use Rattle.semantics.proofs.Sound.{Sound}
 use Rattle.engine.specs.Reference.{at}
-use Rattle.engine.specs.Memory.{Registers, BindingsIn, Nameless, Stored}
+use Rattle.engine.specs.Memory.{BindingsIn, Nameless, Stored}
 use Rattle.engine.specs.Walk.{Binds}
 use Rattle.engine.specs.Trail.{Apart}
 use Rattle.engine.specs.Review.{Kept}
 use Rattle.engine.specs.Names.{top-from, word-from, Distinct, Names, Named}
-use Rattle.engine.specs.Put.{Touched, Laid, Missing, Placed, all-laid, some-missing}
+use Rattle.engine.specs.Put.{Touched, Laid, Placed, all-laid, some-missing}
 use Rattle.engine.specs.Page.{joined, add-lines, Wholes, Page}
 use Rattle.engine.specs.Query.{Small, Known, query-words, ThroughAs, Query, Ends, EndedAs}
 use Rattle.engine.specs.Adding.{Writing, AddedSays, AddedAs}

@@ -1,27 +1,22 @@
 -- The loops over a query's parameters: one law for each way in which the code returns or goes on.
-use Prim.Native.Nat.{ℕ, zero, suc, _+_, _-_, _<_, _≤_}
-use mathlib.Core.Path.{_≡_, refl, sym, ap, subst, _∙_}
-use mathlib.Core.Bool.{Bool, true, false}
+use Prim.Native.Nat.{ℕ, suc, _+_, _-_, _<_, _≤_}
+use mathlib.Core.Path.{_≡_, sym, ap, subst, _∙_}
+use mathlib.Core.Bool.{true}
 use mathlib.Core.List.{List, [], _∷_, _++_, append-assoc, append-nil, map}
 use native.Mathlib.Omega.{arith}
-use lib.ListN.{length}
-use Rattle.rules.specs.Syntax.{Term, var}
+use Rattle.rules.specs.Syntax.{var}
 use Rattle.rules.specs.Written.{term-words, terms-words}
 use Rattle.semantics.specs.Substitution.{Substitution, resolve}
-use Rattle.semantics.specs.Steps.{waiting, no-steps, at-bound, Outcome, done, stop, and-then}
+use Rattle.semantics.specs.Steps.{waiting, no-steps, at-bound, Outcome, stop, and-then}
 use Rattle.semantics.specs.Unify.{scan, never}
-use Rattle.semantics.specs.Shows.{Each}
-use Rattle.semantics.specs.Answer.{appear, appear-all, reify, vars-in, parameters, query-terms, names-of, look-through}
+use Rattle.semantics.specs.Answer.{appear, appear-all, reify, parameters, query-terms, names-of, look-through}
 use Rattle.semantics.proofs.Basics.{compared, same, other}
-use Rattle.semantics.proofs.Names.{appear-all-has}
-use Rattle.semantics.proofs.TermLaws.{term-size}
 use Rattle.engine.specs.Reference.{at}
-use Rattle.engine.specs.Memory.{Nameless}
 use Rattle.engine.specs.Walk.{Binds}
-use Rattle.engine.specs.Names.{top-from, word-from, Distinct, Names, Named}
+use Rattle.engine.specs.Names.{Names, Named}
 use Rattle.engine.specs.Put.{Laid, Missing, Placed, all-laid, some-missing}
 use Rattle.engine.specs.Look.{LookedAs}
-use Rattle.engine.specs.Query.{Small, Known, query-words, ThroughAs, Query}
+use Rattle.engine.specs.Query.{Small, query-words, ThroughAs}
 use Rattle.engine.specs.declared.look.Looked.{Looked}
 use Rattle.engine.specs.declared.look.Looked.the-variants as looked
 use Rattle.engine.specs.declared.put.Put.{Put}

@@ -5,6 +5,25 @@ use borrow.Author.Needs.{needs}
 use Rattle.engine.proofs.answer.write_answer.Statement.{statement}
 use Rattle.engine.proofs.answer.write_answer.Tie as tie
 
+-- earlier places
+abbrev begun-at : tie.After-add-constraints → tie.After-begin-page
+begun-at c = c .before .before .before .before .before
+
+abbrev named-at : tie.After-begin-page → tie.After-name-parameters
+named-at c = c .before .before .before .before .before
+
+abbrev limit-at : tie.After-name-parameters → tie.After-usable
+limit-at c = c .before .before
+
+abbrev left-at : tie.After-name-parameters → tie.After-left2
+left-at c = c .before .before .before .before
+
+abbrev looked-at : tie.After-name-parameters → tie.After-look-parameters
+looked-at c = c .before .before .before .before .before .before
+
+abbrev start-at : tie.After-name-parameters → tie.Start
+start-at c = c .before .before .before .before .before .before .before .before .before .before .before
+
 look-parameters-requires : tie.Need-look-parameters-requires
 look-parameters-requires c κs = let a = c .before .before .before .before .pre .3 in (answer-low a, (_, answer-binds a))
 
@@ -36,16 +55,16 @@ name-parameters-requires : tie.Need-name-parameters-requires
 name-parameters-requires c κs = let a = c .before .before .before .before .before .before .before .before .before .before .pre .3 in (answer-low a, (_, answer-binds a, unnamed (a .stored .nameless), small-now a _ (c .before .before .before .before .before .look-parameters .ensures) _ (c .before .before .before .left2 .given .1)))
 
 begin-page-requires : tie.Need-begin-page-requires
-begin-page-requires c κs = let a = c .before .before .before .before .before .before .before .before .before .before .before .before .before .before .before .pre .3 in (omega (arith, c .before .before .before .before .before .before .usable .ensures), omega (arith, c .before .before .before .before .before .before .usable .ensures), answer-low a, (_, _, query-now a _ (c .before .before .before .before .before .before .before .before .before .before .look-parameters .ensures) _ (c .before .before .before .before .before .before .before .before .left2 .given .1) (c .before .before .before .before .name-parameters .ensures)))
+begin-page-requires c κs = let n = c .before .before .before .before in let a = start-at n .pre .3 in (omega (arith, limit-at n .usable .ensures), omega (arith, limit-at n .usable .ensures), answer-low a, (_, _, query-now a _ (looked-at n .look-parameters .ensures) _ (left-at n .left2 .given .1) (n .name-parameters .ensures)))
 
 add-constraints-requires : tie.Need-add-constraints-requires
-add-constraints-requires c κs = let a = c .before .before .before .before .before .before .before .before .before .before .before .before .before .before .before .before .before .before .before .before .pre .3 in (omega (arith, c .before .before .before .before .before .before .before .before .before .before .before .usable .ensures, page-now a _ (c .before .before .before .before .before .before .before .before .before .before .before .before .before .before .before .look-parameters .ensures) _ (c .before .before .before .before .before .before .before .before .before .before .before .before .before .left2 .given .1) (c .before .before .before .before .before .before .before .before .before .name-parameters .ensures) (c .before .before .before .before .begin-page .ensures) .touched .long), omega (arith, c .before .before .before .before .before .before .before .before .before .before .before .usable .ensures), writing-now a _ (c .before .before .before .before .before .before .before .before .before .before .before .before .before .before .before .look-parameters .ensures) _ (c .before .before .before .before .before .before .before .before .before .before .before .before .before .left2 .given .1) (c .before .before .before .before .before .before .before .before .before .name-parameters .ensures) (c .before .before .before .before .begin-page .ensures), (_, _, _, answer-kept a (named-now a _ (c .before .before .before .before .before .before .before .before .before .before .before .before .before .before .before .look-parameters .ensures) _ (c .before .before .before .before .before .before .before .before .before .before .before .before .before .left2 .given .1) (c .before .before .before .before .before .before .before .before .before .name-parameters .ensures)), a .sound))
+add-constraints-requires c κs = let b = c .before .before .before .before in let n = named-at b in let a = start-at n .pre .3 in (omega (arith, limit-at n .usable .ensures, page-now a _ (looked-at n .look-parameters .ensures) _ (left-at n .left2 .given .1) (n .name-parameters .ensures) (b .begin-page .ensures) .touched .long), omega (arith, limit-at n .usable .ensures), writing-now a _ (looked-at n .look-parameters .ensures) _ (left-at n .left2 .given .1) (n .name-parameters .ensures) (b .begin-page .ensures), (_, _, _, answer-kept a (named-now a _ (looked-at n .look-parameters .ensures) _ (left-at n .left2 .given .1) (n .name-parameters .ensures)), a .sound))
 
 clear-names-requires : tie.Need-clear-names-requires
-clear-names-requires c κs = let a = c .before .before .before .before .before .before .before .before .before .before .before .before .before .before .before .before .before .before .before .before .before .before .before .before .before .before .pre .3 in (omega (arith, a .stored .roomy .long, named-now a _ (c .before .before .before .before .before .before .before .before .before .before .before .before .before .before .before .before .before .before .before .before .before .look-parameters .ensures) _ (c .before .before .before .before .before .before .before .before .before .before .before .before .before .before .before .before .before .before .before .left2 .given .1) (c .before .before .before .before .before .before .before .before .before .before .before .before .before .before .before .name-parameters .ensures) .long, apart-now a _ (c .before .before .before .before .before .before .before .before .before .before .before .before .before .before .before .before .before .before .before .before .before .look-parameters .ensures) _ (c .before .before .before .before .before .before .before .before .before .before .before .before .before .before .before .before .before .before .before .left2 .given .1) (c .before .before .before .before .before .before .before .before .before .before .before .before .before .before .before .name-parameters .ensures) (c .before .before .before .before .before .before .before .before .before .before .begin-page .ensures) _ (c .before .before .before .before .before .add-constraints .ensures) .long), (_, names-now a _ (c .before .before .before .before .before .before .before .before .before .before .before .before .before .before .before .before .before .before .before .before .before .look-parameters .ensures) _ (c .before .before .before .before .before .before .before .before .before .before .before .before .before .before .before .before .before .before .before .left2 .given .1) (c .before .before .before .before .before .before .before .before .before .before .before .before .before .before .before .name-parameters .ensures) (c .before .before .before .before .before .before .before .before .before .before .begin-page .ensures) _ (c .before .before .before .before .before .add-constraints .ensures)))
+clear-names-requires c κs = let d = c .before .before .before .before .before in let b = begun-at d in let n = named-at b in let a = start-at n .pre .3 in (omega (arith, a .stored .roomy .long, named-now a _ (looked-at n .look-parameters .ensures) _ (left-at n .left2 .given .1) (n .name-parameters .ensures) .long, apart-now a _ (looked-at n .look-parameters .ensures) _ (left-at n .left2 .given .1) (n .name-parameters .ensures) (b .begin-page .ensures) _ (d .add-constraints .ensures) .long), (_, names-now a _ (looked-at n .look-parameters .ensures) _ (left-at n .left2 .given .1) (n .name-parameters .ensures) (b .begin-page .ensures) _ (d .add-constraints .ensures)))
 
 end-page-requires : tie.Need-end-page-requires
-end-page-requires c κs = let a = c .before .before .before .before .before .before .before .before .before .before .before .before .before .before .before .before .before .before .before .before .before .before .before .before .before .before .before .before .before .before .pre .3 in (c .before .before .before .before .before .before .before .before .before .before .before .before .before .before .before .before .before .before .before .before .before .before .before .before .before .before .before .before .before .before .args .output .now, c .before .before .before .before .before .before .before .before .before .before .before .before .before .before .before .before .before .before .before .before .before .usable .result, _, omega (arith, c .before .before .before .before .before .before .before .before .before .before .before .before .before .before .before .before .before .before .before .before .before .usable .ensures, touched-now a _ (c .before .before .before .before .before .before .before .before .before .before .before .before .before .before .before .before .before .before .before .before .before .before .before .before .before .look-parameters .ensures) _ (c .before .before .before .before .before .before .before .before .before .before .before .before .before .before .before .before .before .before .before .before .before .before .before .left2 .given .1) (c .before .before .before .before .before .before .before .before .before .before .before .before .before .before .before .before .before .before .before .name-parameters .ensures) (c .before .before .before .before .before .before .before .before .before .before .before .before .before .before .begin-page .ensures) _ (c .before .before .before .before .before .before .before .before .before .add-constraints .ensures) .long), omega (arith, c .before .before .before .before .before .before .before .before .before .before .before .before .before .before .before .before .before .before .before .before .before .usable .ensures), ends-now a _ (c .before .before .before .before .before .before .before .before .before .before .before .before .before .before .before .before .before .before .before .before .before .before .before .before .before .look-parameters .ensures) _ (c .before .before .before .before .before .before .before .before .before .before .before .before .before .before .before .before .before .before .before .before .before .before .before .left2 .given .1) (c .before .before .before .before .before .before .before .before .before .before .before .before .before .before .before .before .before .before .before .name-parameters .ensures) (c .before .before .before .before .before .before .before .before .before .before .before .before .before .before .begin-page .ensures) _ (c .before .before .before .before .before .before .before .before .before .add-constraints .ensures))
+end-page-requires c κs = let d = c .before .before .before .before .before .before .before .before .before in let b = begun-at d in let n = named-at b in let a = start-at n .pre .3 in (start-at n .args .output .now, limit-at n .usable .result, _, omega (arith, limit-at n .usable .ensures, touched-now a _ (looked-at n .look-parameters .ensures) _ (left-at n .left2 .given .1) (n .name-parameters .ensures) (b .begin-page .ensures) _ (d .add-constraints .ensures) .long), omega (arith, limit-at n .usable .ensures), ends-now a _ (looked-at n .look-parameters .ensures) _ (left-at n .left2 .given .1) (n .name-parameters .ensures) (b .begin-page .ensures) _ (d .add-constraints .ensures))
 
 same-length-3 : tie.Need-same-length-3
 same-length-3 c = search needs
@@ -54,7 +73,7 @@ same-length-4 : tie.Need-same-length-4
 same-length-4 c = search needs
 
 returns-3 : tie.Need-returns-3
-returns-3 c = λ P p cs a. answered-now a _ (c .before .before .before .before .before .before .before .before .before .before .before .before .before .before .before .before .before .before .before .before .before .before .before .before .before .before .before .before .look-parameters .ensures) _ (c .before .before .before .before .before .before .before .before .before .before .before .before .before .before .before .before .before .before .before .before .before .before .before .before .before .before .left2 .given .1) (c .before .before .before .before .before .before .before .before .before .before .before .before .before .before .before .before .before .before .before .before .before .before .name-parameters .ensures) (c .before .before .before .before .before .before .before .before .before .before .before .before .before .before .before .before .before .begin-page .ensures) _ (c .before .before .before .before .before .before .before .before .before .before .before .before .add-constraints .ensures) _ _ (c .before .before .before .before .before .before .before .before .before .before .before .before .before .before .before .before .before .before .before .before .before .before .before .before .usable .ensures) (c .before .before .before .before .before .before .clear-names .ensures) (c .before .before .end-page .ensures)
+returns-3 c = λ P p cs a. let d = c .before .before .before .before .before .before .before .before .before .before .before .before in let b = begun-at d in let n = named-at b in answered-now a _ (looked-at n .look-parameters .ensures) _ (left-at n .left2 .given .1) (n .name-parameters .ensures) (b .begin-page .ensures) _ (d .add-constraints .ensures) _ _ (limit-at n .usable .ensures) (c .before .before .before .before .before .before .clear-names .ensures) (c .before .before .end-page .ensures)
 
 pub write-answer-spec : {M : Type 1} → statement M
 write-answer-spec =

@@ -1,11 +1,11 @@
 // The writer: the answer of a path, behind those already in the output.
 use crate::constraints::Added;
 use crate::constraints::add_constraints;
+use crate::look::Looked;
 use crate::names::clear_names;
 use crate::page::Written;
 use crate::put::Put;
 use crate::put::put_head;
-use crate::look::Looked;
 use crate::query::look_parameters;
 use crate::query::name_parameters;
 use crate::query::put_parameters;

@@ -2,17 +2,17 @@
 use Prim.Native.Nat.{ℕ, suc, _+_, _-_, _≤_, _<_}
 use mathlib.Core.Path.{_≡_, refl, sym, ap, subst, _∙_}
 use mathlib.Core.Bool.{Bool, false}
-use mathlib.Core.Option.{Option, none, some}
+use mathlib.Core.Option.{none, some}
 use mathlib.Core.List.{List, [], _∷_, _++_, reverse, append-assoc, append-nil}
 use native.Mathlib.Omega.{arith}
 use lib.ListN.{length, length-append, length-reverse}
-use Rattle.rules.specs.Syntax.{Atom, Term, var, atom, pair, Sort, Constraint, differ, typed, absento}
+use Rattle.rules.specs.Syntax.{Atom, Term, var, atom, pair, Sort, Constraint, differ, absento}
 use Rattle.rules.specs.Written.{sort-kind}
 use Rattle.semantics.specs.Substitution.{Substitution, resolve, walk}
 use Rattle.semantics.specs.Steps.{waiting, no-steps, at-bound, Outcome, done, stop, and-then}
 use Rattle.semantics.specs.Unify.{scan, never, unify-terms}
 use Rattle.semantics.specs.Shows.{Each}
-use Rattle.semantics.specs.Answer.{appear, Line, not-all, trial-bindings, resolve-right, look-through, trial-lines, typed-lines, lacks-each, lines-of, all-lines}
+use Rattle.semantics.specs.Answer.{appear, Line, not-all, resolve-right, look-through, trial-lines, typed-lines, lacks-each, lines-of, all-lines}
 use Rattle.semantics.proofs.TermLaws.{term-size}
 use Rattle.semantics.proofs.SubstitutionLaws.{Good, Seen, walk-seen}
 use Rattle.semantics.proofs.UnifyLaws.{unify-some, no-news}
@@ -21,9 +21,8 @@ use Rattle.semantics.proofs.Sound.{Sound}
 use Rattle.engine.specs.Reference.{at, pos-of, KeepsAt}
 use Rattle.engine.specs.Memory.{BindingsIn, KeptIn}
 use Rattle.engine.specs.Walk.{NodeAt, Binds, Follows}
-use Rattle.engine.specs.Follow.{Resolves}
 use Rattle.engine.specs.Trail.{Trailed, Undone, Apart}
-use Rattle.engine.specs.Unify.{Meets, Went, UnifiedAs}
+use Rattle.engine.specs.Unify.{Went, UnifiedAs}
 use Rattle.engine.specs.Keep.{AllKept}
 use Rattle.engine.specs.Look.{LookedAs, Looks, rights, Small, ThroughAs}
 use Rattle.engine.specs.Lines.{Equations, LineAs, as-differ}
@@ -45,7 +44,7 @@ use Rattle.engine.proofs.FrameLaws.{kept-same}
 use Rattle.engine.proofs.TrailLaws.{fresh-few, apart-same, apart-trans, undone-apart}
 use Rattle.engine.proofs.LinesLaws.{add-append}
 use Rattle.engine.proofs.WriterLaws.{absent-once, trial-new, equations-kept}
-use Rattle.engine.proofs.ReviewSteps.{absento-term, absento-tag, DifferAt, Trial, trial-joined, trial-failed, trial-stepped, trial-pathed, kept-again}
+use Rattle.engine.proofs.ReviewSteps.{absento-term, absento-tag, DifferAt, Trial, trial-failed, trial-stepped, trial-pathed, kept-again}
 
 -- names are where a trial stores nothing
 pub names-apart : {s s′ : List ℕ} {top : ℕ} {names : List ℕ} → Apart s s′ → Names s top names → Names s′ top names

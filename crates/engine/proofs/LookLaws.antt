@@ -20,7 +20,7 @@ use Rattle.semantics.proofs.ScanLaws.{Leaf, ScanStep, hit, down, full, last, fu
 use Rattle.engine.specs.Reference.{at, AtomIs, Stands}
 use Rattle.engine.specs.Walk.{Follows}
 use Rattle.engine.specs.Scan.{TestAs, scan-says, ScanAs}
-use Rattle.engine.specs.Keep.{Keeps, Kept}
+use Rattle.engine.specs.Keep.{Kept}
 use Rattle.engine.specs.Look.{LookedAs, Looks, rights, Small, ThroughAs}
 use Rattle.engine.specs.declared.scan.Scanned.{Scanned}
 use Rattle.engine.specs.declared.scan.Scanned.the-variants.{Found, Clear, StepsOut, PathOut}

@@ -48,7 +48,7 @@ pub record AddedAs (ws s s′ : List ℕ) {out : List ℕ} {first end place : �
   pub apart : Apart s s′
   pub touched : Touched (g .before) out′ (g .begin) end
 
--- A disequality whose line is to be added: some assignment of the path meets it, so a trial that succeeds binds something.
+-- A disequality whose line is to be added: not every assignment of the path makes the two equal, so a trial that succeeds binds something.
 pub record Differs (ws s : List ℕ) (bs : Substitution) (a : ℕ) (u : Term) (b : ℕ) (v : Term) (trail : ℕ) : Type 0 where
   pub meets : Meets ws s bs a u b v trail
   pub unforced : Unforced bs u v

@@ -117,7 +117,15 @@ fn add_absento(
         Looked::Done(rest) => {
             let tag = node_at(program, constraint + 1).bits;
             let next = add_absent(
-                program, scratch, output, tag, term, first, end, written, steps,
+                program,
+                scratch,
+                output,
+                tag,
+                term,
+                first,
+                end,
+                written,
+                steps,
             );
             return Added::Done(next, rest);
         }
@@ -192,7 +200,14 @@ fn add_constraint(
     }
     if kind == Word::ABSENTO {
         return add_absento(
-            program, scratch, output, constraint, first, end, written, steps,
+            program,
+            scratch,
+            output,
+            constraint,
+            first,
+            end,
+            written,
+            steps,
         );
     }
     add_type(
@@ -232,7 +247,15 @@ pub(crate) fn add_constraints(
     while i < kept {
         let constraint = scratch[CONSTRAINTS + i as usize];
         match add_constraint(
-            program, scratch, output, constraint, trail, first, end, written, left,
+            program,
+            scratch,
+            output,
+            constraint,
+            trail,
+            first,
+            end,
+            written,
+            left,
         ) {
             Added::Done(next, rest) => {
                 written = next;

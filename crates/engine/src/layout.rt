@@ -14,6 +14,7 @@ pub(crate) const NAMES: usize = 4096;
 
 // Goals waiting, in cells of two words from 6144 on: the goal's reference and the next cell's number. Cells are numbered from 1 on.
 pub(crate) const CELL_GOAL: u32 = 6142;
+
 pub(crate) const CELL_NEXT: u32 = 6143;
 
 // Choice points: eight words each.
@@ -30,9 +31,13 @@ pub(crate) const RELATIONS: usize = 11776;
 
 // Bounds of one path, in the order of document 01.
 pub(crate) const MOST_VARIABLES: u32 = 2048;
+
 pub(crate) const MOST_GOALS: u32 = 1024;
+
 pub(crate) const MOST_DISJUNCTIONS: u32 = 256;
+
 pub(crate) const MOST_CONSTRAINTS: u32 = 512;
 // Waiting term pairs and waiting nodes, counted apart.
 pub(crate) const MOST_PAIRS: usize = 512;
+
 pub(crate) const MOST_NODES: u32 = 512;

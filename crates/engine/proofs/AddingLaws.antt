@@ -42,13 +42,10 @@ use Rattle.engine.specs.declared.constraints.Added.the-variants.{Done, S
 use Rattle.engine.proofs.ReferenceLaws.{atom-word-is}
 use Rattle.engine.proofs.FrameLaws.{kept-same}
 use Rattle.engine.proofs.TrailLaws.{fresh-few, apart-same, apart-trans, undone-apart}
+use Rattle.engine.proofs.NameLaws.{names-apart}
 use Rattle.engine.proofs.LinesLaws.{add-append}
 use Rattle.engine.proofs.WriterLaws.{absent-once, trial-new, equations-kept}
 use Rattle.engine.proofs.ReviewSteps.{absento-term, absento-tag, DifferAt, Trial, trial-failed, trial-stepped, trial-pathed, kept-again}
-
--- names are where a trial stores nothing
-pub names-apart : {s s′ : List ℕ} {top : ℕ} {names : List ℕ} → Apart s s′ → Names s top names → Names s′ top names
-names-apart a h = record { top-is = h .top-is; words = λ y l. a .middle (4096 + y) (omega arith) (omega arith) ∙ h .words y l; distinct = h .distinct }
 
 -- A disequality
 

@@ -45,6 +45,7 @@ use Rattle.engine.specs.declared.answer.Answered.the-variants as answere
 use Rattle.engine.proofs.TrailLaws.{fresh-few}
 use Rattle.engine.proofs.FrameLaws.{bindings-same, kept-same}
 use Rattle.engine.proofs.StoredLaws.{trailed, rebound, stored-binds}
+use Rattle.engine.proofs.NameLaws.{names-apart}
 use Rattle.engine.proofs.PutLaws.{untouched, touched-then, laid-of, missing-of}
 use Rattle.engine.proofs.PageLaws.{lines-listed}
 use Rattle.engine.proofs.QueryLaws.{binds-named}
@@ -180,9 +181,6 @@ unnamed h = record { top-is = refl; words = λ y l. h (4096 + y) (omega arith) (
 pub nameless-again : {s : List ℕ} → Names s 0 [] → Nameless s
 unfolding word-from
 nameless-again {s} h = λ i lo hi. let e : 4096 + (i - 4096) ≡ i = omega arith in subst (λ j. at s j ≡ 0) e (h .words (i - 4096) (omega arith))
-
-pub names-apart : {s s′ : List ℕ} {top : ℕ} {names : List ℕ} → Apart s s′ → Names s top names → Names s′ top names
-names-apart a h = record { top-is = h .top-is; words = λ y l. a .middle (4096 + y) (omega arith) (omega arith) ∙ h .words y l; distinct = h .distinct }
 
 -- the open variables of the query terms have names
 each-parameter : (Q : Term → Type 0) (bs : Substitution) (i n x : ℕ) → Each Q (query-terms bs i n) → i ≤ x → x < i + n → Q (resolve bs (var x))

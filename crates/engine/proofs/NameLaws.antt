@@ -18,6 +18,7 @@ use Rattle.semantics.proofs.SubstitutionLaws.{lookup-other}
 use Rattle.semantics.proofs.TermLaws.{term-size}
 use Rattle.engine.specs.Reference.{at}
 use Rattle.engine.specs.Memory.{Fresh}
+use Rattle.engine.specs.Trail.{Apart}
 use Rattle.engine.specs.Names.{next-top, top-from, word-from, Distinct, Names, Named}
 use Rattle.engine.proofs.TrailLaws.{fresh-few}
 
@@ -188,3 +189,7 @@ module _ {s : List ℕ} {top : ℕ} {names : List ℕ} (h : Names s top names) w
 
 pub named-trans : {s s′ s″ : List ℕ} {top top′ : ℕ} {names names′ : List ℕ} → Named s s′ top names → Named s′ s″ top′ names′ → Named s s″ top′ names′
 named-trans h i = record { given = i .given; below = λ k l. i .below k l ∙ h .below k l; above = λ k l. i .above k l ∙ h .above k l; long = i .long ∙ h .long }
+
+-- names are where a trial stores nothing
+pub names-apart : {s s′ : List ℕ} {top : ℕ} {names : List ℕ} → Apart s s′ → Names s top names → Names s′ top names
+names-apart a h = record { top-is = h .top-is; words = λ y l. a .middle (4096 + y) (omega arith) (omega arith) ∙ h .words y l; distinct = h .distinct }

@@ -11,6 +11,7 @@ use Rattle.rules.specs.Accept.{Accept, accepted, refused, read}
 use Rattle.rules.specs.Verdict.{yes-said, no-said, said}
 use Rattle.rules.specs.Inner.{RelationsAt}
 use Rattle.rules.proofs.Stands.{stands-self}
+use Rattle.rules.proofs.Checked.{refused-said}
 use Rattle.rules.proofs.Accepted.{read-is-written, accepted-query}
 use Rattle.semantics.specs.Round.{Result, rounds}
 use Rattle.semantics.specs.Run.{Report, refusal, ran, returns, report-program, leave, run, usable, page}
@@ -28,10 +29,6 @@ use Rattle.engine.proofs.ClearLaws.{cleared-length, cleared-zero}
 pub accepted-said : (r : Accept) → yes-said ≡ said r → (P : Program) × (r ≡ accepted P)
 accepted-said (accepted P) e = (P, refl)
 accepted-said (refused d q) e = absurd (let z : _≡_ {A = ℕ} 0 1 = cc in omega arith)
-
-refused-said : (r : Accept) (c p : ℕ) → no-said c p ≡ said r → r ≡ refused c p
-refused-said (accepted P) c p e = absurd (let z : _≡_ {A = ℕ} 0 1 = cc in omega arith)
-refused-said (refused d q) c p e = let x : c ≡ d = cc in let y : p ≡ q = cc in rw (x, y) refl
 
 -- the relations of an accepted program stand in its words
 relations-there : (words : List ℕ) (P : Program) → read words ≡ accepted P → RelationsAt words 0 P × (length P ≤ 256)

@@ -45,7 +45,7 @@ module _ (ws : List ℕ) (some : 1 ≤ length ws) (few : length ws ≤ 16384) wh
       (q .0, record { stands = rw (sym (w .0)) (stands-self ws); to = omega arith; good = w .1 .0; short = few }, rw e)
 
 -- what is said of a refusal, back to the reading
-refused-said : (r : Accept) (c p : ℕ) → no-said c p ≡ said r → r ≡ refused c p
+pub refused-said : (r : Accept) (c p : ℕ) → no-said c p ≡ said r → r ≡ refused c p
 refused-said (accepted P) c p e = absurd (let z : _≡_ {A = ℕ} 0 1 = cc in omega arith)
 refused-said (refused d q) c p e = let x : c ≡ d = cc in let y : p ≡ q = cc in rw (x, y) refl
 

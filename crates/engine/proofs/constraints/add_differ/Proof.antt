@@ -2,7 +2,8 @@
 use mathlib.Core.List.{reverse}
 use borrow.Author.Needs.{needs}
 use Rattle.engine.proofs.ReviewSteps.{trial-joined, trial-failed, trial-stepped, trial-pathed}
-use Rattle.engine.proofs.AddingLaws.{names-apart, trial-grown, differ-failed, differ-stepped, differ-pathed, tried, tried-line-is, tried-line, tried-steps, tried-path, tried-done}
+use Rattle.engine.proofs.NameLaws.{names-apart}
+use Rattle.engine.proofs.AddingLaws.{trial-grown, differ-failed, differ-stepped, differ-pathed, tried, tried-line-is, tried-line, tried-steps, tried-path, tried-done}
 use Rattle.engine.proofs.constraints.add_differ.Statement.{statement}
 use Rattle.engine.proofs.constraints.add_differ.Tie as tie
 

@@ -66,12 +66,17 @@ pub fn nested_goals(depth: u32, kinds: [u32; 2]) -> Vec<u32> {
     relation(0, 0, around.chain(innermost).collect())
 }
 
+/// A term of pairs nested so deep in first parts, all else empty lists.
+pub fn deep_term(depth: u32) -> Vec<u32> {
+    let pairs = (0..depth).map(|level| word(PAIR, 2 * (depth - level) - 1));
+    pairs
+        .chain(vec![word(EMPTY, 0); depth as usize + 1])
+        .collect()
+}
+
 /// Pairs nested in first parts.
 pub fn first_parts(depth: u32) -> Vec<u32> {
-    let mut goal = vec![word(7, 2 * depth + 1)];
-    goal.extend((0..depth).map(|level| word(4, 2 * (depth - level) - 1)));
-    goal.extend(vec![word(3, 0); depth as usize + 1]);
-    relation(0, 0, goal)
+    relation(0, 0, part(SYMBOLO, deep_term(depth)))
 }
 
 /// A list of so many symbols.

@@ -3,6 +3,7 @@
 
 pub mod cases;
 pub mod gen;
+pub mod listing;
 pub mod read;
 pub mod run;
 pub mod syntax;

@@ -1,9 +1,12 @@
-//! Tables of programs in text: `k:p` words, `k:p*N` and `(...)*N` for repetition, `#` for comments.
+//! Tables of programs in text: `k:p` words, `k:p*N` and `(...)*N` for repetition, `deep*N` for pairs nested in first parts,
+//! `#` for comments.
 //! For files of this repository only, so a fault in one is a panic.
 
 use crate::cases::Case;
+use crate::gen::deep_term;
+use crate::listing::end;
 use crate::read::Refusal;
-use crate::run::{End, Outcome};
+use crate::run::Outcome;
 use crate::word::{show, word};
 
 /// A line of the table of refusals.
@@ -35,13 +38,7 @@ impl Decision {
     /// The value of what is said, in an outcome.
     pub fn found(&self, what: &str, outcome: &Outcome) -> String {
         match what {
-            "end" => match outcome.end {
-                End::Finished => "finished".to_string(),
-                End::Rounds => "rounds".to_string(),
-                End::Steps => "steps".to_string(),
-                End::Output => "output".to_string(),
-                End::Path(bound) => format!("path {bound}"),
-            },
+            "end" => end(outcome.end),
             "round" => outcome.round.to_string(),
             "steps" => outcome.steps.to_string(),
             "words" => show(&outcome.words),
@@ -52,19 +49,46 @@ impl Decision {
 
 /// The readings' programs, worked out by hand.
 pub fn decisions() -> Vec<Decision> {
-    let lines = include_str!("../tests/decisions.txt")
-        .lines()
-        .map(without_comment);
-    lines
-        .filter(|line| !line.is_empty())
-        .map(decision)
-        .collect()
+    let rows = limited_rows(include_str!("../tests/decisions.txt"));
+    rows.map(|(label, case, outcome)| Decision {
+        number: number(label),
+        case,
+        expected: items(outcome),
+    })
+    .collect()
 }
 
-fn decision(line: &str) -> Decision {
-    let (label, rest) = line.split_once(": ").expect("a line without a number");
-    let (program, outcome) = rest.split_once("=>").expect("a line without =>");
-    let (program, limits) = program.split_once(';').unwrap_or((program, ""));
+/// A run, and what the listing program prints of it.
+pub struct Run {
+    pub label: String,
+    pub case: Case,
+    pub expected: String,
+}
+
+/// The runs of document 01 and each end, worked out by hand.
+pub fn runs() -> Vec<Run> {
+    let rows = limited_rows(include_str!("../tests/runs.txt"));
+    rows.map(|(label, case, text)| Run {
+        label: label.to_string(),
+        case,
+        expected: text.replace(" | ", "\n") + "\n",
+    })
+    .collect()
+}
+
+/// Rows `label: words ; limits => outcome`.
+fn limited_rows(table: &str) -> impl Iterator<Item = (&str, Case, &str)> {
+    let lines = table.lines().map(without_comment);
+    lines.filter(|line| !line.is_empty()).map(|line| {
+        let (label, rest) = line.split_once(": ").expect("a line without a label");
+        let (program, outcome) = rest.split_once("=>").expect("a line without =>");
+        let (program, limits) = program.split_once(';').unwrap_or((program, ""));
+        (label, limited(program, limits), outcome.trim())
+    })
+}
+
+/// The program with these limits; without them, with those of the listing program.
+fn limited(program: &str, limits: &str) -> Case {
     let mut case = Case {
         words: words(program),
         rounds: 16,
@@ -77,14 +101,10 @@ fn decision(line: &str) -> Decision {
             "rounds" => case.rounds = number(&value),
             "steps" => case.steps = number(&value),
             "output" => case.output = number(&value) as usize,
-            _ => panic!("reading {label}: {what}"),
+            _ => panic!("no limit: {what}"),
         }
     }
-    Decision {
-        number: number(label),
-        case,
-        expected: items(outcome),
-    }
+    case
 }
 
 /// `what value, what value`
@@ -116,6 +136,10 @@ pub fn words(text: &str) -> Vec<u32> {
         let closes = item.ends_with(')');
         let item = item.trim_end_matches(')');
         let within = groups.last_mut().expect("a group is open");
+        if item == "deep" {
+            within.extend(deep_term(count as u32));
+            continue;
+        }
         if !closes {
             within.extend(vec![one_word(item); count]);
             continue;

@@ -1,12 +1,15 @@
-//! The gate's own program `refusals` is run on the table of refusals: its input and expected output are made from it.
-//! After a change of the table, REWRITE=1 writes both anew.
+//! The gate's own programs `refusals` and `runs` are run on the tables of refusals and of runs: their input and expected
+//! output are made from them. After a change of a table, REWRITE=1 writes both anew.
 
-use reference::table::{refusals, Row};
+use reference::cases::Case;
+use reference::gen::nested_goals;
+use reference::listing::listing;
+use reference::table::{decisions, refusals, runs, Row};
 use std::env;
 use std::fs;
 use std::path::{Path, PathBuf};
 
-/// The program's buffer holds 65,536 words, so of the long rows only those on the word count go in.
+/// The buffer of `refusals` holds 65,536 words, so of the long rows only those on the word count go in.
 fn rows() -> Vec<Row> {
     let mut long = 0;
     let mut taken = |row: &Row| {
@@ -16,21 +19,26 @@ fn rows() -> Vec<Row> {
     refusals().into_iter().filter(|row| taken(row)).collect()
 }
 
-fn compare(file: &str, made: &[u8]) {
+fn compare(program: &str, file: &str, made: &[u8]) {
     let path: PathBuf = Path::new(env!("CARGO_MANIFEST_DIR"))
-        .join("../../crates/refusals")
+        .join("../../crates")
+        .join(program)
         .join(file);
     if env::var_os("REWRITE").is_some() {
         fs::write(&path, made).unwrap();
     }
     assert!(
         fs::read(&path).unwrap() == made,
-        "{file} of the program refusals isn't that of the table: run this test with REWRITE=1"
+        "{file} of the program {program} isn't that of the table: run this test with REWRITE=1"
     );
 }
 
+fn bytes(words: &[u32]) -> Vec<u8> {
+    words.iter().flat_map(|word| word.to_le_bytes()).collect()
+}
+
 #[test]
-fn input_and_output_are_those_of_the_table() {
+fn refusals_input_and_output_are_those_of_the_table() {
     let rows = rows();
     assert!(rows.len() > 160);
     assert!(rows.iter().any(|row| row.words.len() == 16_384));
@@ -38,10 +46,8 @@ fn input_and_output_are_those_of_the_table() {
     let mut input = Vec::new();
     let mut output = String::new();
     for row in &rows {
-        input.extend((row.words.len() as u32).to_le_bytes());
-        for word in &row.words {
-            input.extend(word.to_le_bytes());
-        }
+        input.extend(bytes(&[row.words.len() as u32]));
+        input.extend(bytes(&row.words));
         match &row.expected {
             Ok(()) => output.push_str("accepted\n"),
             Err(refusal) => output.push_str(&format!(
@@ -51,6 +57,60 @@ fn input_and_output_are_those_of_the_table() {
         }
     }
     assert!(input.len() <= 4 * 65_536);
-    compare("stdin", &input);
-    compare("stdout", output.as_bytes());
+    compare("refusals", "stdin", &input);
+    compare("refusals", "stdout", output.as_bytes());
+}
+
+/// The input and expected output of `runs`.
+#[derive(Default)]
+struct Runs {
+    count: usize,
+    input: Vec<u8>,
+    output: String,
+}
+
+impl Runs {
+    /// The case with other bytes than its words may be.
+    fn add_bytes(&mut self, case: &Case, bytes_given: &[u8], text: &str) {
+        self.count += 1;
+        let size = bytes_given.len() as u32;
+        self.input
+            .extend(bytes(&[case.rounds, case.steps, case.output as u32, size]));
+        self.input.extend(bytes_given);
+        self.output.push_str(text);
+    }
+
+    fn add(&mut self, case: &Case, text: &str) {
+        self.add_bytes(case, &bytes(&case.words), text);
+    }
+}
+
+#[test]
+fn runs_input_and_output_are_those_of_the_tables() {
+    let mut made = Runs::default();
+    for row in runs() {
+        made.add(&row.case, &row.expected);
+    }
+    for decision in decisions() {
+        made.add(&decision.case, &listing(&decision.case.run()));
+    }
+    // Byte counts: no whole words, a full-length program, and one word or byte more.
+    let mut case = runs().remove(0).case;
+    let a = bytes(&case.words);
+    for count in 0..4 {
+        made.add_bytes(&case, &a[..count], "refused 1 at 0\n");
+    }
+    made.add_bytes(&case, &a[..23], "refused 1 at 0\n");
+    made.add_bytes(&case, &[&a[..], &[0]].concat(), "refused 1 at 0\n");
+    case.words = nested_goals(16_378, [10, 10]);
+    assert_eq!(case.words.len(), 16_384);
+    made.add(&case, "end path 2 round 0 steps 1023 answers 0\n");
+    case.words.push(0);
+    made.add(&case, "refused 1 at 0\n");
+    let too_long = bytes(&case.words);
+    made.add_bytes(&case, &too_long[..65_537], "refused 1 at 0\n");
+    // The program's bounds: at most 1,000 runs of 65,544 bytes and 4,096 output words.
+    assert!(made.count <= 1_000);
+    compare("runs", "stdin", &made.input);
+    compare("runs", "stdout", made.output.as_bytes());
 }

@@ -1,6 +1,7 @@
 //! The runs of document 01, and each end with its limit met and missed by one.
 
 use reference::gen::{pair, part, relation};
+use reference::listing::listing;
 use reference::run::SCRATCH_WORDS;
 use reference::table;
 use reference::word::{show, word};
@@ -57,6 +58,16 @@ const E: &str = "13:7 2:1 2:1 10:4 7:1 0:0 8:1 0:0";
 const F: &str = "13:9 2:1 2:2 10:6 5:2 0:0 1:7 6:2 0:1 2:5";
 const G: &str = "13:9 2:2 2:2 6:6 4:1 0:0 0:1 4:1 2:1 2:2";
 const H: &str = "13:11 2:1 2:1 10:8 9:2 1:7 0:0 5:4 0:0 4:1 1:7 3:0";
+
+/// Worked out by hand, with all that the listing program prints.
+#[test]
+fn table_of_runs() {
+    let rows = table::runs();
+    assert!(rows.len() >= 40);
+    for row in rows {
+        assert_eq!(listing(&row.case.run()), row.expected, "{}", row.label);
+    }
+}
 
 #[test]
 fn runs_of_document_01() {

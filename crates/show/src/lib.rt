@@ -1,5 +1,4 @@
 // What the listing program prints of a rule file. No contract can say what is printed, so nothing is promised but that it is safe and ends.
-use engine::Bound;
 use engine::End;
 use engine::Report;
 use libc::STDOUT_FILENO;
@@ -23,9 +22,7 @@ fn print_refusal(number: u32, place: usize) {
     print_place(place);
 }
 
-fn print_counts(end: &[u8], report: Report) {
-    io::write_all(STDOUT_FILENO, b"end ");
-    io::write_all(STDOUT_FILENO, end);
+fn print_counts(report: Report) {
     io::write_all(STDOUT_FILENO, b" round ");
     print_number(report.round);
     io::write_all(STDOUT_FILENO, b" steps ");
@@ -34,24 +31,10 @@ fn print_counts(end: &[u8], report: Report) {
     print_number(report.answers);
 }
 
-fn print_path(bound: Bound, report: Report) {
-    match bound {
-        Bound::Variables => {
-            print_counts(b"path 1", report);
-        }
-        Bound::Goals => {
-            print_counts(b"path 2", report);
-        }
-        Bound::Disjunctions => {
-            print_counts(b"path 3", report);
-        }
-        Bound::Constraints => {
-            print_counts(b"path 4", report);
-        }
-        Bound::Waiting => {
-            print_counts(b"path 5", report);
-        }
-    }
+fn print_ran(end: &[u8], report: Report) {
+    io::write_all(STDOUT_FILENO, b"end ");
+    io::write_all(STDOUT_FILENO, end);
+    print_counts(report);
 }
 
 // The first line, without its end.
@@ -59,19 +42,21 @@ fn print_report(report: Report) {
     let end = report.end;
     match end {
         End::Finished => {
-            print_counts(b"finished", report);
+            print_ran(b"finished", report);
         }
         End::Rounds => {
-            print_counts(b"rounds", report);
+            print_ran(b"rounds", report);
         }
         End::Steps => {
-            print_counts(b"steps", report);
+            print_ran(b"steps", report);
         }
         End::Output => {
-            print_counts(b"output", report);
+            print_ran(b"output", report);
         }
         End::Path(bound) => {
-            print_path(bound, report);
+            io::write_all(STDOUT_FILENO, b"end path ");
+            print_number(bound.number());
+            print_counts(report);
         }
         End::Refused(number, place) => {
             print_refusal(number, place);

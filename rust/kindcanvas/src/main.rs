@@ -1,8 +1,6 @@
 //! `kindcanvas check FILE`: is the program in FILE, in k:p text, well-formed? `-` reads standard input.
 
 use std::env;
-use std::fs;
-use std::io::{self, Read};
 use std::process::ExitCode;
 
 fn main() -> ExitCode {
@@ -18,17 +16,10 @@ fn main() -> ExitCode {
 
 /// Status 0: accepted, 1: refused, 2: no such file, or no k:p text.
 fn check(file: &str) -> ExitCode {
-    let text = match contents(file) {
-        Ok(text) => text,
-        Err(error) => {
-            eprintln!("{file}: {error}");
-            return ExitCode::from(2);
-        }
-    };
-    let words = match kindcanvas::text::parse(&text) {
+    let words = match text::read(file) {
         Ok(words) => words,
         Err(error) => {
-            eprintln!("{file}: {error}");
+            eprintln!("{error}");
             return ExitCode::from(2);
         }
     };
@@ -41,15 +32,5 @@ fn check(file: &str) -> ExitCode {
             println!("refused {} at {}: {refusal}", refusal.number, refusal.place);
             ExitCode::from(1)
         }
-    }
-}
-
-fn contents(file: &str) -> io::Result<String> {
-    if file == "-" {
-        let mut text = String::new();
-        io::stdin().read_to_string(&mut text)?;
-        Ok(text)
-    } else {
-        fs::read_to_string(file)
     }
 }

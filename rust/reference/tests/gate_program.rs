@@ -1,5 +1,5 @@
-//! The gate's own programs `refusals` and `runs` are run on the tables of refusals and of runs: their input and expected
-//! output are made from them. After a change of a table, REWRITE=1 writes both anew.
+//! The gate's own programs `refusals` and `runs` are run on the tables of refusals and of runs, and the listing program on the
+//! first run: their input and expected output are made from the tables. After a change of a table, REWRITE=1 writes all anew.
 
 use reference::cases::Case;
 use reference::gen::nested_goals;
@@ -59,6 +59,13 @@ fn refusals_input_and_output_are_those_of_the_table() {
     assert!(input.len() <= 4 * 65_536);
     compare("refusals", "stdin", &input);
     compare("refusals", "stdout", output.as_bytes());
+}
+
+#[test]
+fn listing_input_and_output_are_those_of_run_a() {
+    let a = runs().remove(0);
+    compare("listing", "stdin", &bytes(&a.case.words));
+    compare("listing", "stdout", a.expected.as_bytes());
 }
 
 /// The input and expected output of `runs`.

@@ -3,6 +3,8 @@
 
 use std::error::Error;
 use std::fmt;
+use std::fs;
+use std::io::{self, Read};
 
 /// What is wrong with a text, and where: line and column from 1, columns counted in characters.
 #[derive(Clone, Debug, PartialEq, Eq)]
@@ -34,6 +36,22 @@ impl fmt::Display for TextError {
 }
 
 impl Error for TextError {}
+
+/// The words of a file; `-` is standard input. What is wrong is said with the file's name.
+pub fn read(file: &str) -> Result<Vec<u32>, String> {
+    let text = contents(file).map_err(|error| format!("{file}: {error}"))?;
+    parse(&text).map_err(|error| format!("{file}: {error}"))
+}
+
+fn contents(file: &str) -> io::Result<String> {
+    if file == "-" {
+        let mut text = String::new();
+        io::stdin().read_to_string(&mut text)?;
+        Ok(text)
+    } else {
+        fs::read_to_string(file)
+    }
+}
 
 /// The words of a text.
 pub fn parse(text: &str) -> Result<Vec<u32>, TextError> {

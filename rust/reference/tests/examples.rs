@@ -1,5 +1,6 @@
-//! The rule files under examples/ and what they answer.
+//! The rule files under examples/, what they answer, and the lists beside them.
 
+use reference::listing::listing;
 use reference::run::SCRATCH_WORDS;
 use reference::table;
 use reference::word::show;
@@ -31,8 +32,14 @@ fn examples_give_their_answers() {
     assert_eq!(files, EXAMPLES.map(|(file, ..)| file));
     for (file, round, answer_rounds, answers) in EXAMPLES {
         let words = table::words(&fs::read_to_string(folder.join(file)).unwrap());
-        let outcome = run(&words, 16, 1_000_000, 4_096, SCRATCH_WORDS)
-            .unwrap_or_else(|refusal| panic!("{file}: {refusal:?}"));
+        let result = run(&words, 16, 1_000_000, 4_096, SCRATCH_WORDS);
+        let list = folder.join(file).with_extension("list");
+        assert_eq!(
+            listing(&result),
+            fs::read_to_string(list).unwrap(),
+            "{file}"
+        );
+        let outcome = result.unwrap_or_else(|refusal| panic!("{file}: {refusal:?}"));
         assert_eq!(show(&outcome.words), answers, "{file}");
         assert_eq!(outcome.answer_rounds, answer_rounds, "{file}");
         assert_eq!(

@@ -2,6 +2,7 @@
 //! speed: the verified engine is compared with it on random programs.
 
 pub mod cases;
+pub mod fault;
 pub mod gen;
 pub mod listing;
 pub mod read;
@@ -10,6 +11,7 @@ pub mod syntax;
 pub mod table;
 pub mod word;
 
+pub use fault::Fault;
 pub use read::{read, Refusal};
-pub use run::{run, End, Outcome};
+pub use run::{run, run_with, End, Outcome};
 pub use syntax::{written, Program};

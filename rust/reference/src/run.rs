@@ -2,6 +2,7 @@
 //!
 //! A path is one value that holds everything, and a choice point keeps a whole copy of it, so nothing is ever undone.
 
+use crate::fault::Fault;
 use crate::read::{read, Refusal};
 use crate::syntax::*;
 use crate::word::*;
@@ -51,6 +52,18 @@ pub fn run(
     output_len: usize,
     scratch_len: usize,
 ) -> Result<Outcome, Refusal> {
+    run_with(None, words, rounds, steps, output_len, scratch_len)
+}
+
+/// The same with an error put in, for tests of tests.
+pub fn run_with(
+    fault: Option<Fault>,
+    words: &[u32],
+    rounds: u32,
+    steps: u32,
+    output_len: usize,
+    scratch_len: usize,
+) -> Result<Outcome, Refusal> {
     if rounds > ROUND_LIMIT || scratch_len < SCRATCH_WORDS {
         return Err(Refusal {
             number: 9,
@@ -60,6 +73,7 @@ pub fn run(
     let program = read(words)?;
     let mut search = Search {
         program: &program,
+        fault,
         step_limit: steps,
         room: output_len.min(OUTPUT_WORDS),
         steps: 0,
@@ -71,6 +85,9 @@ pub fn run(
         match search.round(round) {
             Err(end) => break end,
             Ok(Cut(false)) => break End::Finished,
+            Ok(_) if search.has(Fault::FinishedWithoutAnswer) && !search.answered(round) => {
+                break End::Finished
+            }
             Ok(Cut(true)) if round == rounds => break End::Rounds,
             Ok(Cut(true)) => round += 1,
         }
@@ -177,6 +194,7 @@ struct Nodes {
 
 struct Search<'p> {
     program: &'p Program,
+    fault: Option<Fault>,
     step_limit: u32,
     /// Output words that may be used.
     room: usize,
@@ -186,6 +204,15 @@ struct Search<'p> {
 }
 
 impl Search<'_> {
+    fn has(&self, fault: Fault) -> bool {
+        self.fault == Some(fault)
+    }
+
+    /// Whether the round, which is the last one so far, gave an answer.
+    fn answered(&self, round: u32) -> bool {
+        self.answer_rounds.last() == Some(&round)
+    }
+
     /// One step, unless the limit is used up or the step would exceed the bound given.
     fn step(&mut self, exceeds: Option<u32>) -> Result<(), End> {
         if self.steps == self.step_limit {
@@ -229,7 +256,7 @@ impl Search<'_> {
             // To the end of this path ...
             loop {
                 let Some(task) = path.waiting.pop() else {
-                    if path.calls == round {
+                    if path.calls == round || self.has(Fault::DepthFirst) {
                         self.answer(&path, round)?;
                     }
                     break;
@@ -272,6 +299,7 @@ impl Search<'_> {
                 match self.unify(&mut path.substitution, left, right)? {
                     None => return Ok(Taken::Failed),
                     Some(bound) if bound.is_empty() => (),
+                    Some(_) if self.has(Fault::TestedOnlyWhenTaken) => (),
                     Some(_) => {
                         for &constraint in &path.constraints {
                             if !self.review(constraint, &path)? {
@@ -306,7 +334,7 @@ impl Search<'_> {
                 }
                 path.put(&goals[..1], base);
             }
-            Goal::Call(_, _) if path.calls == round => {
+            Goal::Call(_, _) if path.calls == round && !self.has(Fault::DepthFirst) => {
                 self.step(None)?;
                 return Ok(Taken::Cut);
             }
@@ -372,7 +400,7 @@ impl Search<'_> {
                 (_, Value::Variable(variable)) => (variable, left),
                 _ => return Ok(None),
             };
-            if self.occurs(variable, other, substitution)? {
+            if !self.has(Fault::NoOccursCheck) && self.occurs(variable, other, substitution)? {
                 return Ok(None);
             }
             substitution.bind(variable, other);
@@ -461,6 +489,10 @@ impl Search<'_> {
             Goal::Differ(left, right) => {
                 let (left, right) = (self.value(left, base), self.value(right, base));
                 let mut trial = path.substitution.clone();
+                let open = |side| matches!(trial.walk(side), Value::Variable(_));
+                if self.has(Fault::OpenVariablesDontDiffer) && open(left) && open(right) {
+                    return Ok(false);
+                }
                 let bound = self.unify(&mut trial, left, right)?;
                 Ok(bound.is_none_or(|bound| !bound.is_empty()))
             }
@@ -474,8 +506,12 @@ impl Search<'_> {
             .iter()
             .any(|other| match &self.program[other.goal] {
                 goal @ (Goal::Symbolo(term) | Goal::Numbero(term)) if sort(goal) => {
-                    path.substitution.walk(self.value(*term, other.base))
-                        == Value::Variable(variable)
+                    let written = self.value(*term, other.base);
+                    let node = match self.has(Fault::TypesDontMeet) {
+                        true => written,
+                        false => path.substitution.walk(written),
+                    };
+                    node == Value::Variable(variable)
                 }
                 _ => false,
             })
@@ -495,6 +531,12 @@ impl Search<'_> {
         }
         let mut lines: Vec<Vec<u32>> = Vec::new();
         for &constraint in &path.constraints {
+            let differ = matches!(self.program[constraint.goal], Goal::Differ(..));
+            if self.has(Fault::AbsentDisequalityKept) && differ {
+                for variable in 0..path.substitution.0.len() {
+                    names.give(path.substitution.walk(Value::Variable(variable)));
+                }
+            }
             for line in self.lines(constraint, path, &names)? {
                 if !lines.contains(&line) {
                     lines.push(line);
@@ -527,10 +569,12 @@ impl Search<'_> {
                     _ => NUMBERO,
                 };
                 let node = path.substitution.walk(self.value(term, base));
-                Ok(match (node, names.words(&[node])) {
-                    (Value::Variable(_), Some(variable)) => vec![part(kind, &[variable])],
-                    _ => vec![],
-                })
+                let variable = match node {
+                    Value::Variable(_) => names.words(&[node]),
+                    _ => None,
+                };
+                let line = variable.map(|variable| part(kind, &[variable]));
+                Ok(line.into_iter().collect())
             }
             Goal::Absento(tag, term) => {
                 let nodes = self.all_nodes(self.value(term, base), &path.substitution)?;

@@ -93,17 +93,6 @@ pub fn program(rng: &mut Rng) -> Vec<u32> {
     Maker::new(rng, count, 0).program()
 }
 
-/// A small well-formed program in which no relation has fresh variables.
-pub fn without_fresh(rng: &mut Rng) -> Vec<u32> {
-    let count = rng.between(1, 3);
-    let mut maker = Maker::new(rng, count, 0);
-    for (parameters, variables) in &mut maker.signatures {
-        *parameters = (*parameters).clamp(1, 3);
-        *variables = *parameters;
-    }
-    maker.program()
-}
-
 /// A query alone, of constraints and a few equalities that set them off.
 pub fn constrained(rng: &mut Rng) -> Vec<u32> {
     let mut maker = Maker::new(rng, 1, 0);

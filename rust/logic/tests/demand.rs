@@ -86,6 +86,27 @@ fn reference(fault: Option<Fault>, case: &Case, rounds: u32) -> Run {
     }
 }
 
+fn library(case: &Case, rounds: u32) -> Run {
+    let (mut output, mut scratch) = (vec![0; case.output], vec![0; SCRATCH_WORDS]);
+    let report = kindcanvas::run(&case.words, rounds, case.steps, &mut output, &mut scratch);
+    let report = report.unwrap_or_else(|refusal| panic!("{refusal}: {}", show(&case.words)));
+    output.truncate(report.words);
+    Run {
+        end: match report.end {
+            kindcanvas::End::Finished => End::Finished,
+            kindcanvas::End::Rounds => End::Rounds,
+            _ => End::BrokenOff,
+        },
+        round: report.round,
+        words: output,
+    }
+}
+
+#[test]
+fn the_static_library() {
+    expect_right("the static library", library);
+}
+
 #[test]
 fn the_reference() {
     expect_right("the reference", |case, rounds| {

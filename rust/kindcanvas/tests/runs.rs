@@ -1,6 +1,6 @@
 //! The static library's runs against the reference: the whole result, and every word that is lent.
 
-use kindcanvas::{End, Refusal, Report};
+use kindcanvas::{Bound, Ending, Refusal, Report};
 use reference::cases::{case, Case};
 use reference::gen::{self, Rng};
 use reference::table;
@@ -46,11 +46,11 @@ impl Lent {
 fn report(outcome: &Outcome) -> Report {
     Report {
         end: match outcome.end {
-            reference::End::Finished => End::Finished,
-            reference::End::Rounds => End::Rounds,
-            reference::End::Steps => End::Steps,
-            reference::End::Output => End::Output,
-            reference::End::Path(bound) => End::Path(bound),
+            reference::End::Finished => Ending::Finished,
+            reference::End::Rounds => Ending::Rounds,
+            reference::End::Steps => Ending::Steps,
+            reference::End::Output => Ending::Output,
+            reference::End::Path(bound) => Ending::Path(Bound::ALL[bound as usize - 1]),
         },
         round: outcome.round,
         steps: outcome.steps,
@@ -119,7 +119,7 @@ fn random_programs() {
     }
     println!("{ends:?}");
     let runs = ["Finished", "Rounds", "Steps", "Output"].map(String::from);
-    let paths = (1..=5).map(|bound| format!("Path({bound})"));
+    let paths = Bound::ALL.map(|bound| format!("{:?}", Ending::Path(bound)));
     for end in runs.into_iter().chain(paths) {
         let count = ends.get(&end).copied().unwrap_or(0);
         assert!(count >= 200, "{end} came only {count} times");

@@ -1,20 +1,52 @@
 //! Programs as text: words `k:p`, kind and payload decimal, separated by blanks and line ends; `#` starts a comment
 //! to the end of its line.
+//!
+//! A comment `# symbol N = NAME` names symbol N for those who read the answers. It changes no word. A name is a letter,
+//! then letters, digits and `-`, `*`, `:`; no symbol has two, and no two symbols have the same.
 
+#![warn(missing_docs)]
+
+use std::collections::BTreeMap;
 use std::error::Error;
 use std::fmt;
 use std::fs;
 use std::io::{self, Read};
 
-/// What is wrong with a text, and where: line and column from 1, columns counted in characters.
+/// What a text says.
+#[derive(Clone, Debug, Default, PartialEq, Eq)]
+pub struct Source {
+    /// Its words.
+    pub words: Vec<u32>,
+    /// Where each word stands.
+    pub places: Vec<Place>,
+    /// The names that it gives symbols.
+    pub names: Names,
+}
+
+/// A place in a text; columns are counted in characters.
+#[derive(Clone, Copy, Debug, PartialEq, Eq)]
+pub struct Place {
+    /// From 1.
+    pub line: usize,
+    /// From 1.
+    pub column: usize,
+}
+
+/// Names of symbols.
+#[derive(Clone, Debug, Default, PartialEq, Eq)]
+pub struct Names(BTreeMap<u32, String>);
+
+/// What is wrong with a text, and where.
 #[derive(Clone, Debug, PartialEq, Eq)]
 pub struct TextError {
-    pub line: usize,
-    pub column: usize,
+    /// Where the word, or the comment that names a symbol, begins.
+    pub place: Place,
+    /// What is wrong.
     pub fault: Fault,
 }
 
-#[derive(Clone, Debug, PartialEq, Eq)]
+/// What can be wrong with a text.
+#[derive(Clone, Copy, Debug, PartialEq, Eq)]
 pub enum Fault {
     /// Not two decimal numbers with a colon between.
     Form,
@@ -22,6 +54,16 @@ pub enum Fault {
     Kind,
     /// A payload of 2^28 or more.
     Payload,
+    /// A symbol's name is none.
+    Name,
+    /// The symbol has a name already, or another symbol has this one.
+    NamedBefore,
+}
+
+impl fmt::Display for Place {
+    fn fmt(&self, f: &mut fmt::Formatter) -> fmt::Result {
+        write!(f, "line {}, column {}", self.line, self.column)
+    }
 }
 
 impl fmt::Display for TextError {
@@ -30,12 +72,43 @@ impl fmt::Display for TextError {
             Fault::Form => "a word must be kind:payload, both decimal",
             Fault::Kind => "the kind is over 15",
             Fault::Payload => "the payload is over 268435455",
+            Fault::Name => {
+                "a symbol's name must be a letter, then letters, digits and '-', '*', ':'"
+            }
+            Fault::NamedBefore => "the symbol has a name already, or another symbol has this one",
         };
-        write!(f, "line {}, column {}: {fault}", self.line, self.column)
+        write!(f, "{}: {fault}", self.place)
     }
 }
 
 impl Error for TextError {}
+
+impl Names {
+    /// No names.
+    pub const fn new() -> Names {
+        Names(BTreeMap::new())
+    }
+
+    /// The symbol's name, if it has one.
+    pub fn get(&self, symbol: u32) -> Option<&str> {
+        self.0.get(&symbol).map(String::as_str)
+    }
+
+    fn add(&mut self, symbol: u32, name: &str) -> Result<(), Fault> {
+        let is_name = name.starts_with(char::is_alphabetic)
+            && name
+                .chars()
+                .all(|char| char.is_alphanumeric() || "-*:".contains(char));
+        if !is_name {
+            return Err(Fault::Name);
+        }
+        if self.0.contains_key(&symbol) || self.0.values().any(|other| other == name) {
+            return Err(Fault::NamedBefore);
+        }
+        self.0.insert(symbol, name.to_string());
+        Ok(())
+    }
+}
 
 /// The words of a file; `-` is standard input. What is wrong is said with the file's name.
 pub fn read(file: &str) -> Result<Vec<u32>, String> {
@@ -43,7 +116,8 @@ pub fn read(file: &str) -> Result<Vec<u32>, String> {
     parse(&text).map_err(|error| format!("{file}: {error}"))
 }
 
-fn contents(file: &str) -> io::Result<String> {
+/// The text of a file; `-` is standard input.
+pub fn contents(file: &str) -> io::Result<String> {
     if file == "-" {
         let mut text = String::new();
         io::stdin().read_to_string(&mut text)?;
@@ -55,23 +129,50 @@ fn contents(file: &str) -> io::Result<String> {
 
 /// The words of a text.
 pub fn parse(text: &str) -> Result<Vec<u32>, TextError> {
-    let mut words = Vec::new();
-    for (at, line) in text.lines().enumerate() {
-        let line = line.split('#').next().unwrap_or("");
-        let mut column = 1;
-        for token in line.split([' ', '\t', '\r']) {
+    Source::parse(text).map(|source| source.words)
+}
+
+impl Source {
+    /// Reads a text.
+    pub fn parse(text: &str) -> Result<Source, TextError> {
+        let mut source = Source::default();
+        for (at, line) in text.lines().enumerate() {
+            source.add_line(at + 1, line)?;
+        }
+        Ok(source)
+    }
+
+    fn add_line(&mut self, number: usize, line: &str) -> Result<(), TextError> {
+        let (words, comment) = line.split_once('#').unwrap_or((line, ""));
+        let mut place = Place {
+            line: number,
+            column: 1,
+        };
+        for token in words.split([' ', '\t', '\r']) {
             if !token.is_empty() {
-                let word = parse_word(token).map_err(|fault| TextError {
-                    line: at + 1,
-                    column,
-                    fault,
-                })?;
-                words.push(word);
+                let word = parse_word(token).map_err(|fault| TextError { place, fault })?;
+                self.words.push(word);
+                self.places.push(place);
             }
-            column += token.chars().count() + 1;
+            place.column += token.chars().count() + 1;
+        }
+        // The last token ends where the comment begins.
+        place.column -= 1;
+        self.add_name(comment)
+            .map_err(|fault| TextError { place, fault })
+    }
+
+    /// Takes the name that a comment gives a symbol. Any other comment is left to its readers.
+    fn add_name(&mut self, comment: &str) -> Result<(), Fault> {
+        let naming = comment.trim().strip_prefix("symbol ");
+        match naming.and_then(|naming| naming.split_once('=')) {
+            Some((symbol, name)) if is_decimal(symbol.trim()) => {
+                let symbol = parse_payload(symbol.trim())?;
+                self.names.add(symbol, name.trim())
+            }
+            _ => Ok(()),
         }
     }
-    Ok(words)
 }
 
 /// The text of the words, on one line.
@@ -85,23 +186,24 @@ pub fn show(words: &[u32]) -> String {
 
 fn parse_word(token: &str) -> Result<u32, Fault> {
     let (kind, payload) = token.split_once(':').ok_or(Fault::Form)?;
-    let is_decimal =
-        |text: &str| !text.is_empty() && text.bytes().all(|byte| byte.is_ascii_digit());
     if !is_decimal(kind) || !is_decimal(payload) {
         return Err(Fault::Form);
     }
-    // Digits alone: what fails to parse is too large.
-    let kind = kind
-        .parse()
-        .ok()
-        .filter(|&kind: &u32| kind < 16)
-        .ok_or(Fault::Kind)?;
-    let payload = payload
-        .parse()
-        .ok()
-        .filter(|&payload: &u32| payload < 1 << 28)
-        .ok_or(Fault::Payload)?;
-    Ok(kind << 28 | payload)
+    let kind = parse_below(kind, 16).ok_or(Fault::Kind)?;
+    Ok(kind << 28 | parse_payload(payload)?)
+}
+
+fn parse_payload(digits: &str) -> Result<u32, Fault> {
+    parse_below(digits, 1 << 28).ok_or(Fault::Payload)
+}
+
+fn is_decimal(text: &str) -> bool {
+    !text.is_empty() && text.bytes().all(|byte| byte.is_ascii_digit())
+}
+
+/// Digits alone: what fails to parse is too large.
+fn parse_below(digits: &str, bound: u32) -> Option<u32> {
+    digits.parse().ok().filter(|&number| number < bound)
 }
 
 #[cfg(test)]
@@ -144,14 +246,32 @@ mod tests {
             ("# 1:x\n1:268435456", 2, 1, Fault::Payload),
             ("1:99999999999999", 1, 1, Fault::Payload),
             ("1:1 \u{e9} 2:2", 1, 5, Fault::Form),
+            ("# symbol 1 = ", 1, 1, Fault::Name),
+            ("1:1 # symbol 1 = A 24", 1, 5, Fault::Name),
+            ("# symbol 1 = 7", 1, 1, Fault::Name),
+            ("# symbol 1 = A(2)", 1, 1, Fault::Name),
+            ("# symbol 268435456 = A", 1, 1, Fault::Payload),
+            ("# symbol 1 = A\n # symbol 1 = B", 2, 2, Fault::NamedBefore),
+            ("# symbol 1 = A\n# symbol 2 = A", 2, 1, Fault::NamedBefore),
         ];
         for (text, line, column, fault) in cases {
-            let expected = TextError {
-                line,
-                column,
-                fault,
-            };
-            assert_eq!(parse(text), Err(expected), "{text:?}");
+            let place = Place { line, column };
+            assert_eq!(parse(text), Err(TextError { place, fault }), "{text:?}");
         }
+    }
+
+    #[test]
+    fn words_are_placed() {
+        let source = Source::parse("# none\n13:5  2:1\n\n\t5:2#").unwrap();
+        let places = [(2, 1), (2, 7), (4, 2)].map(|(line, column)| Place { line, column });
+        assert_eq!(source.places, places);
+    }
+
+    #[test]
+    fn names() {
+        let text = "#symbol 1=O\n1:2 # symbol 002 = A*02:01 \r\n# symbol A = B\n# symbols 3 = C\n# symbol 4";
+        let source = Source::parse(text).unwrap();
+        let names = (0..5).map(|symbol| source.names.get(symbol));
+        assert!(names.eq([None, Some("O"), Some("A*02:01"), None, None]));
     }
 }

@@ -1,0 +1,229 @@
+//! The engine on lent words.
+
+use crate::refusal::Refusal;
+use std::fmt;
+
+extern "C" {
+    /// Reads `len` words from `program` on and keeps nothing. 0: accepted, else number * 2^32 + place.
+    fn kindcanvas_check(program: *const u32, len: usize) -> u64;
+
+    /// Reads the program, writes output, scratch and the first seven of the numbers, and keeps nothing. 1, with nothing read or
+    /// written, if there are fewer numbers; else 0.
+    fn kindcanvas_run(
+        program: *const u32,
+        program_len: usize,
+        rounds: u32,
+        steps: u32,
+        output: *mut u32,
+        output_len: usize,
+        scratch: *mut u32,
+        scratch_len: usize,
+        numbers: *mut u32,
+        numbers_len: usize,
+    ) -> u32;
+}
+
+/// The words of scratch that a run needs.
+pub const SCRATCH_WORDS: usize = 16_384;
+/// The words of output that a run can use.
+pub const USABLE_WORDS: usize = (1 << 28) - 1;
+
+/// How a run ended.
+#[derive(Clone, Copy, Debug, PartialEq, Eq, Hash)]
+pub enum Ending {
+    /// A round was completed without a cut: there is nothing more to find.
+    Finished,
+    /// The last round allowed was completed, and it cut some branch.
+    Rounds,
+    /// The next step would have exceeded the step limit.
+    Steps,
+    /// An answer did not fit into what was left of the output.
+    Output,
+    /// The next step would have exceeded a bound on one path. No limit moves these bounds.
+    Path(Bound),
+}
+
+/// A bound on what one path may have.
+#[derive(Clone, Copy, Debug, PartialEq, Eq, Hash)]
+pub enum Bound {
+    /// 2,048 variables.
+    Variables = 1,
+    /// 1,024 goals put to wait, taken ones too.
+    Goals = 2,
+    /// 256 disjunctions with alternatives left.
+    Disjunctions = 3,
+    /// 512 constraints.
+    Constraints = 4,
+    /// 512 waiting term pairs, or as many waiting nodes.
+    Waiting = 5,
+}
+
+/// How a run ended, with its counts.
+#[derive(Clone, Copy, Debug, PartialEq, Eq)]
+pub struct Report {
+    /// How it ended.
+    pub end: Ending,
+    /// The last round completed if it ended as finished or with its rounds used up, else the one broken off.
+    pub round: u32,
+    /// The steps taken in all rounds.
+    pub steps: u32,
+    /// The answers written.
+    pub answers: u32,
+    /// The output words used.
+    pub words: usize,
+}
+
+impl Bound {
+    /// All five, in the order of their numbers.
+    pub const ALL: [Bound; 5] = [
+        Bound::Variables,
+        Bound::Goals,
+        Bound::Disjunctions,
+        Bound::Constraints,
+        Bound::Waiting,
+    ];
+
+    /// Its number, 1 to 5.
+    pub fn number(self) -> u32 {
+        self as u32
+    }
+
+    /// How many a path may have.
+    pub fn most(self) -> u32 {
+        match self {
+            Bound::Variables => 2_048,
+            Bound::Goals => 1_024,
+            Bound::Disjunctions => 256,
+            Bound::Constraints | Bound::Waiting => 512,
+        }
+    }
+}
+
+/// What is counted, in words.
+impl fmt::Display for Bound {
+    fn fmt(&self, f: &mut fmt::Formatter) -> fmt::Result {
+        f.write_str(match self {
+            Bound::Variables => "variables",
+            Bound::Goals => "goals put to wait",
+            Bound::Disjunctions => "disjunctions with alternatives left",
+            Bound::Constraints => "constraints",
+            Bound::Waiting => "second parts of pairs waiting",
+        })
+    }
+}
+
+impl Report {
+    /// The last round completed: the answers show all that the relations give with so many calls or fewer. None if the
+    /// run broke off in round 0.
+    pub fn completed(&self) -> Option<u32> {
+        match self.end {
+            Ending::Finished | Ending::Rounds => Some(self.round),
+            Ending::Steps | Ending::Output | Ending::Path(_) => self.round.checked_sub(1),
+        }
+    }
+}
+
+/// Checks that the words are a program.
+pub fn check(words: &[u32]) -> Result<(), Refusal> {
+    // SAFETY: the pointer and the length are those of a slice, which is only read and only during the call.
+    let result = unsafe { kindcanvas_check(words.as_ptr(), words.len()) };
+    match result {
+        0 => Ok(()),
+        _ => Err(Refusal {
+            number: (result >> 32) as u32,
+            place: result as u32 as usize,
+        }),
+    }
+}
+
+/// Runs the program through its rounds. Answers go to `output`, one after the other, with zeros behind them; `scratch` is all 0
+/// afterwards. A refusal leaves both as lent.
+///
+/// ```
+/// let program = kindcanvas::text::parse("13:5 2:1 2:1 5:2 0:0 1:7")?;
+/// let mut output = [9; 4];
+/// let mut scratch = vec![9; kindcanvas::SCRATCH_WORDS];
+/// let report = kindcanvas::run(&program, 16, 1_000_000, &mut output, &mut scratch).unwrap();
+/// assert_eq!((report.steps, report.answers, report.words), (4, 1, 2));
+/// assert_eq!(kindcanvas::text::show(&output), "15:1 1:7 0:0 0:0");
+/// # Ok::<(), kindcanvas::text::TextError>(())
+/// ```
+pub fn run(
+    program: &[u32],
+    rounds: u32,
+    steps: u32,
+    output: &mut [u32],
+    scratch: &mut [u32],
+) -> Result<Report, Refusal> {
+    let mut numbers = [0; 7];
+    // SAFETY: pointers and lengths are those of slices, used only during the call; none that is written overlaps another.
+    let result = unsafe {
+        kindcanvas_run(
+            program.as_ptr(),
+            program.len(),
+            rounds,
+            steps,
+            output.as_mut_ptr(),
+            output.len(),
+            scratch.as_mut_ptr(),
+            scratch.len(),
+            numbers.as_mut_ptr(),
+            numbers.len(),
+        )
+    };
+    assert_eq!(result, 0, "seven numbers are enough");
+    let [end, which, place, round, steps, answers, words] = numbers;
+    let end = match end {
+        0 => Ending::Finished,
+        1 => Ending::Rounds,
+        2 => Ending::Steps,
+        3 => Ending::Output,
+        4 => Ending::Path(Bound::ALL[which as usize - 1]),
+        _ => {
+            return Err(Refusal {
+                number: which,
+                place: place as usize,
+            })
+        }
+    };
+    Ok(Report {
+        end,
+        round,
+        steps,
+        answers,
+        words: words as usize,
+    })
+}
+
+#[cfg(test)]
+mod tests {
+    use super::*;
+
+    #[test]
+    fn too_few_numbers() {
+        let program = text::parse("13:5 2:1 2:1 5:2 0:0 1:7").unwrap();
+        let (mut output, mut scratch, mut numbers) = ([7; 10], vec![8; SCRATCH_WORDS], [9; 6]);
+        let result = unsafe {
+            kindcanvas_run(
+                program.as_ptr(),
+                program.len(),
+                16,
+                1_000_000,
+                output.as_mut_ptr(),
+                output.len(),
+                scratch.as_mut_ptr(),
+                scratch.len(),
+                numbers.as_mut_ptr(),
+                numbers.len(),
+            )
+        };
+        assert_eq!(result, 1);
+        assert_eq!((output, numbers), ([7; 10], [9; 6]));
+        assert!(scratch.iter().all(|&word| word == 8));
+    }
+
+    #[test]
+    fn bounds_are_numbered_in_order() {
+        assert_eq!(Bound::ALL.map(Bound::number), [1, 2, 3, 4, 5]);
+    }
+}

@@ -1,0 +1,181 @@
+//! Programs, and what a run of one gives.
+
+use crate::answer::Answers;
+use crate::engine::{self, Report, SCRATCH_WORDS, USABLE_WORDS};
+use crate::refusal::Refusal;
+use std::error::Error;
+use std::fmt;
+use std::str::FromStr;
+use text::{Names, Place, Source, TextError};
+
+/// A program: words that the engine accepts, and the names of its symbols, if it has any.
+#[derive(Clone, Debug, PartialEq, Eq)]
+pub struct Program {
+    words: Vec<u32>,
+    names: Names,
+}
+
+/// How far a run may go. The defaults are those of the listing program.
+#[derive(Clone, Copy, Debug, PartialEq, Eq)]
+pub struct Limits {
+    /// The last round that is run; round k looks for answers that take k calls. Default 16.
+    pub rounds: u8,
+    /// The steps of all rounds together. Default 1,000,000.
+    pub steps: u32,
+    /// The words that the answers may take. Default 4,096; [`USABLE_WORDS`] are as good as more.
+    pub output_words: usize,
+}
+
+impl Default for Limits {
+    fn default() -> Limits {
+        Limits {
+            rounds: 16,
+            steps: 1_000_000,
+            output_words: 4_096,
+        }
+    }
+}
+
+impl Program {
+    /// The program in these words, if it is one.
+    ///
+    /// ```
+    /// use kindcanvas::Program;
+    ///
+    /// // 13:5 2:1 2:1 5:2 0:0 1:7, the kind in the top four bits
+    /// let words = vec![0xd000_0005, 0x2000_0001, 0x2000_0001, 0x5000_0002, 0x0000_0000, 0x1000_0007];
+    /// assert!(Program::new(words).is_ok());
+    ///
+    /// let refusal = Program::new(vec![0x5000_0000]).unwrap_err();
+    /// assert_eq!((refusal.number, refusal.place), (2, 0));
+    /// ```
+    pub fn new(words: Vec<u32>) -> Result<Program, Refusal> {
+        Program::with_names(words, Names::new())
+    }
+
+    fn with_names(words: Vec<u32>, names: Names) -> Result<Program, Refusal> {
+        engine::check(&words)?;
+        Ok(Program { words, names })
+    }
+
+    /// Its words.
+    pub fn words(&self) -> &[u32] {
+        &self.words
+    }
+
+    /// The names that its text gives symbols.
+    pub fn names(&self) -> &Names {
+        &self.names
+    }
+
+    /// Runs it through its rounds.
+    pub fn run(&self, limits: Limits) -> Outcome {
+        let mut words = vec![0; limits.output_words.min(USABLE_WORDS)];
+        let mut scratch = vec![0; SCRATCH_WORDS];
+        let rounds = u32::from(limits.rounds);
+        let report = engine::run(&self.words, rounds, limits.steps, &mut words, &mut scratch)
+            .expect("the program is accepted and the settings are in bounds");
+        words.truncate(report.words);
+        words.shrink_to_fit();
+        Outcome { report, words }
+    }
+}
+
+/// From `k:p` text, as [`text`] reads it.
+///
+/// ```
+/// use kindcanvas::{ParseError, Program, Refusal};
+///
+/// let program: Program = "13:5 2:1 2:1 5:2 0:0 1:7   # symbol 7 = B7".parse().unwrap();
+/// assert_eq!(program.words().len(), 6);
+/// assert_eq!(program.names().get(7), Some("B7"));
+///
+/// let error = "13:5 2:1 2:1\n  5:2 0:1 3:0".parse::<Program>().unwrap_err();
+/// assert!(matches!(error, ParseError::Refused { refusal: Refusal { number: 5, place: 4 }, .. }));
+/// assert_eq!(
+///     error.to_string(),
+///     "refused 5 at 4: word 4 names a variable that its relation doesn't have (line 2, column 7)"
+/// );
+/// ```
+impl FromStr for Program {
+    type Err = ParseError;
+
+    fn from_str(text: &str) -> Result<Program, ParseError> {
+        let Source {
+            words,
+            places,
+            names,
+        } = Source::parse(text).map_err(ParseError::Text)?;
+        Program::with_names(words, names).map_err(|refusal| ParseError::Refused {
+            refusal,
+            place: places.get(refusal.place).copied(),
+        })
+    }
+}
+
+/// Why a text is no program.
+#[derive(Clone, Debug, PartialEq, Eq)]
+pub enum ParseError {
+    /// It is no `k:p` text.
+    Text(TextError),
+    /// Its words are no program.
+    Refused {
+        /// What is wrong with the words.
+        refusal: Refusal,
+        /// Where in the text the refusal's word stands; none if that is the end.
+        place: Option<Place>,
+    },
+}
+
+impl fmt::Display for ParseError {
+    fn fmt(&self, f: &mut fmt::Formatter) -> fmt::Result {
+        let (refusal, place) = match self {
+            ParseError::Text(error) => return error.fmt(f),
+            ParseError::Refused { refusal, place } => (refusal, place),
+        };
+        write!(
+            f,
+            "refused {} at {}: {refusal}",
+            refusal.number, refusal.place
+        )?;
+        match (refusal.number, place) {
+            // About the file as a whole.
+            (1, _) => Ok(()),
+            (_, Some(place)) => write!(f, " ({place})"),
+            (_, None) => write!(f, " (the end of the file)"),
+        }
+    }
+}
+
+impl Error for ParseError {
+    fn source(&self) -> Option<&(dyn Error + 'static)> {
+        match self {
+            ParseError::Text(error) => Some(error),
+            ParseError::Refused { refusal, .. } => Some(refusal),
+        }
+    }
+}
+
+/// What a run gave.
+#[derive(Clone, Debug, PartialEq, Eq)]
+pub struct Outcome {
+    report: Report,
+    words: Vec<u32>,
+}
+
+impl Outcome {
+    /// How it ended, with its counts.
+    pub fn report(&self) -> Report {
+        self.report
+    }
+
+    /// The words of all answers, one answer after the other.
+    pub fn words(&self) -> &[u32] {
+        &self.words
+    }
+
+    /// The answers, in the order in which they were found.
+    pub fn answers(&self) -> Answers<'_> {
+        Answers::new(&self.words, self.report.answers as usize)
+    }
+}

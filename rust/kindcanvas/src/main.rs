@@ -1,36 +1,125 @@
-//! `kindcanvas check FILE`: is the program in FILE, in k:p text, well-formed? `-` reads standard input.
+//! The command `kindcanvas`: `run` lists what the rules in a file give, `check` says whether a file is a program.
 
+mod list;
+
+use kindcanvas::{text, Ending, Limits, ParseError, Program, USABLE_WORDS};
 use std::env;
+use std::fmt::Display;
+use std::io::{self, BufWriter, Write};
 use std::process::ExitCode;
+use std::str::FromStr;
+
+const USAGE: &str = "\
+usage: kindcanvas run FILE [--rounds N] [--steps N] [--output-words N]
+       kindcanvas check FILE
+
+run    runs the rules in FILE and prints the list of what they give
+check  says whether FILE is a program
+
+FILE is k:p text; - is standard input. A comment '# symbol 7 = B7' in it names symbol 7.
+--rounds N        the most calls that an answer may take: 0 to 255, else 16
+--steps N         the most steps in all: 0 to 4294967295, else 1000000
+--output-words N  room for the answers: 0 to 268435455 words, else 4096
+
+In the list 'B7 or '7 is a symbol, 7 a number, _0 an open variable, () the empty list,
+(a b) a list and (a b . c) one that ends in c.
+
+status 0  the list is complete; for check, the file is a program
+       1  the file is refused: it is no program
+       2  the file cannot be read, the list not written, or the command not understood
+       3  the list may be incomplete";
+
+const REFUSED: u8 = 1;
+const FAILED: u8 = 2;
+const INCOMPLETE: u8 = 3;
+
+/// Why there is no list: the status, and a sentence.
+struct Failure(u8, String);
 
 fn main() -> ExitCode {
     let arguments: Vec<String> = env::args().skip(1).collect();
-    match &arguments[..] {
-        [command, file] if command == "check" => check(file),
-        _ => {
-            eprintln!("usage: kindcanvas check FILE    (- for standard input)");
-            ExitCode::from(2)
+    let arguments: Vec<&str> = arguments.iter().map(String::as_str).collect();
+    let result = match &arguments[..] {
+        ["run", arguments @ ..] => run(arguments),
+        ["check", file] => check(file),
+        ["--help"] => {
+            println!("{USAGE}");
+            Ok(0)
         }
+        _ => Err(Failure(FAILED, USAGE.to_string())),
+    };
+    ExitCode::from(result.unwrap_or_else(|Failure(status, sentence)| {
+        eprintln!("{sentence}");
+        status
+    }))
+}
+
+fn check(file: &str) -> Result<u8, Failure> {
+    load(file)?;
+    println!("accepted");
+    Ok(0)
+}
+
+fn run(arguments: &[&str]) -> Result<u8, Failure> {
+    let failed = |sentence| Failure(FAILED, sentence);
+    let (file, limits) =
+        parse_run(arguments).map_err(|error| failed(format!("{error}; see kindcanvas --help")))?;
+    let program = load(file)?;
+    let outcome = program.run(limits);
+    let mut out = BufWriter::new(io::stdout().lock());
+    list::print(&mut out, &program, limits, &outcome)
+        .and_then(|()| out.flush())
+        .map_err(|error| failed(format!("can't write the list: {error}")))?;
+    Ok(match outcome.report().end {
+        Ending::Finished => 0,
+        _ => INCOMPLETE,
+    })
+}
+
+/// The file and the limits in the arguments of `run`.
+fn parse_run<'a>(arguments: &[&'a str]) -> Result<(&'a str, Limits), String> {
+    let mut file = None;
+    let mut limits = Limits::default();
+    let mut arguments = arguments.iter().copied();
+    while let Some(argument) = arguments.next() {
+        match argument {
+            "--rounds" => limits.rounds = number(argument, arguments.next(), u8::MAX)?,
+            "--steps" => limits.steps = number(argument, arguments.next(), u32::MAX)?,
+            "--output-words" => {
+                limits.output_words = number(argument, arguments.next(), USABLE_WORDS)?
+            }
+            _ if argument.starts_with("--") => {
+                return Err(format!("there is no option {argument}"))
+            }
+            _ if file.is_some() => return Err("run takes one file".to_string()),
+            _ => file = Some(argument),
+        }
+    }
+    match file {
+        Some(file) => Ok((file, limits)),
+        None => Err("run takes a file".to_string()),
     }
 }
 
-/// Status 0: accepted, 1: refused, 2: no such file, or no k:p text.
-fn check(file: &str) -> ExitCode {
-    let words = match text::read(file) {
-        Ok(words) => words,
-        Err(error) => {
-            eprintln!("{error}");
-            return ExitCode::from(2);
-        }
-    };
-    match kindcanvas::check(&words) {
-        Ok(()) => {
-            println!("accepted");
-            ExitCode::SUCCESS
-        }
-        Err(refusal) => {
-            println!("refused {} at {}: {refusal}", refusal.number, refusal.place);
-            ExitCode::from(1)
-        }
-    }
+fn number<T: FromStr + PartialOrd + Display>(
+    option: &str,
+    value: Option<&str>,
+    most: T,
+) -> Result<T, String> {
+    let number = value.and_then(|value| value.parse().ok());
+    number
+        .filter(|number| *number <= most)
+        .ok_or_else(|| format!("{option} takes a number from 0 to {most}"))
+}
+
+fn load(file: &str) -> Result<Program, Failure> {
+    let contents =
+        text::contents(file).map_err(|error| Failure(FAILED, format!("{file}: {error}")))?;
+    contents.parse().map_err(|error: ParseError| {
+        let status = match error {
+            ParseError::Text(_) => FAILED,
+            ParseError::Refused { .. } => REFUSED,
+        };
+        Failure(status, format!("{file}: {error}"))
+    })
 }

@@ -23,12 +23,167 @@ fn kindcanvas(arguments: &[&str], text: &str) -> (Option<i32>, String, String) {
     )
 }
 
+/// The path of a file in examples/.
+fn example(file: &str) -> String {
+    let folder = Path::new(env!("CARGO_MANIFEST_DIR")).join("../../examples");
+    folder.join(file).to_str().unwrap().to_string()
+}
+
+const COMPLETE: &str =
+    "The list is complete: it shows all that the rules give, and nothing else.\n";
+const A: &str = "13:5 2:1 2:1 # run A\n5:2 0:0 1:7\n";
+const C: &str = "13:5 2:1 2:1 12:2 2:1 0:0 13:9 2:1 2:1 11:6 12:2 2:1 0:0 5:2 0:0 2:5";
+
+#[test]
+fn lists_of_examples() {
+    for (file, expected) in [
+        ("abo.kp", "1. 'O\n2. 'A\n\n2 answers in 1218 steps.\n"),
+        ("unacceptable.kp", "1. 2\n2. 4\n\n2 answers in 141 steps.\n"),
+        (
+            "open-typing.kp",
+            "1. ('A24 _0)
+     where 'A2 stands nowhere in _0
+     where _0 is not 'B7
+     where _0 is a symbol
+
+_0, _1 and so on stand for any value that meets the conditions of their answer.
+1 answer in 51 steps.
+",
+        ),
+    ] {
+        let (status, output, error) = kindcanvas(&["run", &example(file)], "");
+        let expected = format!("{expected}{COMPLETE}");
+        assert_eq!((status, output), (Some(0), expected), "{file}");
+        assert_eq!(error, "", "{file}");
+    }
+}
+
+#[test]
+fn complete_lists() {
+    for (text, expected) in [
+        (A, format!("1. '7\n\n1 answer in 4 steps.\n{COMPLETE}")),
+        (
+            "# Run B: a variable that would be in its own value.\n13:7 2:1 2:1 5:4 0:0 4:1 0:0 3:0",
+            "0 answers in 4 steps.\nThe list is complete: the rules give nothing.\n".to_string(),
+        ),
+        (
+            "# Run G\n13:9 2:2 2:2 6:6 4:1 0:0 0:1 4:1 2:1 2:2",
+            format!(
+                "1. _0, _1\n     where not both _0 = 1 and _1 = 2\n\n_0, _1 and so on stand for any value that meets \
+                 the conditions of their answer.\n1 answer in 16 steps.\n{COMPLETE}"
+            ),
+        ),
+        (
+            "# No parameters\n13:5 2:0 2:0 5:2 3:0 3:0",
+            format!("1. the query holds\n\n1 answer in 2 steps.\n{COMPLETE}"),
+        ),
+    ] {
+        let (status, output, _) = kindcanvas(&["run", "-"], text);
+        assert_eq!((status, output), (Some(0), expected), "{text}");
+    }
+}
+
+#[test]
+fn incomplete_lists() {
+    for (options, text, expected) in [
+        (
+            vec!["--rounds", "2"],
+            C,
+            "1. 5
+2. 5
+
+2 answers in 20 steps.
+The list may be incomplete: some branches take more than 2 calls, the round limit.
+Every answer is right, and all that the rules give with at most 2 calls is shown; what takes more may be missing.
+To search further, raise --rounds: it is 2, and may be 255.
+",
+        ),
+        (
+            vec!["--rounds", "255", "--output-words", "0"],
+            C,
+            "0 answers in 8 steps.
+The list may be incomplete: in round 1 an answer did not fit into what was left of 0 words.
+The rules give nothing with at most 0 calls; what takes more may be missing.
+To search further, raise --output-words: it is 0, and may be 268435455.
+",
+        ),
+        (
+            vec!["--steps", "10"],
+            C,
+            "1. 5
+
+1 answer in 10 steps.
+The list may be incomplete: the step limit was used up in round 2.
+Every answer is right, and all that the rules give with at most 1 call is shown; what takes more may be missing.
+To search further, raise --steps: it is 10, and may be 4294967295.
+",
+        ),
+        (
+            vec!["--steps", "3"],
+            A,
+            "0 answers in 3 steps.
+The list may be incomplete: the step limit was used up in round 0.
+No round was completed, so anything may be missing.
+To search further, raise --steps: it is 3, and may be 4294967295.
+",
+        ),
+        (
+            vec!["--output-words", "2"],
+            "13:9 2:1 2:1 11:6 5:2 0:0 1:1 5:2 0:0 1:2",
+            "1. '1
+
+1 answer in 9 steps.
+The list may be incomplete: in round 0 an answer did not fit into what was left of 2 words.
+Every answer is right, but no round was completed, so anything else may be missing.
+To search further, raise --output-words: it is 2, and may be 268435455.
+",
+        ),
+        (
+            vec![],
+            "13:4 2:0 2:255 12:1 2:0",
+            "0 answers in 43 steps.
+The list may be incomplete: a path in round 8 needs more than 2048 variables.
+The rules give nothing with at most 7 calls; what takes more may be missing.
+No option raises this bound; the rules must ask less of one path.
+",
+        ),
+        (
+            vec!["--rounds", "255"],
+            "# A relation that calls itself\n13:4 2:0 2:0 12:1 2:0",
+            "0 answers in 32896 steps.
+The list may be incomplete: some branches take more than 255 calls, the round limit.
+The rules give nothing with at most 255 calls; what takes more may be missing.
+--rounds is 255 and cannot be raised.
+",
+        ),
+    ] {
+        let arguments = [vec!["run"], options, vec!["-"]].concat();
+        let (status, output, _) = kindcanvas(&arguments, text);
+        assert_eq!((status, output.as_str()), (Some(3), expected), "{text}");
+    }
+}
+
+/// Without options, the limits are the listing program's.
+#[test]
+fn default_limits() {
+    let three_ways = "13:4 2:0 2:0 12:1 2:1 13:9 2:0 2:0 11:6 12:1 2:1 12:1 2:1 12:1 2:1";
+    let list = "4:1 1:1 ".repeat(2_048) + "3:0";
+    let long = format!("13:4101 2:1 2:1 5:4098 0:0 {list}");
+    for (text, expected) in [
+        (C, "raise --rounds: it is 16,"),
+        (three_ways, "raise --steps: it is 1000000,"),
+        (&long, "raise --output-words: it is 4096,"),
+    ] {
+        let (_, output, error) = kindcanvas(&["run", "-"], text);
+        assert!(output.contains(expected), "{output}{error}");
+    }
+}
+
 #[test]
 fn accepted() {
-    let (status, output, _) = kindcanvas(&["check", "-"], "13:5 2:1 2:1 # run A\n5:2 0:0 1:7\n");
+    let (status, output, _) = kindcanvas(&["check", "-"], A);
     assert_eq!((status, output.as_str()), (Some(0), "accepted\n"));
-    let file = Path::new(env!("CARGO_MANIFEST_DIR")).join("../../examples/abo.kp");
-    let (status, output, _) = kindcanvas(&["check", file.to_str().unwrap()], "");
+    let (status, output, _) = kindcanvas(&["check", &example("abo.kp")], "");
     assert_eq!((status, output.as_str()), (Some(0), "accepted\n"));
 }
 
@@ -37,32 +192,77 @@ fn refused() {
     for (text, expected) in [
         (
             "# nothing\n",
-            "refused 1 at 0: the file must hold 1 to 16,384 words\n",
+            "-: refused 1 at 0: the file must hold 1 to 16,384 words\n",
         ),
         (
             "5:0",
-            "refused 2 at 0: word 0 has a kind that is not allowed there\n",
+            "-: refused 2 at 0: word 0 has a kind that is not allowed there (line 1, column 1)\n",
         ),
         (
-            "13:5 2:1 2:1 5:2 0:1 3:0",
-            "refused 5 at 4: word 4 names a variable that its relation doesn't have\n",
+            "13:0 # ends too early\n",
+            "-: refused 3 at 1: at word 1 a part overruns what encloses it, is missing or is left over, or an empty \
+             list has a payload (the end of the file)\n",
+        ),
+        (
+            "13:5 2:1 2:1\n  5:2 0:1 3:0",
+            "-: refused 5 at 4: word 4 names a variable that its relation doesn't have (line 2, column 7)\n",
         ),
         (
             "13:4 2:0 2:0 12:1 2:1",
-            "refused 7 at 3: the call at word 3 names a relation that isn't there\n",
+            "-: refused 7 at 3: the call at word 3 names a relation that isn't there (line 1, column 14)\n",
         ),
     ] {
-        let (status, output, _) = kindcanvas(&["check", "-"], text);
-        assert_eq!((status, output.as_str()), (Some(1), expected), "{text}");
+        for command in ["check", "run"] {
+            let (status, output, error) = kindcanvas(&[command, "-"], text);
+            assert_eq!((status, output.as_str()), (Some(1), ""), "{text}");
+            assert_eq!(error, expected, "{command}");
+        }
     }
 }
 
 #[test]
 fn no_words() {
-    let (status, output, error) = kindcanvas(&["check", "-"], "13:5 2:1\n2:x");
-    assert_eq!((status, output.as_str()), (Some(2), ""));
-    assert!(error.contains("line 2, column 1"), "{error}");
-    assert_eq!(kindcanvas(&["check", "no such file"], "").0, Some(2));
-    assert_eq!(kindcanvas(&["check"], "").0, Some(2));
-    assert_eq!(kindcanvas(&[], "").0, Some(2));
+    for command in ["check", "run"] {
+        let (status, output, error) = kindcanvas(&[command, "-"], "13:5 2:1\n2:x");
+        assert_eq!((status, output.as_str()), (Some(2), ""));
+        assert!(error.contains("line 2, column 1"), "{error}");
+        let (status, _, error) = kindcanvas(&[command, "no such file"], "");
+        assert_eq!(status, Some(2));
+        assert!(error.starts_with("no such file: "), "{error}");
+    }
+}
+
+#[test]
+fn not_understood() {
+    for (arguments, expected) in [
+        (&[][..], "usage: "),
+        (&["check"], "usage: "),
+        (&["list", "-"], "usage: "),
+        (&["run"], "run takes a file; "),
+        (&["run", "-", "-"], "run takes one file; "),
+        (&["run", "-", "--fast"], "there is no option --fast; "),
+        (
+            &["run", "-", "--rounds"],
+            "--rounds takes a number from 0 to 255; ",
+        ),
+        (
+            &["run", "--rounds", "256", "-"],
+            "--rounds takes a number from 0 to 255; ",
+        ),
+        (
+            &["run", "--steps", "-1", "-"],
+            "--steps takes a number from 0 to 4294967295; ",
+        ),
+        (
+            &["run", "--output-words", "268435456", "-"],
+            "--output-words takes a number from 0 to 268435455; ",
+        ),
+    ] {
+        let (status, output, error) = kindcanvas(arguments, A);
+        assert_eq!((status, output.as_str()), (Some(2), ""), "{arguments:?}");
+        assert!(error.starts_with(expected), "{error}");
+    }
+    let (status, output, _) = kindcanvas(&["--help"], "");
+    assert_eq!(status, Some(0));
+    assert!(output.starts_with("usage: "), "{output}");
 }

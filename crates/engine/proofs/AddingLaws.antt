@@ -125,7 +125,7 @@ equations-line : {ws s : List ℕ} {pairs mark count : ℕ} (es : List (ℕ × T
 equations-line [] l h n f = absurd (omega arith)
 equations-line (b ∷ cs) l h n f = as-differ b cs h n f
 
-module _ {ws s s₂ : List ℕ} {bs : Substitution} {u v : Term} {trail n steps rest : ℕ} (t : Tried ws s s₂ bs u v trail n steps rest) (r : Looked) (told : ThroughAs bs (reverse (t .new)) rest r) where
+module _ {ws s s₂ : List ℕ} {bs : Substitution} {u v : Term} {trail n steps rest : ℕ} (t : Tried ws s s₂ bs u v trail n steps rest) (r : Looked) (told : ThroughAs bs (rights (reverse (t .new))) rest r) where
   pub tried-line-is : Line
   tried-line-is = not-all (resolve-right bs (reverse (t .new)))
 
@@ -135,7 +135,7 @@ module _ {ws s s₂ : List ℕ} {bs : Substitution} {u v : Term} {trail n steps 
   pub tried-line : {after : ℕ} → r ≡ looked.Done after → LineAs ws s₂ rest (Differ trail (n - trail)) tried-line-is
   unfolding ThroughAs tried-line-is
   tried-line {after} e =
-      let q : (look-through bs (rights (reverse (t .new))) rest ≡ done tt after) × Each (Small bs rest) (reverse (t .new)) = rw e at told in
+      let q : (look-through bs (rights (reverse (t .new))) rest ≡ done tt after) × Each (Small bs rest) (rights (reverse (t .new))) = rw e at told in
       let h = t .looks in
       let l : length (resolve-right bs (reverse (t .new))) ≡ length (reverse (t .new)) = right-length bs (reverse (t .new)) in
       equations-line (resolve-right bs (reverse (t .new))) (omega (arith, length-reverse (t .new), t .some-new)) (equations-kept rest trail 0 (reverse (t .new)) (h .held) (h .kept) (q .1)) (h .count-is ∙ sym l) (h .few)
@@ -158,7 +158,7 @@ module _ {ws s s₂ : List ℕ} {bs : Substitution} {u v : Term} {trail n steps 
     pub tried-done : {after : ℕ} {out′ : List ℕ} {w : Written} → r ≡ looked.Done after → Page (g .before) out′ (g .begin) first end (w .at) (w .full) (g .head) (add-line (g .names) (g .lines) tried-line-is) → AddedAs ws s s₂ g out′ bs (lines-of bs (differ u v) steps) (Done w after)
     unfolding ThroughAs AddedSays add-lines tried-line-is
     tried-done {after} e p =
-        let q : (look-through bs (rights (reverse (t .new))) rest ≡ done tt after) × Each (Small bs rest) (reverse (t .new)) = rw e at told in
+        let q : (look-through bs (rights (reverse (t .new))) rest ≡ done tt after) × Each (Small bs rest) (rights (reverse (t .new))) = rw e at told in
         kept-back (done (tried-line-is ∷ []) after) (refl, p) (looked-is (done tt after) (q .0)) (p .touched)
 
 -- A term that was looked through, with the lines that its constraint comes to

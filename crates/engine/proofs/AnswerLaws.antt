@@ -2,7 +2,7 @@
 use Prim.Native.Nat.{ℕ, zero, suc, _+_, _-_, _<_, _≤_}
 use mathlib.Core.Path.{_≡_, refl, sym, ap, ap₂, subst, _∙_}
 use mathlib.Core.Bool.{Bool, true, false, true≢false}
-use mathlib.Core.List.{List, [], _∷_, _++_, append-nil}
+use mathlib.Core.List.{List, [], _∷_, _++_, append-nil, map}
 use native.Mathlib.Omega.{arith}
 use native.Mathlib.Nat.{zero-add, suc-add}
 use native.Mathlib.Decide.{decLt}
@@ -28,7 +28,8 @@ use Rattle.engine.specs.Review.{Kept}
 use Rattle.engine.specs.Names.{top-from, word-from, Distinct, Names, Named}
 use Rattle.engine.specs.Put.{Touched, Laid, Placed, all-laid, some-missing}
 use Rattle.engine.specs.Page.{joined, add-lines, Wholes, Page}
-use Rattle.engine.specs.Query.{Small, Known, query-words, ThroughAs, Query, Ends, EndedAs}
+use Rattle.engine.specs.Query.{Small, Known, query-words, Query, Ends, EndedAs}
+use Rattle.engine.specs.Look.{Small as LookSmall, ThroughAs}
 use Rattle.engine.specs.Adding.{Writing, AddedSays, AddedAs}
 use Rattle.engine.specs.Taking.{Holds, registers}
 use Rattle.engine.specs.Answering.{Answering, AnswerLeft, AnswerSays, AnsweredAs}
@@ -183,15 +184,19 @@ unfolding word-from
 nameless-again {s} h = λ i lo hi. let e : 4096 + (i - 4096) ≡ i = omega arith in subst (λ j. at s j ≡ 0) e (h .words (i - 4096) (omega arith))
 
 -- the open variables of the query terms have names
-each-parameter : (Q : Term → Type 0) (bs : Substitution) (i n x : ℕ) → Each Q (query-terms bs i n) → i ≤ x → x < i + n → Q (resolve bs (var x))
-each-parameter Q bs i zero x e l m = absurd (omega arith)
-each-parameter Q bs i (suc n) x e l m = elim (compared i x) [
-  | same q z ↦ subst (λ j. Q (resolve bs (var j))) q (e .0)
-  | other d z ↦ each-parameter Q bs (suc i) n x (e .1) (omega arith) (omega arith)
+each-parameter : (Q : Term → Type 0) (i n x : ℕ) → Each Q (parameters i n) → i ≤ x → x < i + n → Q (var x)
+each-parameter Q i zero x e l m = absurd (omega arith)
+each-parameter Q i (suc n) x e l m = elim (compared i x) [
+  | same q z ↦ subst (λ j. Q (var j)) q (e .0)
+  | other d z ↦ each-parameter Q (suc i) n x (e .1) (omega arith) (omega arith)
 ]
 
+each-resolved : (Q : Term → Type 0) (bs : Substitution) (ts : List Term) → Each Q (map (resolve bs) ts) → Each (λ t. Q (resolve bs t)) ts
+each-resolved Q bs [] e = tt
+each-resolved Q bs (t ∷ ts) e = (e .0, each-resolved Q bs ts (e .1))
+
 pub query-known : (bs : Substitution) (n : ℕ) → Known bs (names-of bs n) n
-query-known bs n = λ x l. each-parameter (λ t. vars-in (names-of bs n) t ≡ true) bs 0 n x (appear-all-has [] (query-terms bs 0 n)) (omega arith) (omega arith)
+query-known bs n = λ x l. each-parameter (λ t. vars-in (names-of bs n) (resolve bs t) ≡ true) 0 n x (each-resolved (λ t. vars-in (names-of bs n) t ≡ true) bs (parameters 0 n) (appear-all-has [] (query-terms bs 0 n))) (omega arith) (omega arith)
 
 -- the words of an answer but its own, and with it
 abbrev pub page-words : Substitution → ℕ → Outcome (List Line) → List ℕ
@@ -220,7 +225,7 @@ module _ {P : Program} {ws s output : List ℕ} {st : State} {p : Path} {cs : Li
   as-before = record { stored = a .stored; scratch-length = refl; output-length = refl; before = refl }
 
   -- the steps of the query terms
-  module _ (r : Looked) (h : ThroughAs bs params (st .left) r) where
+  module _ (r : Looked) (h : ThroughAs bs (parameters 0 params) (st .left) r) where
     pub answer-steps : r ≡ looked.StepsOut → AnsweredAs P ws s output s output st p cs used (answer p params (st .left)) answered.StepsOut
     unfolding ThroughAs AnswerSays
     answer-steps e =
@@ -235,12 +240,12 @@ module _ {P : Program} {ws s output : List ℕ} {st : State} {p : Path} {cs : Li
 
     pub answer-small : {left : ℕ} → r ≡ looked.Done left → Small bs params (st .left)
     unfolding ThroughAs
-    answer-small {left} e = let d : ThroughAs bs params (st .left) (looked.Done left) = rw e at h in d .1
+    answer-small {left} e = let d : ThroughAs bs (parameters 0 params) (st .left) (looked.Done left) = rw e at h in λ x l. each-parameter (LookSmall bs (st .left)) 0 params x (d .1) (omega arith) (omega arith)
 
     pub answer-on : {left : ℕ} → r ≡ looked.Done left → answer p params (st .left) ≡ and-then (all-lines bs (p .kept) left) (λ ls m. done (answer-words bs params ls) m)
     unfolding ThroughAs
     answer-on {left} e =
-        let d : ThroughAs bs params (st .left) (looked.Done left) = rw e at h in
+        let d : ThroughAs bs (parameters 0 params) (st .left) (looked.Done left) = rw e at h in
         ap (λ o. and-then o (λ _ l. and-then (all-lines bs (p .kept) l) (λ ls m. done (answer-words bs params ls) m))) (d .0)
 
   -- with names
@@ -349,7 +354,7 @@ module _ {P : Program} {ws s output : List ℕ} {st : State} {p : Path} {cs : Li
 
 -- The same from what the calls promise, one after the other.
 module _ {P : Program} {ws s output : List ℕ} {st : State} {p : Path} {cs : List ChoicePoint} {params used : ℕ} (a : Answering P ws s output st p cs params used)
-    (r : Looked) (look : (bs : Substitution) → Binds ws s bs → ThroughAs bs params (st .left) r) where
+    (r : Looked) (look : (bs : Substitution) → Binds ws s bs → ThroughAs bs (parameters 0 params) (st .left) r) where
   pub steps-out-now : r ≡ looked.StepsOut → AnsweredAs P ws s output s output st p cs used (answer p params (st .left)) answered.StepsOut
   steps-out-now e = answer-steps a r (look (p .bindings) (answer-binds a)) e
 

@@ -1,4 +1,4 @@
--- Looking at all nodes of a term: nothing is found, and each pair takes a step. And of a trial's right sides, one after the other.
+-- Looking at all nodes of a term: nothing is found, and each pair takes a step. And of several terms, one after the other.
 use Prim.Native.Nat.{ℕ, zero, suc, _+_, _<_, _≤_}
 use mathlib.Core.Path.{_≡_, refl, sym, ap, subst, _∙_}
 use mathlib.Core.Bool.{Bool, true, false, true≢false}
@@ -95,66 +95,88 @@ module _ {ws s : List ℕ} {bs : Substitution} {w : ℕ} {t : Term} (steps : ℕ
   unfolding LookedAs scan-says
   look-path e = rw e at said
 
+-- several terms, of which some are left to look at
+pub record Looking (bs : Substitution) (ts : List Term) (steps : ℕ) (later : List Term) (left : ℕ) : Type 0 where
+  pub same : look-through bs ts steps ≡ look-through bs later left
+  pub fewer : left ≤ steps
+  pub small : Each (Small bs steps) later → Each (Small bs steps) ts
+
+pub looking-start : (bs : Substitution) (ts : List Term) (steps : ℕ) → Looking bs ts steps ts steps
+looking-start bs ts steps = record { same = refl; fewer = omega arith; small = λ e. e }
+
+module _ {bs : Substitution} {ts : List Term} {steps : ℕ} {later : List Term} {left : ℕ} (g : Looking bs ts steps later left) where
+  pub looking-end : later ≡ [] → ThroughAs bs ts steps (looked.Done left)
+  unfolding ThroughAs
+  looking-end e = (g .same ∙ ap (λ us. look-through bs us left) e, g .small (subst (Each (Small bs steps)) (sym e) tt))
+
+  module _ (t : Term) (others : List Term) (is : later ≡ t ∷ others) (r : Looked) (told : LookedAs bs t left r) where
+    looks-is : look-through bs ts steps ≡ and-then (scan never bs [] t left) (λ _ l. look-through bs others l)
+    looks-is = g .same ∙ ap (λ us. look-through bs us left) is
+
+    pub looking-steps : r ≡ looked.StepsOut → ThroughAs bs ts steps looked.StepsOut
+    unfolding ThroughAs LookedAs
+    looking-steps e = let q : scan never bs [] t left ≡ stop no-steps 0 = rw e at told in looks-is ∙ ap (λ o. and-then o (λ _ l. look-through bs others l)) q
+
+    pub looking-path : {rest : ℕ} → r ≡ looked.PathOut rest → ThroughAs bs ts steps (looked.PathOut rest)
+    unfolding ThroughAs LookedAs
+    looking-path {rest} e = let q : scan never bs [] t left ≡ stop (at-bound waiting) rest = rw e at told in looks-is ∙ ap (λ o. and-then o (λ _ l. look-through bs others l)) q
+
+    pub looking-on : {rest : ℕ} → r ≡ looked.Done rest → Looking bs ts steps others rest
+    unfolding LookedAs
+    looking-on {rest} e =
+        let q : (scan never bs [] t left ≡ done false rest) × (term-size (resolve bs t) + rest < left) = rw e at told in
+        let p : term-size (resolve bs t) + rest < left = q .1 in
+        let f : left ≤ steps = g .fewer in
+        record {
+          same = looks-is ∙ ap (λ o. and-then o (λ _ l. look-through bs others l)) (q .0);
+          fewer = omega arith;
+          small = λ h. g .small (subst (Each (Small bs steps)) (sym is) (omega arith, h));
+        }
+
 -- the right sides of a trial, from equation i on
-pub record Looking (ws s : List ℕ) (bs : Substitution) (cs : List (ℕ × Term)) (mark count steps i left : ℕ) : Type 0 where
+pub record LookingRights (ws s : List ℕ) (bs : Substitution) (cs : List (ℕ × Term)) (mark count steps i left : ℕ) : Type 0 where
   pub later : List (ℕ × Term)
   pub kept : Kept ws s mark i later
   pub count-is : i + length later ≡ count
-  pub same : look-through bs (rights cs) steps ≡ look-through bs (rights later) left
-  pub fewer : left ≤ steps
-  pub small : Each (Small bs steps) later → Each (Small bs steps) cs
+  pub looking : Looking bs (rights cs) steps (rights later) left
 
-pub looking-start : {ws s : List ℕ} {bs : Substitution} {cs : List (ℕ × Term)} {mark count : ℕ} (steps : ℕ) → Looks ws s bs cs mark count → Looking ws s bs cs mark count steps 0 steps
-looking-start {cs = cs} steps h = record { later = cs; kept = h .kept; count-is = omega (arith, h .count-is); same = refl; fewer = omega arith; small = λ e. e }
+pub rights-start : {ws s : List ℕ} {bs : Substitution} {cs : List (ℕ × Term)} {mark count : ℕ} (steps : ℕ) → Looks ws s bs cs mark count → LookingRights ws s bs cs mark count steps 0 steps
+rights-start {bs = bs} {cs = cs} steps h = record { later = cs; kept = h .kept; count-is = omega (arith, h .count-is); looking = looking-start bs (rights cs) steps }
 
-module _ {ws s : List ℕ} {bs : Substitution} {cs : List (ℕ × Term)} {mark count steps i left : ℕ} (g : Looking ws s bs cs mark count steps i left) where
-  pub looking-end : count ≤ i → ThroughAs bs cs steps (looked.Done left)
-  unfolding ThroughAs
-  looking-end le = go (g .later) (g .count-is) (g .same) (g .small)
+module _ {ws s : List ℕ} {bs : Substitution} {cs : List (ℕ × Term)} {mark count steps i left : ℕ} (g : LookingRights ws s bs cs mark count steps i left) where
+  pub rights-end : count ≤ i → ThroughAs bs (rights cs) steps (looked.Done left)
+  rights-end le = looking-end (g .looking) (none (g .later) (g .count-is))
     where
-      go : (later : List (ℕ × Term)) → i + length later ≡ count → look-through bs (rights cs) steps ≡ look-through bs (rights later) left → (Each (Small bs steps) later → Each (Small bs steps) cs) → (look-through bs (rights cs) steps ≡ done tt left) × Each (Small bs steps) cs
-      go [] n e f = (e, f tt)
-      go (b ∷ later) n e f = absurd (omega arith)
+      none : (later : List (ℕ × Term)) → i + length later ≡ count → rights later ≡ []
+      none [] n = refl
+      none (b ∷ later) n = absurd (omega arith)
 
-  pub record LookingNext : Type 0 where
+  pub record RightsNext : Type 0 where
     pub one : ℕ × Term
     pub others : List (ℕ × Term)
     pub is : g .later ≡ one ∷ others
     pub stands : Stands ws (at s (2048 + mark + i)) (one .1)
     pub kept : Kept ws s mark (i + 1) others
 
-  pub looking-next : i < count → LookingNext
+  pub rights-next : i < count → RightsNext
   unfolding Kept
-  looking-next lt = go (g .later) refl (g .kept) (g .count-is)
+  rights-next lt = go (g .later) refl (g .kept) (g .count-is)
     where
-      go : (later : List (ℕ × Term)) → g .later ≡ later → Kept ws s mark i later → i + length later ≡ count → LookingNext
+      go : (later : List (ℕ × Term)) → g .later ≡ later → Kept ws s mark i later → i + length later ≡ count → RightsNext
       go [] e h n = absurd (omega arith)
       go (b ∷ later) e h n = record { one = b; others = later; is = e; stands = h .0 .right; kept = h .1 }
 
-  module _ (n : LookingNext) (r : Looked) (told : LookedAs bs (n .one .1) left r) where
-    looks-is : look-through bs (rights cs) steps ≡ and-then (scan never bs [] (n .one .1) left) (λ _ l. look-through bs (rights (n .others)) l)
-    looks-is = g .same ∙ ap (λ z. look-through bs (rights z) left) (n .is)
+  module _ (n : RightsNext) (r : Looked) (told : LookedAs bs (n .one .1) left r) where
+    rights-are : rights (g .later) ≡ n .one .1 ∷ rights (n .others)
+    rights-are = ap rights (n .is)
 
-    pub looking-steps : r ≡ looked.StepsOut → ThroughAs bs cs steps looked.StepsOut
-    unfolding ThroughAs LookedAs
-    looking-steps e = let q : scan never bs [] (n .one .1) left ≡ stop no-steps 0 = rw e at told in looks-is ∙ ap (λ z. and-then z (λ _ l. look-through bs (rights (n .others)) l)) q
+    pub rights-steps : r ≡ looked.StepsOut → ThroughAs bs (rights cs) steps looked.StepsOut
+    rights-steps e = looking-steps (g .looking) (n .one .1) (rights (n .others)) rights-are r told e
 
-    pub looking-path : {rest : ℕ} → r ≡ looked.PathOut rest → ThroughAs bs cs steps (looked.PathOut rest)
-    unfolding ThroughAs LookedAs
-    looking-path {rest} e = let q : scan never bs [] (n .one .1) left ≡ stop (at-bound waiting) rest = rw e at told in looks-is ∙ ap (λ z. and-then z (λ _ l. look-through bs (rights (n .others)) l)) q
+    pub rights-path : {rest : ℕ} → r ≡ looked.PathOut rest → ThroughAs bs (rights cs) steps (looked.PathOut rest)
+    rights-path e = looking-path (g .looking) (n .one .1) (rights (n .others)) rights-are r told e
 
-    pub looking-on : {rest : ℕ} → r ≡ looked.Done rest → Looking ws s bs cs mark count steps (i + 1) rest
-    unfolding LookedAs
-    looking-on {rest} e =
-        let q : (scan never bs [] (n .one .1) left ≡ done false rest) × (term-size (resolve bs (n .one .1)) + rest < left) = rw e at told in
+    pub rights-on : {rest : ℕ} → r ≡ looked.Done rest → LookingRights ws s bs cs mark count steps (i + 1) rest
+    rights-on e =
         let l : length (g .later) ≡ suc (length (n .others)) = ap length (n .is) in
-        let p : term-size (resolve bs (n .one .1)) + rest < left = q .1 in
-        let f : left ≤ steps = g .fewer in
-        record {
-          later = n .others;
-          kept = n .kept;
-          count-is = omega (arith, g .count-is);
-          same = looks-is ∙ ap (λ z. and-then z (λ _ l. look-through bs (rights (n .others)) l)) (q .0);
-          fewer = omega arith;
-          small = λ h. g .small (subst (Each (Small bs steps)) (sym (n .is)) (omega arith, h));
-        }
+        record { later = n .others; kept = n .kept; count-is = omega (arith, g .count-is); looking = looking-on (g .looking) (n .one .1) (rights (n .others)) rights-are r told e }

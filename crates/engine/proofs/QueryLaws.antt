@@ -15,14 +15,15 @@ use Rattle.engine.specs.Reference.{at}
 use Rattle.engine.specs.Walk.{Binds}
 use Rattle.engine.specs.Names.{Names, Named}
 use Rattle.engine.specs.Put.{Laid, Missing, Placed, all-laid, some-missing}
-use Rattle.engine.specs.Look.{LookedAs}
-use Rattle.engine.specs.Query.{Small, query-words, ThroughAs}
+use Rattle.engine.specs.Look.{LookedAs, ThroughAs}
+use Rattle.engine.specs.Query.{query-words}
 use Rattle.engine.specs.declared.look.Looked.{Looked}
 use Rattle.engine.specs.declared.look.Looked.the-variants as looked
 use Rattle.engine.specs.declared.put.Put.{Put}
 use Rattle.engine.specs.declared.put.Put.the-variants.{End, Missed}
 use Rattle.engine.proofs.TrailLaws.{fresh-few}
 use Rattle.engine.proofs.FrameLaws.{bindings-same}
+use Rattle.engine.proofs.LookLaws.{Looking, looking-start, looking-end, looking-steps, looking-path, looking-on}
 use Rattle.engine.proofs.NameLaws.{named-still, named-trans}
 use Rattle.engine.proofs.PutLaws.{laid-none, laid-then, missing-then, missing-more, laid-of, missing-of}
 
@@ -37,52 +38,25 @@ parameters-over : (x n : ℕ) → n ≤ x → parameters x (n - x) ≡ []
 parameters-over x n l = let e : n - x ≡ 0 = omega arith in ap (parameters x) e
 
 -- looking: what is left to look at
-pub record Looking (bs : Substitution) (n steps x left : ℕ) : Type 0 where
-  pub same : look-through bs (parameters 0 n) steps ≡ look-through bs (parameters x (n - x)) left
-  pub small : Small bs x steps
-  pub fewer : left ≤ steps
+abbrev pub LookingFrom : Substitution → ℕ → ℕ → ℕ → ℕ → Type 0
+LookingFrom bs n steps x left = Looking bs (parameters 0 n) steps (parameters x (n - x)) left
 
-pub looking-start : (bs : Substitution) (n steps : ℕ) → Looking bs n steps 0 steps
-looking-start bs n steps =
-    let e : n ≡ n - 0 = omega arith in
-    record { same = ap (λ k. look-through bs (parameters 0 k) steps) e; small = λ x l. absurd (omega arith); fewer = omega arith }
+pub from-start : (bs : Substitution) (n steps : ℕ) → LookingFrom bs n steps 0 steps
+from-start bs n steps = let e : n ≡ n - 0 = omega arith in subst (λ k. Looking bs (parameters 0 n) steps (parameters 0 k) steps) e (looking-start bs (parameters 0 n) steps)
 
-module _ {bs : Substitution} {n steps x left : ℕ} (g : Looking bs n steps x left) where
-  pub looking-end : n ≤ x → ThroughAs bs n steps (looked.Done left)
-  unfolding ThroughAs
-  looking-end l = (g .same ∙ ap (λ ts. look-through bs ts left) (parameters-over x n l), λ y k. g .small y (omega arith))
-
-  abbrev later : ℕ → Outcome (Unit {0})
-  later k = look-through bs (parameters (x + 1) (n - (x + 1))) k
-
-  now : x < n → look-through bs (parameters 0 n) steps ≡ and-then (scan never bs [] (var x) left) (λ _ k. later k)
-  now l = g .same ∙ ap (λ ts. look-through bs ts left) (parameters-next x n l)
+module _ {bs : Substitution} {n steps x left : ℕ} (g : LookingFrom bs n steps x left) where
+  pub from-end : n ≤ x → ThroughAs bs (parameters 0 n) steps (looked.Done left)
+  from-end l = looking-end g (parameters-over x n l)
 
   module _ (r : Looked) (l : x < n) (h : LookedAs bs (var x) left r) where
-    pub looking-next : {rest : ℕ} → r ≡ looked.Done rest → Looking bs n steps (x + 1) rest
-    unfolding LookedAs
-    looking-next {rest} e =
-        let d : LookedAs bs (var x) left (looked.Done rest) = rw e at h in
-        record {
-          same = now l ∙ ap (λ o. and-then o (λ _ k. later k)) (d .0);
-          small = λ y k. elim (compared y x) [
-            | same q z ↦ rw q (omega (arith, d .1, g .fewer))
-            | other m z ↦ g .small y (omega arith)
-          ];
-          fewer = omega (arith, d .1, g .fewer);
-        }
+    pub from-next : {rest : ℕ} → r ≡ looked.Done rest → LookingFrom bs n steps (x + 1) rest
+    from-next e = looking-on g (var x) (parameters (x + 1) (n - (x + 1))) (parameters-next x n l) r h e
 
-    pub looking-steps : r ≡ looked.StepsOut → ThroughAs bs n steps looked.StepsOut
-    unfolding LookedAs ThroughAs
-    looking-steps e =
-        let d : scan never bs [] (var x) left ≡ stop no-steps 0 = rw e at h in
-        now l ∙ ap (λ o. and-then o (λ _ k. later k)) d
+    pub from-steps : r ≡ looked.StepsOut → ThroughAs bs (parameters 0 n) steps looked.StepsOut
+    from-steps e = looking-steps g (var x) (parameters (x + 1) (n - (x + 1))) (parameters-next x n l) r h e
 
-    pub looking-path : {rest : ℕ} → r ≡ looked.PathOut rest → ThroughAs bs n steps (looked.PathOut rest)
-    unfolding LookedAs ThroughAs
-    looking-path {rest} e =
-        let d : scan never bs [] (var x) left ≡ stop (at-bound waiting) rest = rw e at h in
-        now l ∙ ap (λ o. and-then o (λ _ k. later k)) d
+    pub from-path : {rest : ℕ} → r ≡ looked.PathOut rest → ThroughAs bs (parameters 0 n) steps (looked.PathOut rest)
+    from-path e = looking-path g (var x) (parameters (x + 1) (n - (x + 1))) (parameters-next x n l) r h e
 
 -- naming: what is left to name
 pub record NamingAll (ws s₀ s : List ℕ) (bs : Substitution) (n x top : ℕ) : Type 0 where

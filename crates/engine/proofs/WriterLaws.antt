@@ -4,7 +4,7 @@ use mathlib.Core.Path.{_≡_, refl, sym, ap, subst, _∙_}
 use mathlib.Core.Bool.{Bool, true, false, _&&_, _||_, not, false≢true}
 use mathlib.Core.Option.{Option, none, some}
 use mathlib.Core.Logic.{_⊎_, inl, inr}
-use mathlib.Core.List.{List, [], _∷_, _++_, reverse}
+use mathlib.Core.List.{List, [], _∷_, _++_, map, reverse}
 use native.Mathlib.Omega.{arith}
 use lib.Dec.{eqb}
 use lib.ListN.{length, take, length-append}
@@ -115,7 +115,7 @@ trial-new new bs =
     let z : length (new ++ bs) - length bs ≡ length new = omega arith in
     ap (λ k. reverse (take k (new ++ bs))) z ∙ ap reverse (take-append-seam new bs)
 
-pub equations-kept : {ws s : List ℕ} {bs : Substitution} (pairs mark i : ℕ) (cs : List (ℕ × Term)) → Binds ws s bs → Kept ws s mark i cs → Each (λ (b : ℕ × Term). term-size (resolve bs (b .1)) ≤ pairs) cs
+pub equations-kept : {ws s : List ℕ} {bs : Substitution} (pairs mark i : ℕ) (cs : List (ℕ × Term)) → Binds ws s bs → Kept ws s mark i cs → Each (λ (t : Term). term-size (resolve bs t) ≤ pairs) (map (λ (b : ℕ × Term). b .1) cs)
     → Equations ws s pairs mark i (resolve-right bs cs)
 unfolding Kept Equations
 equations-kept pairs mark i [] h k e = tt

@@ -1,4 +1,4 @@
--- What looking at all nodes of a term, or of the right sides of a trial, promises.
+-- What looking at all nodes of a term, or of several, promises.
 use Prim.Native.Nat.{ℕ, _+_, _≤_, _<_}
 use mathlib.Core.Path.{_≡_}
 use mathlib.Core.Bool.{false}
@@ -33,11 +33,12 @@ pub record Looks (ws s : List ℕ) (bs : Substitution) (cs : List (ℕ × Term))
 abbrev pub rights : List (ℕ × Term) → List Term
 rights cs = map (λ (b : ℕ × Term). b .1) cs
 
--- with its bindings followed, the right side has at most so many pairs
-abbrev pub Small : Substitution → ℕ → ℕ × Term → Type 0
-Small bs pairs b = term-size (resolve bs (b .1)) ≤ pairs
+-- with its bindings followed, the term has at most so many pairs
+abbrev pub Small : Substitution → ℕ → Term → Type 0
+Small bs pairs t = term-size (resolve bs t) ≤ pairs
 
-unfoldable pub ThroughAs : Substitution → List (ℕ × Term) → ℕ → Looked → Type 0
-ThroughAs bs cs steps (Done left) = (look-through bs (rights cs) steps ≡ done tt left) × Each (Small bs steps) cs
-ThroughAs bs cs steps StepsOut = look-through bs (rights cs) steps ≡ stop no-steps 0
-ThroughAs bs cs steps (PathOut left) = look-through bs (rights cs) steps ≡ stop (at-bound waiting) left
+-- terms one after the other
+unfoldable pub ThroughAs : Substitution → List Term → ℕ → Looked → Type 0
+ThroughAs bs ts steps (Done left) = (look-through bs ts steps ≡ done tt left) × Each (Small bs steps) ts
+ThroughAs bs ts steps StepsOut = look-through bs ts steps ≡ stop no-steps 0
+ThroughAs bs ts steps (PathOut left) = look-through bs ts steps ≡ stop (at-bound waiting) left

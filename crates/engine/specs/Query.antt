@@ -6,14 +6,11 @@ use mathlib.Core.List.{List, map}
 use Rattle.rules.specs.Syntax.{var}
 use Rattle.rules.specs.Written.{part, terms-words}
 use Rattle.semantics.specs.Substitution.{Substitution, resolve}
-use Rattle.semantics.specs.Steps.{waiting, no-steps, at-bound, done, stop}
-use Rattle.semantics.specs.Answer.{vars-in, reify, parameters, query-terms, look-through}
+use Rattle.semantics.specs.Answer.{vars-in, reify, query-terms}
 use Rattle.semantics.proofs.TermLaws.{term-size}
 use Rattle.engine.specs.Walk.{Binds}
 use Rattle.engine.specs.Names.{Names}
 use Rattle.engine.specs.Put.{Laid}
-use Rattle.engine.specs.declared.look.Looked.{Looked}
-use Rattle.engine.specs.declared.look.Looked.the-variants as looked
 use Rattle.engine.specs.declared.constraints.Added.{Added}
 use Rattle.engine.specs.declared.constraints.Added.the-variants as added
 use Rattle.engine.specs.declared.answer.Answered.{Answered}
@@ -30,12 +27,6 @@ Known bs names n = (x : ℕ) → x < n → vars-in names (resolve bs (var x)) �
 -- the words of the query terms
 abbrev pub query-words : Substitution → List ℕ → ℕ → ℕ → List ℕ
 query-words bs names i n = terms-words (map (reify names) (query-terms bs i n))
-
--- each case as the definition has it
-unfoldable pub ThroughAs : Substitution → ℕ → ℕ → Looked → Type 0
-ThroughAs bs n steps (looked.Done left) = (look-through bs (parameters 0 n) steps ≡ done tt left) × Small bs n steps
-ThroughAs bs n steps looked.StepsOut = look-through bs (parameters 0 n) steps ≡ stop no-steps 0
-ThroughAs bs n steps (looked.PathOut left) = look-through bs (parameters 0 n) steps ≡ stop (at-bound waiting) left
 
 -- query terms that are to be put
 pub record Query (ws s : List ℕ) (n pairs : ℕ) (bs : Substitution) (names : List ℕ) : Type 0 where

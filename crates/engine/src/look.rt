@@ -7,7 +7,7 @@ ghost use Prim.Native.Nat.{ℕ};
 ghost use Rattle.rules.specs.Syntax.{Term};
 ghost use Rattle.semantics.specs.Substitution.{Substitution};
 ghost use Rattle.engine.specs.Walk.{Follows};
-ghost use Rattle.engine.specs.Look.{LookedAs, Looks, ThroughAs};
+ghost use Rattle.engine.specs.Look.{LookedAs, Looks, rights, ThroughAs};
 
 // A number is the steps left.
 pub enum Looked {
@@ -46,7 +46,7 @@ pub(crate) fn look_equations(
     steps: u32,
 ) -> Looked
     requires { ⌜ ((bs : Substitution) × (cs : List (ℕ × Term)) × Looks (now program) (now scratch) bs cs mark count) ⌝ }
-    ensures { λ r. ⌜ ((bs : Substitution) (cs : List (ℕ × Term)) → Looks (now (program .entry)) (now (scratch .entry)) bs cs mark count → ThroughAs bs cs steps r) ⌝ }
+    ensures { λ r. ⌜ ((bs : Substitution) (cs : List (ℕ × Term)) → Looks (now (program .entry)) (now (scratch .entry)) bs cs mark count → ThroughAs bs (rights cs) steps r) ⌝ }
 {
     let mut left = steps;
     let mut i = 0;

@@ -14,13 +14,13 @@ ghost use lib.ListN.{length};
 ghost use Rattle.rules.specs.Syntax.{var};
 ghost use Rattle.rules.specs.Written.{term-words};
 ghost use Rattle.semantics.specs.Substitution.{Substitution, resolve};
-ghost use Rattle.semantics.specs.Answer.{appear, reify, vars-in, names-of};
+ghost use Rattle.semantics.specs.Answer.{appear, reify, vars-in, names-of, parameters};
 ghost use Rattle.semantics.proofs.TermLaws.{term-size};
 ghost use Rattle.engine.specs.Walk.{Binds};
 ghost use Rattle.engine.specs.Names.{Names, Named};
 ghost use Rattle.engine.specs.Put.{Placed};
-ghost use Rattle.engine.specs.Look.{LookedAs};
-ghost use Rattle.engine.specs.Query.{Small, ThroughAs, Query, query-words};
+ghost use Rattle.engine.specs.Look.{LookedAs, ThroughAs};
+ghost use Rattle.engine.specs.Query.{Small, Query, query-words};
 
 pub(crate) fn look_parameter(program: &[u32], scratch: &[u32], x: u32, steps: u32) -> Looked
     requires { ⌜ (x < 2048) × ((bs : Substitution) × Binds (now program) (now scratch) bs) ⌝ }
@@ -75,7 +75,7 @@ pub(crate) fn put_parameter(
 // All parameters, one after the other.
 pub(crate) fn look_parameters(program: &[u32], scratch: &[u32], count: u32, steps: u32) -> Looked
     requires { ⌜ (count ≤ 2048) × ((bs : Substitution) × Binds (now program) (now scratch) bs) ⌝ }
-    ensures { λ r. ⌜ ((bs : Substitution) → Binds (now (program .entry)) (now (scratch .entry)) bs → ThroughAs bs count steps r) ⌝ }
+    ensures { λ r. ⌜ ((bs : Substitution) → Binds (now (program .entry)) (now (scratch .entry)) bs → ThroughAs bs (parameters 0 count) steps r) ⌝ }
 {
     let mut left = steps;
     let mut x = 0;

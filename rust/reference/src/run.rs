@@ -4,6 +4,7 @@
 
 use crate::read::{read, Refusal};
 use crate::syntax::*;
+use crate::trace::{Bounded, Event, Trace};
 use crate::word::*;
 
 /// How a run ended.
@@ -28,6 +29,7 @@ pub struct Outcome {
     pub answer_rounds: Vec<u32>,
     /// All answers, one after the other.
     pub words: Vec<u32>,
+    pub trace: Trace,
 }
 
 pub const ROUND_LIMIT: u32 = 255;
@@ -65,6 +67,7 @@ pub fn run(
         steps: 0,
         answer_rounds: Vec::new(),
         words: Vec::new(),
+        trace: Trace::default(),
     };
     let mut round = 0;
     let end = loop {
@@ -82,6 +85,7 @@ pub fn run(
         answers: search.answer_rounds.len(),
         answer_rounds: search.answer_rounds,
         words: search.words,
+        trace: search.trace,
     })
 }
 
@@ -183,6 +187,7 @@ struct Search<'p> {
     steps: u32,
     answer_rounds: Vec<u32>,
     words: Vec<u32>,
+    trace: Trace,
 }
 
 impl Search<'_> {
@@ -223,6 +228,7 @@ impl Search<'_> {
             calls: 0,
         };
         path.put(&[query.goal], 0);
+        self.trace.reach(Bounded::Variables, query.variables);
         let mut choices: Vec<Choice> = Vec::new();
         let mut cut = Cut(false);
         loop {
@@ -275,6 +281,8 @@ impl Search<'_> {
                     Some(_) => {
                         for &constraint in &path.constraints {
                             if !self.review(constraint, &path)? {
+                                let kind = self.program[constraint.goal].kind();
+                                self.trace.note(Event::FailedLater(kind));
                                 return Ok(Taken::Failed);
                             }
                         }
@@ -284,13 +292,18 @@ impl Search<'_> {
             Goal::Differ(..) | Goal::Symbolo(_) | Goal::Numbero(_) | Goal::Absento(..) => {
                 self.step((path.constraints.len() == CONSTRAINTS).then_some(4))?;
                 path.constraints.push(task);
+                let count = path.constraints.len();
+                self.trace.reach(Bounded::Constraints, count);
                 if !self.review(task, &path)? {
+                    let kind = self.program[task.goal].kind();
+                    self.trace.note(Event::FailedWhenTaken(kind));
                     return Ok(Taken::Failed);
                 }
             }
             Goal::Conjunction(goals) => {
                 self.step((path.put + goals.len() > GOALS).then_some(2))?;
                 path.put(goals, base);
+                self.trace.reach(Bounded::Goals, path.put);
             }
             Goal::Disjunction(goals) => {
                 let too_many_put = (path.put + 1 > GOALS).then_some(2);
@@ -304,7 +317,9 @@ impl Search<'_> {
                         base,
                     });
                 }
+                self.trace.reach(Bounded::Disjunctions, choices.len());
                 path.put(&goals[..1], base);
+                self.trace.reach(Bounded::Goals, path.put);
             }
             Goal::Call(_, _) if path.calls == round => {
                 self.step(None)?;
@@ -323,6 +338,9 @@ impl Search<'_> {
                     path.substitution.bind(made + parameter, argument);
                 }
                 path.put(&[called.goal], made);
+                self.trace
+                    .reach(Bounded::Variables, path.substitution.0.len());
+                self.trace.reach(Bounded::Goals, path.put);
             }
         }
         Ok(Taken::Goes(path))
@@ -358,6 +376,7 @@ impl Search<'_> {
                     self.value(left_second, left_base),
                     self.value(right_second, right_base),
                 ));
+                self.trace.reach(Bounded::Pairs, waiting.len());
                 next = Some((
                     self.value(left_first, left_base),
                     self.value(right_first, right_base),
@@ -373,6 +392,7 @@ impl Search<'_> {
                 _ => return Ok(None),
             };
             if self.occurs(variable, other, substitution)? {
+                self.trace.note(Event::OccursCheckFailed);
                 return Ok(None);
             }
             substitution.bind(variable, other);
@@ -414,6 +434,7 @@ impl Search<'_> {
         {
             self.step((nodes.waiting.len() == WAITING).then_some(5))?;
             nodes.waiting.push(self.value(second, base));
+            self.trace.reach(Bounded::Nodes, nodes.waiting.len());
             nodes.next = Some(self.value(first, base));
         } else {
             self.step(None)?;
@@ -437,16 +458,12 @@ impl Search<'_> {
         match self.program[constraint.goal] {
             Goal::Symbolo(term) => Ok(match path.substitution.walk(self.value(term, base)) {
                 Value::Symbol(_) => true,
-                Value::Variable(variable) => {
-                    !self.typed(variable, path, |goal| matches!(goal, Goal::Numbero(_)))
-                }
+                Value::Variable(variable) => !self.typed(variable, path, NUMBERO),
                 _ => false,
             }),
             Goal::Numbero(term) => Ok(match path.substitution.walk(self.value(term, base)) {
                 Value::Number(_) => true,
-                Value::Variable(variable) => {
-                    !self.typed(variable, path, |goal| matches!(goal, Goal::Symbolo(_)))
-                }
+                Value::Variable(variable) => !self.typed(variable, path, SYMBOLO),
                 _ => false,
             }),
             Goal::Absento(tag, term) => {
@@ -468,17 +485,22 @@ impl Search<'_> {
         }
     }
 
-    /// Whether the open variable has a type constraint of this sort on the path.
-    fn typed(&self, variable: usize, path: &Path, sort: fn(&Goal) -> bool) -> bool {
-        path.constraints
+    /// Whether the open variable has a type constraint of this kind on the path.
+    fn typed(&mut self, variable: usize, path: &Path, kind: u32) -> bool {
+        let met = path
+            .constraints
             .iter()
             .any(|other| match &self.program[other.goal] {
-                goal @ (Goal::Symbolo(term) | Goal::Numbero(term)) if sort(goal) => {
+                goal @ (Goal::Symbolo(term) | Goal::Numbero(term)) if goal.kind() == kind => {
                     path.substitution.walk(self.value(*term, other.base))
                         == Value::Variable(variable)
                 }
                 _ => false,
-            })
+            });
+        if met {
+            self.trace.note(Event::TypesMet);
+        }
+        met
     }
 
     /// Writes the answer of a path that has no goal waiting.
@@ -496,7 +518,9 @@ impl Search<'_> {
         let mut lines: Vec<Vec<u32>> = Vec::new();
         for &constraint in &path.constraints {
             for line in self.lines(constraint, path, &names)? {
-                if !lines.contains(&line) {
+                if lines.contains(&line) {
+                    self.trace.note(Event::LineRepeated);
+                } else {
                     lines.push(line);
                 }
             }
@@ -522,13 +546,14 @@ impl Search<'_> {
         match self.program[constraint.goal] {
             Goal::Symbolo(term) | Goal::Numbero(term) => {
                 self.step(None)?;
-                let kind = match self.program[constraint.goal] {
-                    Goal::Symbolo(_) => SYMBOLO,
-                    _ => NUMBERO,
-                };
+                let kind = self.program[constraint.goal].kind();
                 let node = path.substitution.walk(self.value(term, base));
                 Ok(match (node, names.words(&[node])) {
                     (Value::Variable(_), Some(variable)) => vec![part(kind, &[variable])],
+                    (Value::Variable(_), None) => {
+                        self.trace.note(Event::LineDropped(kind));
+                        vec![]
+                    }
                     _ => vec![],
                 })
             }
@@ -541,8 +566,11 @@ impl Search<'_> {
                         continue;
                     }
                     seen.push(node);
-                    if let Some(variable) = names.words(&[node]) {
-                        lines.push(part(ABSENTO, &[vec![word(SYMBOL, tag)], variable]));
+                    match names.words(&[node]) {
+                        Some(variable) => {
+                            lines.push(part(ABSENTO, &[vec![word(SYMBOL, tag)], variable]))
+                        }
+                        None => self.trace.note(Event::LineDropped(ABSENTO)),
                     }
                 }
                 Ok(lines)
@@ -567,7 +595,10 @@ impl Search<'_> {
                 }
                 let differs: Option<Vec<Vec<u32>>> = differs.into_iter().collect();
                 Ok(match differs {
-                    None => vec![],
+                    None => {
+                        self.trace.note(Event::LineDropped(DIFFER));
+                        vec![]
+                    }
                     Some(differs) if differs.len() == 1 => differs,
                     Some(differs) => vec![part(DISJUNCTION, &differs)],
                 })

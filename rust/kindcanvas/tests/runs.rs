@@ -212,7 +212,7 @@ fn differences_are_found_and_made_small() {
         }
         result
     };
-    // An answer that is given again is forgotten.
+    // Only the first answer is counted.
     let no_second_answer = |case: &Case| {
         let mut result = case.run();
         if let Ok(outcome) = &mut result {
@@ -220,6 +220,7 @@ fn differences_are_found_and_made_small() {
         }
         result
     };
+    // Condition 3 at the next word.
     let misplaced = |case: &Case| {
         case.run().map_err(|refusal| reference::Refusal {
             place: refusal.place + (refusal.number == 3) as usize,

@@ -1,13 +1,28 @@
 //! The static library's runs against the reference: the whole result, and every word that is lent.
+//!
+//! The gate compares 100,000 random cases from a fixed seed. A longer run, from another seed each time, which it prints:
+//!
+//!     cargo test --offline --release -p kindcanvas --test runs -- --ignored --nocapture
+//!
+//! KINDCANVAS_CASES sets how many (a million if it is not set), and KINDCANVAS_SEED where to begin. Each case has a seed of its own, so
+//! KINDCANVAS_CASES=1 with the seed that a failure names runs that case alone.
 
 use kindcanvas::{Bound, Ending, Refusal, Report};
-use reference::cases::{case, Case};
+use reference::cases::{self, Case};
+use reference::coverage::{covered, wanted};
 use reference::gen::{self, Rng};
+use reference::shrink::shrink;
 use reference::table;
-use reference::word::show;
+use reference::trace::Event;
+use reference::word::{show, ABSENTO};
 use reference::Outcome;
 use std::collections::BTreeMap;
+use std::env;
+use std::ops::Range;
 use std::thread;
+use std::time::{SystemTime, UNIX_EPOCH};
+
+type Expected = Result<Outcome, reference::Refusal>;
 
 /// Lent words, in the middle of more, all of them rubbish.
 struct Lent {
@@ -59,16 +74,14 @@ fn report(outcome: &Outcome) -> Report {
     }
 }
 
-/// Runs the case by both, and panics at any difference. How it ended.
-fn compare(rng: &mut Rng, case: &Case, name: &str) -> String {
-    // Scratch may be longer than needed; the output's length is part of the case.
-    let more = rng.pick(&[0, 0, 1, 100]);
-    let long = case.scratch >= reference::run::SCRATCH_WORDS;
-    let mut scratch = Lent::new(rng, case.scratch + if long { more } else { 0 });
-    let mut output = Lent::new(rng, case.output);
-    let (expected, page, cleared) = match case.run() {
+/// Runs the case by the library, on lent words that are rubbish from a seed, and says what differs from the result expected.
+fn difference(case: &Case, seed: u64, expected: &Expected) -> Option<String> {
+    let mut rng = Rng::new(seed);
+    let mut scratch = Lent::new(&mut rng, case.scratch);
+    let mut output = Lent::new(&mut rng, case.output);
+    let (expected, page, cleared) = match expected {
         Ok(outcome) => (
-            Ok(report(&outcome)),
+            Ok(report(outcome)),
             output.with(&outcome.words),
             scratch.with(&[]),
         ),
@@ -88,85 +101,160 @@ fn compare(rng: &mut Rng, case: &Case, name: &str) -> String {
         output.part(),
         scratch.part(),
     );
-    let told = || {
-        format!(
-            "{name}: rounds {} steps {} output {} scratch {}\n{}",
-            case.rounds,
-            case.steps,
-            case.output,
-            case.scratch,
-            show(&case.words)
-        )
+    if result != expected {
+        return Some(format!("{result:?}, expected {expected:?}"));
+    }
+    if output.all != page {
+        let (found, wanted) = (show(&output.all), show(&page));
+        return Some(format!("output and around it {found}, expected {wanted}"));
+    }
+    (scratch.all != cleared).then(|| "scratch or around it".to_string())
+}
+
+/// Compares the case with what `reference` says of it, and gives that. If they differ, what is told of it, and a smaller case.
+fn compare_with(
+    case: &Case,
+    seed: u64,
+    reference: impl Fn(&Case) -> Expected,
+) -> Result<Expected, (String, Case)> {
+    let expected = reference(case);
+    let Some(found) = difference(case, seed, &expected) else {
+        return Ok(expected);
     };
-    assert_eq!(result, expected, "{}", told());
-    assert!(output.all == page, "output differs, {}", told());
-    assert!(scratch.all == cleared, "scratch differs, {}", told());
-    match expected {
-        Ok(report) => format!("{:?}", report.end),
-        Err(refusal) => format!("refused {}", refusal.number),
+    let differs = |case: &Case| difference(case, seed, &reference(case));
+    let small = shrink(case.clone(), |case| differs(case).is_some());
+    let left = differs(&small).expect("it still differs");
+    let told = format!("{found}\n{case}\n\nsmaller: {left}\n{small}");
+    Err((told, small))
+}
+
+fn compare(case: &Case, seed: u64, name: &str) {
+    if let Err((told, _)) = compare_with(case, seed, Case::run) {
+        panic!("{name}: {told}");
     }
 }
 
-#[test]
-fn random_programs() {
-    const CASES: usize = 20_000;
-    let mut rng = Rng::new(20_240_612);
-    let mut ends: BTreeMap<String, usize> = BTreeMap::new();
-    for number in 0..CASES {
-        let case = case(&mut rng);
-        let end = compare(&mut rng, &case, &format!("case {number}"));
-        *ends.entry(end).or_default() += 1;
-    }
-    println!("{ends:?}");
-    let runs = ["Finished", "Rounds", "Steps", "Output"].map(String::from);
-    let paths = Bound::ALL.map(|bound| format!("{:?}", Ending::Path(bound)));
-    for end in runs.into_iter().chain(paths) {
-        let count = ends.get(&end).copied().unwrap_or(0);
-        assert!(count >= 200, "{end} came only {count} times");
-    }
-    for number in [2, 3, 5, 7, 8, 9] {
-        assert!(ends.contains_key(&format!("refused {number}")), "{number}");
+fn random_case(seed: u64) -> Case {
+    let mut rng = Rng::new(seed);
+    match rng.below(10) {
+        0 => cases::larger(&mut rng),
+        _ => cases::case(&mut rng),
     }
 }
 
+/// Compares the cases of these seeds, and says how often what was covered.
+fn random_cases(seeds: Range<u64>) -> BTreeMap<String, usize> {
+    let mut counts = BTreeMap::new();
+    for seed in seeds {
+        let case = random_case(seed);
+        let expected = compare_with(&case, seed, Case::run)
+            .unwrap_or_else(|(told, _)| panic!("seed {seed}: {told}"));
+        for what in covered(&case, &expected) {
+            *counts.entry(what).or_default() += 1;
+        }
+    }
+    counts
+}
+
+/// Compares so many cases on two cores. If they are many, each thing wanted must have been covered several times.
+fn random_programs(seed: u64, cases: u64) {
+    println!("{cases} cases from seed {seed}");
+    let (middle, end) = (seed + cases / 2, seed + cases);
+    let mut counts = thread::scope(|scope| {
+        let first = scope.spawn(|| random_cases(seed..middle));
+        let mut counts = random_cases(middle..end);
+        for (what, count) in first.join().expect("no difference in the first half") {
+            *counts.entry(what).or_default() += count;
+        }
+        counts
+    });
+    for what in wanted() {
+        counts.entry(what).or_default();
+    }
+    for (what, count) in &counts {
+        println!("{count:8} {what}");
+    }
+    if cases >= GATE_CASES {
+        counts.retain(|_, count| *count < 5);
+        assert!(counts.is_empty(), "hardly covered: {counts:?}");
+    }
+}
+
+const GATE_CASES: u64 = 100_000;
+
 #[test]
-fn larger_programs() {
-    let mut rng = Rng::new(7);
-    for number in 0..3_000 {
-        let words = match number % 3 {
-            0 => gen::accepted(&mut rng),
-            _ => gen::program(&mut rng),
-        };
-        let case = Case {
-            words,
-            rounds: rng.pick(&[4, 9, 40, 255]),
-            steps: rng.pick(&[1_000, 5_000, 20_000]),
-            output: rng.pick(&[10, 100, 1_000, 5_000]),
-            scratch: 16_384,
-        };
-        compare(&mut rng, &case, &format!("larger case {number}"));
+fn random_programs_of_the_gate() {
+    random_programs(20_240_612, GATE_CASES);
+}
+
+#[test]
+#[ignore = "takes minutes; see the head of this file"]
+fn more_random_programs() {
+    let set = |name| env::var(name).map(|text| text.parse().expect(name)).ok();
+    let now = SystemTime::now().duration_since(UNIX_EPOCH).unwrap();
+    // Any clock gives seeds far from each other, and room for the cases behind them.
+    let seed = Rng::new(now.as_nanos() as u64).number() >> 1;
+    random_programs(
+        set("KINDCANVAS_SEED").unwrap_or(seed),
+        set("KINDCANVAS_CASES").unwrap_or(1_000_000),
+    );
+}
+
+/// References with an error, to see that it is found and made small.
+#[test]
+fn differences_are_found_and_made_small() {
+    // A step too many where an absence fails after an equality.
+    let late_absence = |case: &Case| {
+        let mut result = case.run();
+        if let Ok(outcome) = &mut result {
+            let failed = Event::FailedLater(ABSENTO);
+            outcome.steps += outcome.trace.events.contains(&failed) as u32;
+        }
+        result
+    };
+    // Only the first answer is counted.
+    let no_second_answer = |case: &Case| {
+        let mut result = case.run();
+        if let Ok(outcome) = &mut result {
+            outcome.answers = outcome.answers.min(1);
+        }
+        result
+    };
+    // Condition 3 at the next word.
+    let misplaced = |case: &Case| {
+        case.run().map_err(|refusal| reference::Refusal {
+            place: refusal.place + (refusal.number == 3) as usize,
+            ..refusal
+        })
+    };
+    // Each with as many words as suffice for it to show.
+    made_small("late absence", late_absence, 10);
+    made_small("no second answer", no_second_answer, 10);
+    made_small("misplaced", misplaced, 1);
+}
+
+/// The first cases that such a reference gets wrong are each made as small as that, and told as text.
+fn made_small(name: &str, wrong: impl Fn(&Case) -> Expected, length: usize) {
+    let differences = (0..)
+        .map(|seed| (seed, random_case(seed)))
+        .filter_map(|(seed, case)| compare_with(&case, seed, &wrong).err());
+    for (told, small) in differences.take(10) {
+        assert!(small.words.len() <= length, "{name}: {told}");
+        assert!(told.ends_with(&show(&small.words)), "{told}");
     }
 }
 
 #[test]
 fn tables() {
-    let mut rng = Rng::new(8);
     for run in table::runs() {
-        compare(&mut rng, &run.case, &run.label);
+        compare(&run.case, 8, &run.label);
     }
     for decision in table::decisions() {
-        let name = format!("reading {}", decision.number);
-        compare(&mut rng, &decision.case, &name);
+        compare(&decision.case, 8, &format!("reading {}", decision.number));
     }
     for row in table::refusals() {
-        let case = Case {
-            words: row.words,
-            rounds: 2,
-            steps: 500,
-            output: 50,
-            scratch: 16_384,
-        };
-        compare(&mut rng, &case, &format!("refusals.txt line {}", row.line));
+        let name = format!("refusals.txt line {}", row.line);
+        compare(&Case::new("table", row.words), 8, &name);
     }
 }
 
@@ -183,16 +271,10 @@ fn deep_programs_need_little_stack() {
         ),
     ];
     for (name, words) in programs {
-        let case = Case {
-            words,
-            rounds: 3,
-            steps: 1_000_000,
-            output: 100,
-            scratch: 16_384,
-        };
+        let case = Case::new(name, words);
         thread::Builder::new()
             .stack_size(4 << 20)
-            .spawn(move || compare(&mut Rng::new(9), &case, name))
+            .spawn(move || compare(&case, 9, name))
             .unwrap()
             .join()
             .unwrap();

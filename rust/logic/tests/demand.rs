@@ -93,8 +93,8 @@ fn library(case: &Case, rounds: u32) -> Run {
     output.truncate(report.words);
     Run {
         end: match report.end {
-            kindcanvas::End::Finished => End::Finished,
-            kindcanvas::End::Rounds => End::Rounds,
+            kindcanvas::Ending::Finished => End::Finished,
+            kindcanvas::Ending::Rounds => End::Rounds,
             _ => End::BrokenOff,
         },
         round: report.round,

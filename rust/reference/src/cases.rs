@@ -4,9 +4,13 @@ use crate::gen::{self, pair, part, relation, Rng};
 use crate::run::{run, Outcome, ROUND_LIMIT, SCRATCH_WORDS};
 use crate::table;
 use crate::word::*;
+use std::fmt;
 
 /// What a run is given.
+#[derive(Clone, Debug)]
 pub struct Case {
+    /// How the program was made.
+    pub made: &'static str,
     pub words: Vec<u32>,
     pub rounds: u32,
     pub steps: u32,
@@ -15,6 +19,18 @@ pub struct Case {
 }
 
 impl Case {
+    /// The program with the listing program's limits.
+    pub fn new(made: &'static str, words: Vec<u32>) -> Case {
+        Case {
+            made,
+            words,
+            rounds: 16,
+            steps: 1_000_000,
+            output: 4_096,
+            scratch: SCRATCH_WORDS,
+        }
+    }
+
     pub fn run(&self) -> Result<Outcome, crate::Refusal> {
         run(
             &self.words,
@@ -26,39 +42,108 @@ impl Case {
     }
 }
 
+/// The limits, and the program as text.
+impl fmt::Display for Case {
+    fn fmt(&self, f: &mut fmt::Formatter) -> fmt::Result {
+        write!(
+            f,
+            "{}: rounds {} steps {} output {} scratch {}\n{}",
+            self.made,
+            self.rounds,
+            self.steps,
+            self.output,
+            self.scratch,
+            show(&self.words)
+        )
+    }
+}
+
 /// Small random programs are at most this long.
 const SMALL: usize = 120;
-/// No run takes more steps.
+/// No run of a small case takes more steps.
 const STEPS: u32 = 2_000;
 
+/// How programs are made.
+pub const MADE: [&str; 18] = [
+    "program",
+    "constraints",
+    "damaged",
+    "random words",
+    "settings",
+    "walk of a list",
+    "long lists",
+    "many variables",
+    "many goals",
+    "many disjunctions",
+    "many constraints",
+    "terms that deepen",
+    "deep first parts",
+    "larger program",
+    "larger damaged",
+    "walk of a long list",
+    "very long lists",
+    "many rounds",
+];
+
+/// A case that is small enough for slow checkers too.
 pub fn case(rng: &mut Rng) -> Case {
-    match rng.below(100) {
-        0..=59 => {
-            let words = small(rng, |rng| match rng.below(4) {
-                0 => gen::constrained(rng),
-                _ => gen::program(rng),
-            });
-            let rounds = rng.pick(&[0, 1, 2, 2, 3, 3, 4, 5, 7]);
-            let steps = rng.pick(&[50, 200, 200, 500, 500, STEPS]);
-            around(rng, words, rounds, steps)
+    let (made, words) = match rng.below(100) {
+        0..=39 => ("program", small(rng, gen::program)),
+        40..=54 => ("constraints", small(rng, gen::constrained)),
+        55..=58 => ("damaged", small(rng, gen::damaged)),
+        59..=60 => ("random words", gen::random_words(rng)),
+        61..=62 => return small_settings(rng),
+        63..=67 => {
+            let length = rng.below(8);
+            ("walk of a list", walk(rng, length))
         }
-        60..=65 => {
-            let words = small(rng, gen::damaged);
-            around(rng, words, 2, 200)
+        of_a_bound => return near_a_bound(rng, of_a_bound),
+    };
+    let rounds = rng.pick(&[0, 1, 2, 2, 3, 3, 4, 5, 7, ROUND_LIMIT]);
+    let steps = rng.pick(&[50, 200, 200, 500, 500, STEPS]);
+    around(rng, Case::new(made, words), rounds, steps)
+}
+
+/// Long lists, and programs round about the bounds on a path, with as many rounds as they need.
+fn near_a_bound(rng: &mut Rng, which: usize) -> Case {
+    let (made, words) = match which {
+        68..=69 => {
+            let length = rng.between(100, 250);
+            ("long lists", lists(rng, length))
         }
-        66..=67 => small_settings(rng),
-        path_bound => {
-            let make = match path_bound {
-                68..=74 => many_variables,
-                75..=80 => many_goals,
-                81..=86 => many_disjunctions,
-                87..=92 => many_constraints,
-                _ => deep_terms,
-            };
-            let words = make(rng);
-            around_path(rng, words)
+        70..=75 => ("many variables", many_variables(rng)),
+        76..=81 => ("many goals", many_goals(rng)),
+        82..=87 => ("many disjunctions", many_disjunctions(rng)),
+        88..=92 => ("many constraints", many_constraints(rng)),
+        93..=97 => ("terms that deepen", deep_terms(rng)),
+        _ => ("deep first parts", deep_first_parts(rng)),
+    };
+    around(rng, Case::new(made, words), ROUND_LIMIT, STEPS)
+}
+
+/// A case of any size.
+pub fn larger(rng: &mut Rng) -> Case {
+    let (made, words) = match rng.below(20) {
+        0..=5 => ("larger program", gen::accepted(rng)),
+        6..=11 => ("program", gen::program(rng)),
+        12..=14 => ("larger damaged", gen::damaged(rng)),
+        15..=16 => {
+            let length = rng.below(60);
+            ("walk of a long list", walk(rng, length))
         }
-    }
+        17..=18 => {
+            let length = rng.between(1_000, 4_000);
+            ("very long lists", lists(rng, length))
+        }
+        _ => {
+            let case = Case::new("many rounds", many_rounds(rng));
+            let rounds = rng.pick(&[ROUND_LIMIT - 1, ROUND_LIMIT, ROUND_LIMIT]);
+            return around(rng, case, rounds, 150_000);
+        }
+    };
+    let rounds = rng.pick(&[4, 9, 40, ROUND_LIMIT]);
+    let steps = rng.pick(&[1_000, 5_000, 20_000]);
+    around(rng, Case::new(made, words), rounds, steps)
 }
 
 fn small(rng: &mut Rng, make: impl Fn(&mut Rng) -> Vec<u32>) -> Vec<u32> {
@@ -77,6 +162,7 @@ fn small_settings(rng: &mut Rng) -> Case {
         false => small(rng, gen::damaged),
     };
     Case {
+        made: "settings",
         words,
         rounds: rng.pick(&[0, 1, ROUND_LIMIT, ROUND_LIMIT + 1, u32::MAX]),
         steps: rng.pick(&[0, 1, 50]),
@@ -92,22 +178,17 @@ fn small_settings(rng: &mut Rng) -> Case {
     }
 }
 
-/// The program with limits set by what a run with the given ones needs.
-fn around(rng: &mut Rng, words: Vec<u32>, rounds: u32, steps: u32) -> Case {
-    let mut case = Case {
-        words,
-        rounds,
-        steps,
-        output: 4_096,
-        scratch: SCRATCH_WORDS,
-    };
+/// The case with limits set by what a run with the given ones needs.
+fn around(rng: &mut Rng, mut case: Case, rounds: u32, steps: u32) -> Case {
+    (case.rounds, case.steps) = (rounds, steps);
+    case.scratch += rng.pick(&[0, 0, 1, 100]);
     let Ok(outcome) = case.run() else {
         case.output = rng.below(10);
         return case;
     };
     let used = outcome.words.len();
     case.output = used + rng.below(20);
-    match rng.below(13) {
+    match rng.below(14) {
         0..=3 => (),
         4 => case.steps = outcome.steps,
         5 => case.steps = outcome.steps + 1,
@@ -116,14 +197,11 @@ fn around(rng: &mut Rng, words: Vec<u32>, rounds: u32, steps: u32) -> Case {
         8 => case.output = used,
         9 => case.output = used.saturating_sub(1),
         10 => case.output = rng.below(used + 1),
-        11 => case.rounds = outcome.round,
+        11 => case.output = 0,
+        12 => case.rounds = outcome.round,
         _ => case.rounds = outcome.round.saturating_sub(1),
     }
     case
-}
-
-fn around_path(rng: &mut Rng, words: Vec<u32>) -> Case {
-    around(rng, words, ROUND_LIMIT, STEPS)
 }
 
 /// On either side of a bound.
@@ -154,10 +232,13 @@ fn many_variables(rng: &mut Rng) -> Vec<u32> {
     words
 }
 
-/// Path 2: a relation calls itself ahead of goals that wait: 1 + 11 * 93 = 1 + 31 * 33 = 1,024.
+/// Path 2: a relation calls itself ahead of goals that wait: 1 + 11 * 93 = 1 + 31 * 33 = 1,024, and 1 + 14 * 73 is one less.
 fn many_goals(rng: &mut Rng) -> Vec<u32> {
-    let each = rng.pick(&[93, 93, 93, 33]);
-    let waiting = near(rng, each);
+    let each = rng.pick(&[93, 93, 93, 33, 73]);
+    let waiting = match each {
+        73 => each,
+        _ => near(rng, each),
+    };
     let filler = rng.pick(&[table::words("7:1 1:0"), table::words("12:1 2:1")]);
     let call = table::words("12:1 2:1");
     // Each call puts its body, the conjunction's goals, and the disjunction's alternative if there is one.
@@ -200,9 +281,19 @@ fn many_constraints(rng: &mut Rng) -> Vec<u32> {
     words
 }
 
+/// Path 5: a query term as deep as the bound, or one more or less.
+fn deep_first_parts(rng: &mut Rng) -> Vec<u32> {
+    let depth = near(rng, 512);
+    let goal = part(
+        EQUAL,
+        [table::words("0:0"), gen::deep_term(depth as u32)].concat(),
+    );
+    relation(rng.below(2), 1, goal)
+}
+
 /// Path 5: a term made deep by being wrapped at each of a number of calls, and looked at after the last.
 fn deep_terms(rng: &mut Rng) -> Vec<u32> {
-    let (calls, each) = rng.pick(&[(4, 128), (3, 171), (8, 64), (9, 57)]);
+    let (calls, each) = rng.pick(&[(7, 73), (4, 128), (3, 171), (8, 64), (9, 57)]);
     // Variables: 0 the calls to go as a list, 1 and 2 the terms, 3 the rest of the list, 4 fresh.
     let goal = rng.pick(&[
         table::words("9:2 1:7 0:1"),
@@ -245,5 +336,93 @@ fn deep_terms(rng: &mut Rng) -> Vec<u32> {
     );
     let mut words = relation(1, 1, query);
     words.extend(relation(3, 5, part(DISJUNCTION, [last, next].concat())));
+    words
+}
+
+/// A list of atoms with an open variable here and there.
+fn list(rng: &mut Rng, length: usize, variables: usize) -> Vec<u32> {
+    let mut words = Vec::new();
+    for _ in 0..length {
+        let element = match rng.below(10) {
+            0 => word(VARIABLE, rng.below(variables) as u32),
+            1 => word(NUMBER, 5),
+            at => word(SYMBOL, 100 + at as u32),
+        };
+        words.extend([word(PAIR, 1), element]);
+    }
+    words.push(word(EMPTY, 0));
+    words
+}
+
+/// A relation that goes through a list, by calling itself or with another in turn.
+fn walk(rng: &mut Rng, length: usize) -> Vec<u32> {
+    let query = [
+        table::words("2:1"),
+        list(rng, length, 2),
+        table::words("0:0"),
+    ];
+    let mut words = relation(2, 2, part(CALL, query.concat()));
+    let in_turn = rng.chance(50);
+    for next in if in_turn { vec![2, 1] } else { vec![1] } {
+        // Variables: 0 the list, 1 what is handed on, 2 the list's first, 3 its rest.
+        let of_first = rng.pick(&[
+            "6:2 0:1 0:2",
+            "5:2 0:1 0:2",
+            "9:2 1:105 0:2",
+            "7:1 0:2",
+            "8:1 0:2",
+            "5:2 3:0 3:0",
+        ]);
+        let at_end = rng.pick(&["5:2 0:1 1:107", "6:2 0:1 2:5", "7:1 0:1", "5:2 3:0 3:0"]);
+        let again = part(
+            CALL,
+            [vec![word(NUMBER, next)], table::words("0:3 0:1")].concat(),
+        );
+        let last = ["5:2 0:0 3:0", at_end].map(table::words).concat();
+        let goes_on = ["5:4 0:0 4:1 0:2 0:3", of_first].map(table::words).concat();
+        let mut ways = [
+            part(CONJUNCTION, last),
+            part(CONJUNCTION, [goes_on, again].concat()),
+        ];
+        if rng.chance(50) {
+            ways.reverse();
+        }
+        words.extend(relation(2, 4, part(DISJUNCTION, ways.concat())));
+    }
+    words
+}
+
+/// Constraints on long lists, which differ in one place if at all, and equalities between them.
+fn lists(rng: &mut Rng, length: usize) -> Vec<u32> {
+    let one = list(rng, length, 3);
+    let mut other = one.clone();
+    if rng.chance(70) {
+        let at = 2 * rng.below(length) + 1;
+        other[at] = rng.pick(&[word(VARIABLE, 1), word(VARIABLE, 3), word(SYMBOL, 7)]);
+    }
+    let both = [one.clone(), other].concat();
+    let mut goals = match rng.below(3) {
+        0 => part(DIFFER, both),
+        1 => part(EQUAL, both),
+        _ => part(ABSENTO, [vec![word(SYMBOL, 7)], one].concat()),
+    };
+    goals.extend(table::words(rng.pick(&[
+        "5:2 0:1 1:7",
+        "5:2 0:0 0:1",
+        "7:1 0:2",
+        "5:2 3:0 3:0",
+    ])));
+    relation(3, 4, part(CONJUNCTION, goals))
+}
+
+/// Calls one after the other, as many as the highest round limit, or one more or less.
+fn many_rounds(rng: &mut Rng) -> Vec<u32> {
+    let calls = near(rng, ROUND_LIMIT as usize);
+    let mut words = relation(
+        0,
+        0,
+        part(CONJUNCTION, table::words("12:1 2:1").repeat(calls)),
+    );
+    words.extend(relation(0, 0, table::words("5:2 3:0 3:0")));
     words
 }

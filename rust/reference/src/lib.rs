@@ -2,13 +2,16 @@
 //! speed: the verified engine is compared with it on random programs.
 
 pub mod cases;
+pub mod coverage;
 pub mod fault;
 pub mod gen;
 pub mod listing;
 pub mod read;
 pub mod run;
+pub mod shrink;
 pub mod syntax;
 pub mod table;
+pub mod trace;
 pub mod word;
 
 pub use fault::Fault;

@@ -5,6 +5,7 @@
 use crate::fault::Fault;
 use crate::read::{read, Refusal};
 use crate::syntax::*;
+use crate::trace::{Bounded, Event, Trace};
 use crate::word::*;
 
 /// How a run ended.
@@ -29,6 +30,7 @@ pub struct Outcome {
     pub answer_rounds: Vec<u32>,
     /// All answers, one after the other.
     pub words: Vec<u32>,
+    pub trace: Trace,
 }
 
 pub const ROUND_LIMIT: u32 = 255;
@@ -79,6 +81,7 @@ pub fn run_with(
         steps: 0,
         answer_rounds: Vec::new(),
         words: Vec::new(),
+        trace: Trace::default(),
     };
     let mut round = 0;
     let end = loop {
@@ -99,6 +102,7 @@ pub fn run_with(
         answers: search.answer_rounds.len(),
         answer_rounds: search.answer_rounds,
         words: search.words,
+        trace: search.trace,
     })
 }
 
@@ -201,6 +205,7 @@ struct Search<'p> {
     steps: u32,
     answer_rounds: Vec<u32>,
     words: Vec<u32>,
+    trace: Trace,
 }
 
 impl Search<'_> {
@@ -250,6 +255,7 @@ impl Search<'_> {
             calls: 0,
         };
         path.put(&[query.goal], 0);
+        self.trace.reach(Bounded::Variables, query.variables);
         let mut choices: Vec<Choice> = Vec::new();
         let mut cut = Cut(false);
         loop {
@@ -303,6 +309,8 @@ impl Search<'_> {
                     Some(_) => {
                         for &constraint in &path.constraints {
                             if !self.review(constraint, &path)? {
+                                let kind = self.program[constraint.goal].kind();
+                                self.trace.note(Event::FailedLater(kind));
                                 return Ok(Taken::Failed);
                             }
                         }
@@ -312,13 +320,18 @@ impl Search<'_> {
             Goal::Differ(..) | Goal::Symbolo(_) | Goal::Numbero(_) | Goal::Absento(..) => {
                 self.step((path.constraints.len() == CONSTRAINTS).then_some(4))?;
                 path.constraints.push(task);
+                let count = path.constraints.len();
+                self.trace.reach(Bounded::Constraints, count);
                 if !self.review(task, &path)? {
+                    let kind = self.program[task.goal].kind();
+                    self.trace.note(Event::FailedWhenTaken(kind));
                     return Ok(Taken::Failed);
                 }
             }
             Goal::Conjunction(goals) => {
                 self.step((path.put + goals.len() > GOALS).then_some(2))?;
                 path.put(goals, base);
+                self.trace.reach(Bounded::Goals, path.put);
             }
             Goal::Disjunction(goals) => {
                 let too_many_put = (path.put + 1 > GOALS).then_some(2);
@@ -332,7 +345,9 @@ impl Search<'_> {
                         base,
                     });
                 }
+                self.trace.reach(Bounded::Disjunctions, choices.len());
                 path.put(&goals[..1], base);
+                self.trace.reach(Bounded::Goals, path.put);
             }
             Goal::Call(_, _) if path.calls == round && !self.has(Fault::DepthFirst) => {
                 self.step(None)?;
@@ -351,6 +366,9 @@ impl Search<'_> {
                     path.substitution.bind(made + parameter, argument);
                 }
                 path.put(&[called.goal], made);
+                self.trace
+                    .reach(Bounded::Variables, path.substitution.0.len());
+                self.trace.reach(Bounded::Goals, path.put);
             }
         }
         Ok(Taken::Goes(path))
@@ -386,6 +404,7 @@ impl Search<'_> {
                     self.value(left_second, left_base),
                     self.value(right_second, right_base),
                 ));
+                self.trace.reach(Bounded::Pairs, waiting.len());
                 next = Some((
                     self.value(left_first, left_base),
                     self.value(right_first, right_base),
@@ -401,6 +420,7 @@ impl Search<'_> {
                 _ => return Ok(None),
             };
             if !self.has(Fault::NoOccursCheck) && self.occurs(variable, other, substitution)? {
+                self.trace.note(Event::OccursCheckFailed);
                 return Ok(None);
             }
             substitution.bind(variable, other);
@@ -442,6 +462,7 @@ impl Search<'_> {
         {
             self.step((nodes.waiting.len() == WAITING).then_some(5))?;
             nodes.waiting.push(self.value(second, base));
+            self.trace.reach(Bounded::Nodes, nodes.waiting.len());
             nodes.next = Some(self.value(first, base));
         } else {
             self.step(None)?;
@@ -465,16 +486,12 @@ impl Search<'_> {
         match self.program[constraint.goal] {
             Goal::Symbolo(term) => Ok(match path.substitution.walk(self.value(term, base)) {
                 Value::Symbol(_) => true,
-                Value::Variable(variable) => {
-                    !self.typed(variable, path, |goal| matches!(goal, Goal::Numbero(_)))
-                }
+                Value::Variable(variable) => !self.typed(variable, path, NUMBERO),
                 _ => false,
             }),
             Goal::Numbero(term) => Ok(match path.substitution.walk(self.value(term, base)) {
                 Value::Number(_) => true,
-                Value::Variable(variable) => {
-                    !self.typed(variable, path, |goal| matches!(goal, Goal::Symbolo(_)))
-                }
+                Value::Variable(variable) => !self.typed(variable, path, SYMBOLO),
                 _ => false,
             }),
             Goal::Absento(tag, term) => {
@@ -500,12 +517,13 @@ impl Search<'_> {
         }
     }
 
-    /// Whether the open variable has a type constraint of this sort on the path.
-    fn typed(&self, variable: usize, path: &Path, sort: fn(&Goal) -> bool) -> bool {
-        path.constraints
+    /// Whether the open variable has a type constraint of this kind on the path.
+    fn typed(&mut self, variable: usize, path: &Path, kind: u32) -> bool {
+        let met = path
+            .constraints
             .iter()
             .any(|other| match &self.program[other.goal] {
-                goal @ (Goal::Symbolo(term) | Goal::Numbero(term)) if sort(goal) => {
+                goal @ (Goal::Symbolo(term) | Goal::Numbero(term)) if goal.kind() == kind => {
                     let written = self.value(*term, other.base);
                     let node = match self.has(Fault::TypesDontMeet) {
                         true => written,
@@ -514,7 +532,11 @@ impl Search<'_> {
                     node == Value::Variable(variable)
                 }
                 _ => false,
-            })
+            });
+        if met {
+            self.trace.note(Event::TypesMet);
+        }
+        met
     }
 
     /// Writes the answer of a path that has no goal waiting.
@@ -538,7 +560,9 @@ impl Search<'_> {
                 }
             }
             for line in self.lines(constraint, path, &names)? {
-                if !lines.contains(&line) {
+                if lines.contains(&line) {
+                    self.trace.note(Event::LineRepeated);
+                } else {
                     lines.push(line);
                 }
             }
@@ -564,17 +588,18 @@ impl Search<'_> {
         match self.program[constraint.goal] {
             Goal::Symbolo(term) | Goal::Numbero(term) => {
                 self.step(None)?;
-                let kind = match self.program[constraint.goal] {
-                    Goal::Symbolo(_) => SYMBOLO,
-                    _ => NUMBERO,
-                };
+                let kind = self.program[constraint.goal].kind();
                 let node = path.substitution.walk(self.value(term, base));
-                let variable = match node {
-                    Value::Variable(_) => names.words(&[node]),
-                    _ => None,
+                let Value::Variable(_) = node else {
+                    return Ok(vec![]);
                 };
-                let line = variable.map(|variable| part(kind, &[variable]));
-                Ok(line.into_iter().collect())
+                Ok(match names.words(&[node]) {
+                    Some(variable) => vec![part(kind, &[variable])],
+                    None => {
+                        self.trace.note(Event::LineDropped(kind));
+                        vec![]
+                    }
+                })
             }
             Goal::Absento(tag, term) => {
                 let nodes = self.all_nodes(self.value(term, base), &path.substitution)?;
@@ -585,8 +610,11 @@ impl Search<'_> {
                         continue;
                     }
                     seen.push(node);
-                    if let Some(variable) = names.words(&[node]) {
-                        lines.push(part(ABSENTO, &[vec![word(SYMBOL, tag)], variable]));
+                    match names.words(&[node]) {
+                        Some(variable) => {
+                            lines.push(part(ABSENTO, &[vec![word(SYMBOL, tag)], variable]))
+                        }
+                        None => self.trace.note(Event::LineDropped(ABSENTO)),
                     }
                 }
                 Ok(lines)
@@ -611,7 +639,10 @@ impl Search<'_> {
                 }
                 let differs: Option<Vec<Vec<u32>>> = differs.into_iter().collect();
                 Ok(match differs {
-                    None => vec![],
+                    None => {
+                        self.trace.note(Event::LineDropped(DIFFER));
+                        vec![]
+                    }
                     Some(differs) if differs.len() == 1 => differs,
                     Some(differs) => vec![part(DISJUNCTION, &differs)],
                 })

@@ -36,6 +36,22 @@ pub enum Goal {
     Call(usize, Vec<TermId>),
 }
 
+impl Goal {
+    /// The kind of the goal's first word.
+    pub fn kind(&self) -> u32 {
+        match self {
+            Goal::Equal(..) => EQUAL,
+            Goal::Differ(..) => DIFFER,
+            Goal::Symbolo(_) => SYMBOLO,
+            Goal::Numbero(_) => NUMBERO,
+            Goal::Absento(..) => ABSENTO,
+            Goal::Conjunction(_) => CONJUNCTION,
+            Goal::Disjunction(_) => DISJUNCTION,
+            Goal::Call(..) => CALL,
+        }
+    }
+}
+
 #[derive(Clone, Debug, PartialEq, Eq)]
 pub struct Relation {
     pub parameters: usize,
@@ -121,38 +137,20 @@ pub fn written(program: &Program) -> Vec<u32> {
             match item {
                 Item::Goal(id) => {
                     let count = goal_words[id.0];
+                    words.push(part(program[id].kind(), count));
                     match &program[id] {
-                        Goal::Equal(left, right) => {
-                            words.push(part(EQUAL, count));
+                        Goal::Equal(left, right) | Goal::Differ(left, right) => {
                             parts.extend([Item::Term(*left), Item::Term(*right)]);
                         }
-                        Goal::Differ(left, right) => {
-                            words.push(part(DIFFER, count));
-                            parts.extend([Item::Term(*left), Item::Term(*right)]);
-                        }
-                        Goal::Symbolo(term) => {
-                            words.push(part(SYMBOLO, count));
-                            parts.push(Item::Term(*term));
-                        }
-                        Goal::Numbero(term) => {
-                            words.push(part(NUMBERO, count));
-                            parts.push(Item::Term(*term));
-                        }
+                        Goal::Symbolo(term) | Goal::Numbero(term) => parts.push(Item::Term(*term)),
                         Goal::Absento(tag, term) => {
-                            words.push(part(ABSENTO, count));
                             words.push(word(SYMBOL, *tag));
                             parts.push(Item::Term(*term));
                         }
-                        Goal::Conjunction(goals) => {
-                            words.push(part(CONJUNCTION, count));
-                            parts.extend(goals.iter().map(|&goal| Item::Goal(goal)));
-                        }
-                        Goal::Disjunction(goals) => {
-                            words.push(part(DISJUNCTION, count));
+                        Goal::Conjunction(goals) | Goal::Disjunction(goals) => {
                             parts.extend(goals.iter().map(|&goal| Item::Goal(goal)));
                         }
                         Goal::Call(relation, arguments) => {
-                            words.push(part(CALL, count));
                             words.push(word(NUMBER, *relation as u32));
                             parts.extend(arguments.iter().map(|&term| Item::Term(term)));
                         }

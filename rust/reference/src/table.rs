@@ -89,13 +89,7 @@ fn limited_rows(table: &str) -> impl Iterator<Item = (&str, Case, &str)> {
 
 /// The program with these limits; without them, with those of the listing program.
 fn limited(program: &str, limits: &str) -> Case {
-    let mut case = Case {
-        words: words(program),
-        rounds: 16,
-        steps: 1_000_000,
-        output: 4_096,
-        scratch: 16_384,
-    };
+    let mut case = Case::new("table", words(program));
     for (what, value) in items(limits) {
         match &what[..] {
             "rounds" => case.rounds = number(&value),

@@ -8,14 +8,33 @@ use reference::{run, End};
 use std::fs;
 use std::path::Path;
 
-/// File, round of the end, rounds of the answers, answers.
-const EXAMPLES: [(&str, u32, &[u32], &str); 3] = [
+/// Worked out as each file's comment says: file, round of the end, rounds of the answers, answers.
+const EXAMPLES: [(&str, u32, &[u32], &str); 7] = [
+    ("abo-rh.kp", 2, &[2, 2], "15:2 1:1 1:5 15:2 1:2 1:5"),
     ("abo.kp", 8, &[4, 6], "15:1 1:1 15:1 1:2"),
+    (
+        "exchange.kp",
+        12,
+        &[10, 12],
+        "15:7 4:1 2:1 4:1 2:2 4:1 2:3 3:0 15:7 4:1 2:2 4:1 2:3 4:1 2:1 3:0",
+    ),
+    (
+        "metakanren.kp",
+        14,
+        &[11, 14],
+        "15:2 1:2 3:0 15:6 1:3 4:1 2:1 4:1 2:2 3:0",
+    ),
     (
         "open-typing.kp",
         0,
         &[0],
         "15:13 4:1 1:24 4:1 0:0 3:0 9:2 1:2 0:0 6:2 0:0 1:107 7:1 0:0",
+    ),
+    (
+        "repeats.kp",
+        1,
+        &[1, 1, 1, 1],
+        "15:2 2:1 1:2 15:2 2:3 1:24 15:4 2:4 0:0 7:1 0:0 15:2 2:1 1:2",
     ),
     ("unacceptable.kp", 1, &[1, 1], "15:1 2:2 15:1 2:4"),
 ];

@@ -1,0 +1,313 @@
+//! What a case covers, found by looking at the case and its result, not by asking how it was made.
+
+use crate::cases::{Case, MADE};
+use crate::listing;
+use crate::read::{read, Refusal};
+use crate::run::{End, Outcome, ROUND_LIMIT, SCRATCH_WORDS};
+use crate::syntax::{Goal, GoalId, Program, Term, TermId};
+use crate::trace::{Bounded, Event};
+use crate::word::*;
+use std::collections::BTreeSet;
+
+/// A list of so many elements is long, pairs so deep in first parts are deep.
+const MANY: usize = 100;
+
+/// All that random cases must cover.
+pub fn wanted() -> Vec<String> {
+    let mut all: Vec<String> = [
+        "end finished",
+        "end rounds",
+        "end steps",
+        "end output",
+        "step limit: 0",
+        "step limit: just enough",
+        "step limit: one too low",
+        "output: no words, answer",
+        "output: no words, no answer",
+        "output: just enough",
+        "output: one word short",
+        "output: longer than needed",
+        "scratch: longer than needed",
+        "scratch: one word short",
+        "round limit: 0, rounds used up",
+        "round limit: 255, rounds used up",
+        "round limit: 255, finished in that round",
+        "round limit: 255, finished before",
+        "round limit: 256",
+        "round limit: just enough",
+        "round limit: one too low",
+        "several relations",
+        "recursion",
+        "mutual recursion",
+        "long list",
+        "deep first parts",
+        "occurs check failed",
+        "types met",
+        "answer in a later round",
+        "answer repeated",
+        "answer: open variable in two places",
+        "answer: several under one disjunction",
+        "line repeated",
+    ]
+    .map(String::from)
+    .to_vec();
+    all.extend(MADE.map(|made| format!("made: {made}")));
+    all.extend((1..=5).map(|bound| format!("end path {bound}")));
+    all.extend((1..=9).map(|number| format!("refused {number}")));
+    for bounded in Bounded::ALL {
+        all.extend(["one below", "reached", "exceeded"].map(|what| format!("{bounded:?}: {what}")));
+    }
+    all.extend((EQUAL..=CALL).map(|kind| format!("goal of kind {kind}")));
+    for kind in DIFFER..=ABSENTO {
+        all.push(format!("kind {kind} failed when taken"));
+        all.push(format!("kind {kind} failed after an equality"));
+        all.push(format!("line of kind {kind} listed"));
+        all.push(format!("line of kind {kind} dropped"));
+    }
+    all
+}
+
+/// What the case covers; each is said once.
+pub fn covered(case: &Case, result: &Result<Outcome, Refusal>) -> BTreeSet<String> {
+    let mut all = BTreeSet::from([format!("made: {}", case.made)]);
+    match result {
+        Err(refusal) => {
+            all.insert(format!("refused {}", refusal.number));
+            if refusal.number == 9 {
+                all.extend(settings(case).map(String::from));
+            }
+        }
+        Ok(outcome) => {
+            all.insert(format!("end {}", listing::end(outcome.end)));
+            all.extend(limits(case, outcome).into_iter().map(String::from));
+            all.extend(bounds(outcome));
+            all.extend(events(outcome));
+            all.extend(answers(outcome));
+            let program = read(&case.words).expect("it was run");
+            all.extend(syntax(&program));
+        }
+    }
+    all
+}
+
+/// Of a case refused by 9.
+fn settings(case: &Case) -> impl Iterator<Item = &'static str> {
+    let all = [
+        (case.rounds == ROUND_LIMIT + 1, "round limit: 256"),
+        (case.scratch == SCRATCH_WORDS - 1, "scratch: one word short"),
+    ];
+    all.into_iter()
+        .filter(|(holds, _)| *holds)
+        .map(|(_, name)| name)
+}
+
+/// Where the limits stand to what the run needs.
+fn limits(case: &Case, outcome: &Outcome) -> Vec<&'static str> {
+    let end = outcome.end;
+    let with = |change: fn(&mut Case)| {
+        let mut changed = case.clone();
+        change(&mut changed);
+        changed.run().expect("the limits are allowed").end
+    };
+    let one_too_low = |limited: End, change: fn(&mut Case)| end == limited && with(change) != end;
+    let used = outcome.words.len();
+    let all_rounds = case.rounds == ROUND_LIMIT;
+    let last_round = outcome.round == case.rounds;
+    let facts = [
+        (case.steps == 0, "step limit: 0"),
+        (
+            end != End::Steps && outcome.steps == case.steps,
+            "step limit: just enough",
+        ),
+        (
+            one_too_low(End::Steps, |case| case.steps = case.steps.saturating_add(1)),
+            "step limit: one too low",
+        ),
+        (
+            case.output == 0 && end == End::Output,
+            "output: no words, answer",
+        ),
+        (
+            case.output == 0 && end != End::Output,
+            "output: no words, no answer",
+        ),
+        (
+            end != End::Output && used == case.output && used > 0,
+            "output: just enough",
+        ),
+        (
+            one_too_low(End::Output, |case| case.output += 1),
+            "output: one word short",
+        ),
+        (
+            end != End::Output && used > 0 && used < case.output,
+            "output: longer than needed",
+        ),
+        (case.scratch > SCRATCH_WORDS, "scratch: longer than needed"),
+        (
+            case.rounds == 0 && end == End::Rounds,
+            "round limit: 0, rounds used up",
+        ),
+        (
+            all_rounds && end == End::Rounds,
+            "round limit: 255, rounds used up",
+        ),
+        (
+            all_rounds && end == End::Finished && last_round,
+            "round limit: 255, finished in that round",
+        ),
+        (
+            all_rounds && end == End::Finished && !last_round,
+            "round limit: 255, finished before",
+        ),
+        (
+            end == End::Finished && last_round && case.rounds > 0,
+            "round limit: just enough",
+        ),
+        (
+            case.rounds < ROUND_LIMIT && one_too_low(End::Rounds, |case| case.rounds += 1),
+            "round limit: one too low",
+        ),
+    ];
+    let holding = facts.into_iter().filter(|(holds, _)| *holds);
+    holding.map(|(_, name)| name).collect()
+}
+
+/// How near the run came to each bound on a path.
+fn bounds(outcome: &Outcome) -> Vec<String> {
+    let most = |bounded| outcome.trace.most(bounded);
+    let mut all = Vec::new();
+    for bounded in Bounded::ALL {
+        let bound = bounded.bound();
+        let exceeded = match bounded {
+            // One bound for both: the one that is filled was to be exceeded.
+            Bounded::Pairs => most(Bounded::Pairs) == bound && most(Bounded::Nodes) < bound,
+            Bounded::Nodes => most(Bounded::Nodes) == bound && most(Bounded::Pairs) < bound,
+            _ => true,
+        };
+        let number = (bounded as u32 + 1).min(5);
+        let near = match outcome.end == End::Path(number) {
+            true if exceeded => "exceeded",
+            true => continue,
+            false if most(bounded) == bound => "reached",
+            false if most(bounded) + 1 == bound => "one below",
+            false => continue,
+        };
+        all.push(format!("{bounded:?}: {near}"));
+    }
+    all
+}
+
+fn events(outcome: &Outcome) -> impl Iterator<Item = String> + '_ {
+    outcome.trace.events.iter().map(|event| match event {
+        Event::OccursCheckFailed => "occurs check failed".to_string(),
+        Event::FailedWhenTaken(kind) => format!("kind {kind} failed when taken"),
+        Event::FailedLater(kind) => format!("kind {kind} failed after an equality"),
+        Event::TypesMet => "types met".to_string(),
+        Event::LineDropped(kind) => format!("line of kind {kind} dropped"),
+        Event::LineRepeated => "line repeated".to_string(),
+    })
+}
+
+fn answers(outcome: &Outcome) -> Vec<String> {
+    let mut all = Vec::new();
+    let mut earlier: BTreeSet<&[u32]> = BTreeSet::new();
+    let mut rest = &outcome.words[..];
+    while let Some(&first) = rest.first() {
+        let (answer, later) = rest.split_at(1 + payload(first) as usize);
+        if !earlier.insert(answer) {
+            all.push("answer repeated".to_string());
+        }
+        let lines = answer
+            .iter()
+            .position(|&word| kind(word) >= EQUAL && kind(word) < ANSWER);
+        let (terms, lines) = answer.split_at(lines.unwrap_or(answer.len()));
+        let variables: Vec<&u32> = terms
+            .iter()
+            .filter(|&&word| kind(word) == VARIABLE)
+            .collect();
+        if variables.iter().collect::<BTreeSet<_>>().len() < variables.len() {
+            all.push("answer: open variable in two places".to_string());
+        }
+        for line in lines.iter().map(|&word| kind(word)) {
+            match line {
+                DISJUNCTION => all.push("answer: several under one disjunction".to_string()),
+                DIFFER..=ABSENTO => all.push(format!("line of kind {line} listed")),
+                _ => (),
+            }
+        }
+        rest = later;
+    }
+    if outcome.answer_rounds.iter().any(|&round| round >= 2) {
+        all.push("answer in a later round".to_string());
+    }
+    all
+}
+
+fn syntax(program: &Program) -> BTreeSet<String> {
+    let mut all = BTreeSet::new();
+    let mut calls: Vec<BTreeSet<usize>> = Vec::new();
+    for relation in &program.relations {
+        let mut called = BTreeSet::new();
+        for goal in goals(program, relation.goal) {
+            all.insert(format!("goal of kind {}", program[goal].kind()));
+            if let Goal::Call(number, _) = program[goal] {
+                called.insert(number);
+            }
+            for term in terms(&program[goal]) {
+                if chain(program, term, |_, second| second) >= MANY {
+                    all.insert("long list".to_string());
+                }
+                if chain(program, term, |first, _| first) >= MANY {
+                    all.insert("deep first parts".to_string());
+                }
+            }
+        }
+        calls.push(called);
+    }
+    if calls.len() > 1 {
+        all.insert("several relations".to_string());
+    }
+    for (number, called) in calls.iter().enumerate() {
+        if called.contains(&number) {
+            all.insert("recursion".to_string());
+        }
+        let back = |&other: &usize| other != number && calls[other].contains(&number);
+        if called.iter().any(back) {
+            all.insert("mutual recursion".to_string());
+        }
+    }
+    all
+}
+
+/// A goal and all within it.
+fn goals(program: &Program, goal: GoalId) -> Vec<GoalId> {
+    let mut all = vec![goal];
+    let mut at = 0;
+    while at < all.len() {
+        if let Goal::Conjunction(goals) | Goal::Disjunction(goals) = &program[all[at]] {
+            all.extend(goals);
+        }
+        at += 1;
+    }
+    all
+}
+
+fn terms(goal: &Goal) -> Vec<TermId> {
+    match goal {
+        Goal::Equal(left, right) | Goal::Differ(left, right) => vec![*left, *right],
+        Goal::Symbolo(term) | Goal::Numbero(term) | Goal::Absento(_, term) => vec![*term],
+        Goal::Conjunction(_) | Goal::Disjunction(_) => vec![],
+        Goal::Call(_, arguments) => arguments.clone(),
+    }
+}
+
+/// How many pairs follow one another by the given part.
+fn chain(program: &Program, mut term: TermId, next: fn(TermId, TermId) -> TermId) -> usize {
+    let mut length = 0;
+    while let Term::Pair(first, second) = program[term] {
+        term = next(first, second);
+        length += 1;
+    }
+    length
+}

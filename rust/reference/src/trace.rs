@@ -1,0 +1,73 @@
+//! What happened in a run, to count what random programs reach. No part of a run's result.
+
+use crate::run::{CONSTRAINTS, DISJUNCTIONS, GOALS, VARIABLES, WAITING};
+use std::collections::BTreeSet;
+
+#[derive(Clone, Copy, Debug, PartialEq, Eq, PartialOrd, Ord)]
+pub enum Event {
+    /// In an equality or a trial.
+    OccursCheckFailed,
+    /// A constraint of this kind failed when it was taken.
+    FailedWhenTaken(u32),
+    /// A constraint of this kind failed after a later equality.
+    FailedLater(u32),
+    /// An open variable was reached by a symbolo and a numbero.
+    TypesMet,
+    /// A line of this kind mentioned a variable absent from the query terms.
+    LineDropped(u32),
+    LineRepeated,
+}
+
+/// What is bounded on a path.
+#[derive(Clone, Copy, Debug)]
+pub enum Bounded {
+    Variables,
+    Goals,
+    Disjunctions,
+    Constraints,
+    Pairs,
+    Nodes,
+}
+
+impl Bounded {
+    pub const ALL: [Bounded; 6] = [
+        Bounded::Variables,
+        Bounded::Goals,
+        Bounded::Disjunctions,
+        Bounded::Constraints,
+        Bounded::Pairs,
+        Bounded::Nodes,
+    ];
+
+    pub fn bound(self) -> usize {
+        match self {
+            Bounded::Variables => VARIABLES,
+            Bounded::Goals => GOALS,
+            Bounded::Disjunctions => DISJUNCTIONS,
+            Bounded::Constraints => CONSTRAINTS,
+            Bounded::Pairs | Bounded::Nodes => WAITING,
+        }
+    }
+}
+
+#[derive(Clone, Debug, Default, PartialEq, Eq)]
+pub struct Trace {
+    pub events: BTreeSet<Event>,
+    most: [usize; 6],
+}
+
+impl Trace {
+    pub fn note(&mut self, event: Event) {
+        self.events.insert(event);
+    }
+
+    pub fn reach(&mut self, what: Bounded, count: usize) {
+        let most = &mut self.most[what as usize];
+        *most = count.max(*most);
+    }
+
+    /// The most that there were at one moment of the run.
+    pub fn most(&self, what: Bounded) -> usize {
+        self.most[what as usize]
+    }
+}

@@ -1,5 +1,5 @@
 //! `bench DATE FILE`: times the proved engine beside the same engine in plain Rust and beside SWI-Prolog, prints the tables and
-//! writes them to FILE. All columns of a row are measured in turn, several times over, and the best time of each is taken.
+//! writes them to FILE.
 
 mod plain;
 mod programs;
@@ -17,10 +17,13 @@ use std::path::{Path, PathBuf};
 use std::process::{exit, Command};
 use std::time::Instant;
 
-/// How often the columns are measured in turn.
-const TURNS: usize = 5;
+/// How often the two engines are measured in turn, and SWI-Prolog once in how many of these turns.
+const TURNS: usize = 20;
+const TURNS_PER_SWI: usize = 5;
 /// How long one engine is timed in one turn, at least.
-const SPAN: f64 = 0.1;
+const SPAN: f64 = 0.05;
+/// How many steps are timed in all for each step limit of the second table, at least.
+const STEPS: u32 = 100_000_000;
 
 const STYLES: [Style; 2] = [Style::Body, Style::Clauses];
 
@@ -36,11 +39,11 @@ struct Bench {
 impl Bench {
     /// Runs both engines once and sees that they agree on everything. The output is cut to what is written, so that clearing its rest
     /// takes no time.
-    fn new(words: Vec<u32>, rounds: u32, steps: u32) -> (Bench, Report) {
+    fn new(words: Vec<u32>, rounds: u32) -> (Bench, Report) {
         let mut bench = Bench {
             words,
             rounds,
-            steps,
+            steps: u32::MAX,
             output: vec![1; 1 << 22],
             scratch: vec![1; 16384],
         };
@@ -57,89 +60,139 @@ impl Bench {
     }
 
     fn proved(&mut self) -> Report {
-        proved::run(&self.words, self.rounds, self.steps, &mut self.output, &mut self.scratch)
-            .expect("the program is accepted")
+        proved::run(
+            &self.words,
+            self.rounds,
+            self.steps,
+            &mut self.output,
+            &mut self.scratch,
+        )
+        .expect("the program is accepted")
     }
 
     fn plain(&mut self) -> Report {
         // SAFETY: the proved engine has accepted the program, and the scratch is long enough.
-        unsafe { plain::run(&self.words, self.rounds, self.steps, &mut self.output, &mut self.scratch) }
-    }
-}
-
-/// The best seconds of one run, over at least one run and at least `span` seconds.
-fn best(span: f64, mut run: impl FnMut()) -> f64 {
-    let begun = Instant::now();
-    let mut best = f64::INFINITY;
-    loop {
-        let start = Instant::now();
-        run();
-        best = best.min(start.elapsed().as_secs_f64());
-        if begun.elapsed().as_secs_f64() >= span {
-            return best;
+        unsafe {
+            plain::run(
+                &self.words,
+                self.rounds,
+                self.steps,
+                &mut self.output,
+                &mut self.scratch,
+            )
         }
     }
 }
 
-/// A row of the first table: seconds of a whole run.
+/// The best seconds of one run, over at least `SPAN` seconds.
+fn best(mut run: impl FnMut()) -> f64 {
+    let begun = Instant::now();
+    let mut best = f64::INFINITY;
+    while begun.elapsed().as_secs_f64() < SPAN {
+        best = best.min(seconds(&mut run));
+    }
+    best
+}
+
+fn seconds(run: impl FnOnce()) -> f64 {
+    let start = Instant::now();
+    run();
+    start.elapsed().as_secs_f64()
+}
+
+/// A row of the first table.
 struct Row {
     name: &'static str,
     report: Report,
-    proved: f64,
-    plain: f64,
-    /// In the order of `STYLES`; none without SWI-Prolog.
+    /// The best seconds of a run, of the proved engine and of the plain one.
+    best: [f64; 2],
+    /// The time of the proved engine over that of the plain one: the median of the turns.
+    over_plain: f64,
+    /// The time of SWI-Prolog in each style over that of the proved engine, where it is installed.
     swi: Option<[f64; 2]>,
 }
 
 fn measure(program: &Program, swi: Option<&Path>) -> Row {
     let rules = rules::parse(&program.text);
-    let (mut bench, report) = Bench::new(words::words(&rules), program.rounds, u32::MAX);
-    assert!(matches!(report.end, End::Finished | End::Rounds), "{}: {report:?}", program.name);
-    let files = STYLES.map(|style| prolog::program(&rules, program.rounds, style));
-    let mut row = Row {
-        name: program.name,
-        report,
-        proved: f64::INFINITY,
-        plain: f64::INFINITY,
-        swi: swi.map(|_| [f64::INFINITY; 2]),
-    };
-    for _ in 0..TURNS {
-        row.proved = row.proved.min(best(SPAN, || assert_eq!(bench.proved(), report)));
-        row.plain = row.plain.min(best(SPAN, || assert_eq!(bench.plain(), report)));
-        if let (Some(folder), Some(seconds)) = (swi, &mut row.swi) {
-            for (text, best) in files.iter().zip(seconds) {
-                *best = best.min(run_prolog(folder, text, report.answers));
+    let (mut bench, report) = Bench::new(words::words(&rules), program.rounds);
+    assert!(
+        matches!(report.end, End::Finished | End::Rounds),
+        "{}: {report:?}",
+        program.name
+    );
+    let texts = STYLES.map(|style| prolog::program(&rules, program.rounds, style));
+    let mut best_of = [f64::INFINITY; 2];
+    let mut over_plain = Vec::new();
+    let mut over_proved = [Vec::new(), Vec::new()];
+    for turn in 0..TURNS {
+        let proved = best(|| assert_eq!(bench.proved(), report));
+        let plain = best(|| assert_eq!(bench.plain(), report));
+        best_of = [best_of[0].min(proved), best_of[1].min(plain)];
+        over_plain.push(proved / plain);
+        if let (Some(folder), 0) = (swi, turn % TURNS_PER_SWI) {
+            for (text, ratios) in texts.iter().zip(&mut over_proved) {
+                ratios.push(run_prolog(folder, text, report.answers) / proved);
             }
         }
     }
-    row
+    Row {
+        name: program.name,
+        report,
+        best: best_of,
+        over_plain: median(over_plain),
+        swi: swi.map(|_| over_proved.map(median)),
+    }
+}
+
+fn median(mut values: Vec<f64>) -> f64 {
+    values.sort_by(f64::total_cmp);
+    values[values.len() / 2]
 }
 
 /// The seconds that SWI-Prolog takes for the rounds, once its program is loaded.
 fn run_prolog(folder: &Path, text: &str, answers: u32) -> f64 {
     let file = folder.join("program.pl");
     fs::write(&file, text).expect("the temporary folder can be written");
-    let run = Command::new("swipl").arg(&file).output().expect("swipl can be run");
+    let run = Command::new("swipl")
+        .arg(&file)
+        .output()
+        .expect("swipl can be run");
     let said = String::from_utf8_lossy(&run.stdout);
     let numbers: Vec<&str> = said.split_whitespace().collect();
     match numbers[..] {
         [counted, seconds] if counted.parse() == Ok(answers) => seconds.parse().expect("seconds"),
-        _ => panic!("SWI-Prolog does not give {answers} answers: {said}{}", String::from_utf8_lossy(&run.stderr)),
+        _ => panic!(
+            "SWI-Prolog does not give {answers} answers: {said}{}",
+            String::from_utf8_lossy(&run.stderr)
+        ),
     }
 }
 
-/// Nanoseconds a step of the proved engine and of the plain one, with a step limit.
-fn at_steps(program: &Program, steps: u32) -> (f64, f64) {
-    let words = words::words(&rules::parse(&program.text));
-    let (mut bench, report) = Bench::new(words, program.rounds, steps);
-    assert_eq!(report.end, End::Steps, "{} takes {steps} steps", program.name);
-    let (mut proved, mut plain) = (f64::INFINITY, f64::INFINITY);
-    let (turns, span) = if steps < 100_000_000 { (TURNS, SPAN) } else { (1, 0.0) };
-    for _ in 0..turns {
-        proved = proved.min(best(span, || assert_eq!(bench.proved(), report)));
-        plain = plain.min(best(span, || assert_eq!(bench.plain(), report)));
+/// Nanoseconds a step of the proved engine and of the plain one, with a step limit: the mean over as many runs as `STEPS` needs, in
+/// turn. One run of 10^9 steps is met by whatever else the machine does, so the best of many short ones would not compare with it.
+fn at_steps(program: &Program, steps: u32) -> [f64; 2] {
+    let mut bench = Bench {
+        words: words::words(&rules::parse(&program.text)),
+        rounds: program.rounds,
+        steps,
+        output: Vec::new(),
+        scratch: vec![0; 16384],
+    };
+    let runs = STEPS.div_ceil(steps);
+    let mut sums = [0.0; 2];
+    for _ in 0..runs {
+        let (mut proved, mut plain) = (None, None);
+        sums[0] += seconds(|| proved = Some(bench.proved()));
+        sums[1] += seconds(|| plain = Some(bench.plain()));
+        assert_eq!(proved, plain);
+        assert_eq!(
+            proved.map(|report| report.end),
+            Some(End::Steps),
+            "{}",
+            program.name
+        );
     }
-    (nanoseconds(proved, steps), nanoseconds(plain, steps))
+    sums.map(|sum| nanoseconds(sum / f64::from(runs), steps))
 }
 
 fn nanoseconds(seconds: f64, steps: u32) -> f64 {
@@ -151,19 +204,15 @@ fn first_table(rows: &[Row]) -> String {
     text += "| program | steps | answers | proved, ns a step | plain, ns a step | proved / plain | SWI / proved | SWI by clauses / proved |\n";
     text += "|---|--:|--:|--:|--:|--:|--:|--:|\n";
     for row in rows {
+        let [proved, plain] = row.best.map(|best| nanoseconds(best, row.report.steps));
         let swi = match row.swi {
-            Some([body, clauses]) => format!("{:.2} | {:.2}", body / row.proved, clauses / row.proved),
+            Some([body, clauses]) => format!("{body:.2} | {clauses:.2}"),
             None => "not installed | not installed".to_string(),
         };
         writeln!(
             text,
-            "| {} | {} | {} | {:.2} | {:.2} | {:.2} | {swi} |",
-            row.name,
-            row.report.steps,
-            row.report.answers,
-            nanoseconds(row.proved, row.report.steps),
-            nanoseconds(row.plain, row.report.steps),
-            row.proved / row.plain,
+            "| {} | {} | {} | {proved:.2} | {plain:.2} | {:.2} | {swi} |",
+            row.name, row.report.steps, row.report.answers, row.over_plain,
         )
         .unwrap();
     }
@@ -172,15 +221,16 @@ fn first_table(rows: &[Row]) -> String {
 
 fn second_table() -> String {
     let mut text = String::new();
-    text += "| program | 10^5 steps | 10^7 steps | 10^9 steps | plain: 10^5 | 10^7 | 10^9 |\n";
-    text += "|---|--:|--:|--:|--:|--:|--:|\n";
+    text += "| program | proved: 10^5 steps | 10^7 | 10^9 | plain: 10^5 steps | 10^7 | 10^9 | proved: 10^9 / 10^5 | plain: 10^9 / 10^5 |\n";
+    text += "|---|--:|--:|--:|--:|--:|--:|--:|--:|\n";
     for program in programs::endless() {
         let times = [100_000, 10_000_000, 1_000_000_000].map(|steps| at_steps(&program, steps));
-        let cells: Vec<String> = times
+        let [proved, plain] = [0, 1].map(|engine| times.map(|time| time[engine]));
+        let growths = [proved, plain].map(|time| time[2] / time[0]);
+        let cells: Vec<String> = [&proved[..], &plain, &growths]
+            .concat()
             .iter()
-            .map(|time| time.0)
-            .chain(times.iter().map(|time| time.1))
-            .map(|time| format!("{time:.2}"))
+            .map(|cell| format!("{cell:.2}"))
             .collect();
         writeln!(text, "| {} | {} |", program.name, cells.join(" | ")).unwrap();
     }
@@ -189,8 +239,12 @@ fn second_table() -> String {
 
 fn processor() -> String {
     let info = fs::read_to_string("/proc/cpuinfo").unwrap_or_default();
-    let model = info.lines().find_map(|line| line.strip_prefix("model name")?.split_once(": "));
-    model.map_or("an unknown processor".to_string(), |(_, name)| name.trim().to_string())
+    let model = info
+        .lines()
+        .find_map(|line| line.strip_prefix("model name")?.split_once(": "));
+    model.map_or("an unknown processor".to_string(), |(_, name)| {
+        name.trim().to_string()
+    })
 }
 
 /// Makes a folder for programs where SWI-Prolog is installed, and says its version.
@@ -198,7 +252,10 @@ fn find_swi() -> Option<(PathBuf, String)> {
     let version = Command::new("swipl").arg("--version").output().ok()?;
     let folder = std::env::temp_dir().join(format!("bench-{}", std::process::id()));
     fs::create_dir_all(&folder).expect("the temporary folder can be written");
-    Some((folder, String::from_utf8_lossy(&version.stdout).trim().to_string()))
+    Some((
+        folder,
+        String::from_utf8_lossy(&version.stdout).trim().to_string(),
+    ))
 }
 
 fn main() {
@@ -209,7 +266,10 @@ fn main() {
     };
     let swi = find_swi();
     let folder = swi.as_ref().map(|swi| swi.0.as_path());
-    let rows: Vec<Row> = programs::compared().iter().map(|program| measure(program, folder)).collect();
+    let rows: Vec<Row> = programs::compared()
+        .iter()
+        .map(|program| measure(program, folder))
+        .collect();
     if let Some(folder) = folder {
         fs::remove_dir_all(folder).expect("the temporary folder can be removed");
     }

@@ -112,7 +112,13 @@ enum Line {
 ///
 /// # Safety
 /// The program must be accepted by `kindcanvas_check` and the scratch have at least 16,384 words.
-pub unsafe fn run(program: &[u32], limit: u32, steps: u32, output: &mut [u32], scratch: &mut [u32]) -> Report {
+pub unsafe fn run(
+    program: &[u32],
+    limit: u32,
+    steps: u32,
+    output: &mut [u32],
+    scratch: &mut [u32],
+) -> Report {
     scratch.fill(0);
     let memory = Memory {
         program: program.as_ptr(),
@@ -395,7 +401,8 @@ impl Memory {
             }
             ABSENTO => {
                 let tag = self.word(constraint + 1);
-                self.scan(tag, constraint + 2, 0, &mut state.left).map(|found| !found)
+                self.scan(tag, constraint + 2, 0, &mut state.left)
+                    .map(|found| !found)
             }
             SYMBOLO => Ok(self.review_type(state, constraint + 1, SYMBOL, NUMBERO)),
             _ => Ok(self.review_type(state, constraint + 1, NUMBER, SYMBOLO)),
@@ -571,7 +578,13 @@ impl Memory {
     }
 
     /// Turn after turn, until a path gives an answer or the round ends.
-    fn search(self, state: &mut State, task: u32, round: u32, cuts: &mut u32) -> Result<Searched, Stop> {
+    fn search(
+        self,
+        state: &mut State,
+        task: u32,
+        round: u32,
+        cuts: &mut u32,
+    ) -> Result<Searched, Stop> {
         let mut goal = task;
         loop {
             match self.take(state, goal, round)? {
@@ -637,7 +650,8 @@ impl Writer {
     #[inline(always)]
     fn put_head(&self, start: usize, next: usize, kind: u32, write: bool) -> Option<usize> {
         let size = (next - start - 1) as u32;
-        self.put_word(start, kind << 28 | size, write).then_some(next)
+        self.put_word(start, kind << 28 | size, write)
+            .then_some(next)
     }
 
     #[inline(always)]
@@ -665,11 +679,23 @@ impl Writer {
     }
 
     /// Equation `i` of a trial whose bindings are kept from `mark` on.
-    fn put_equation(&self, mark: u32, i: u32, start: usize, end: usize, write: bool) -> Option<usize> {
+    fn put_equation(
+        &self,
+        mark: u32,
+        i: u32,
+        start: usize,
+        end: usize,
+        write: bool,
+    ) -> Option<usize> {
         if end <= start {
             return None;
         }
-        let middle = self.put(start + 1, end, self.number(kept_variable(self.memory, i)), write)?;
+        let middle = self.put(
+            start + 1,
+            end,
+            self.number(kept_variable(self.memory, i)),
+            write,
+        )?;
         let next = self.put_term(self.memory.get(TRAIL + mark + i), middle, end, write)?;
         self.put_head(start, next, DIFFER, write)
     }
@@ -723,7 +749,8 @@ impl Writer {
         match line {
             Line::Typed(_, open) | Line::Lacks(_, open) => self.has_name(open),
             Line::Differ(mark, count) => (0..count).all(|i| {
-                self.has_name(kept_variable(self.memory, i)) && self.all_named(self.memory.get(TRAIL + mark + i))
+                self.has_name(kept_variable(self.memory, i))
+                    && self.all_named(self.memory.get(TRAIL + mark + i))
             }),
         }
     }
@@ -749,11 +776,19 @@ impl Writer {
         self.put_line(line, at, self.end, true)
     }
 
-    fn add_absent(&self, tag: u32, mut term: u32, first: usize, mut page: Option<usize>) -> Option<usize> {
+    fn add_absent(
+        &self,
+        tag: u32,
+        mut term: u32,
+        first: usize,
+        mut page: Option<usize>,
+    ) -> Option<usize> {
         loop {
             let (found, word) = self.memory.walk(term);
             match kind(word) {
-                VARIABLE => return self.add_line(Line::Lacks(tag, variable(found, word)), first, page),
+                VARIABLE => {
+                    return self.add_line(Line::Lacks(tag, variable(found, word)), first, page)
+                }
                 PAIR => {
                     page = self.add_absent(tag, found + 1, first, page);
                     term = found + 1 + payload(word);
@@ -793,7 +828,9 @@ impl Writer {
                 memory.look(constraint + 1, &mut state.left)?;
                 let (found, word) = memory.walk(constraint + 1);
                 match kind(word) {
-                    VARIABLE => Ok(self.add_line(Line::Typed(typed, variable(found, word)), first, page)),
+                    VARIABLE => {
+                        Ok(self.add_line(Line::Typed(typed, variable(found, word)), first, page))
+                    }
                     _ => Ok(page),
                 }
             }
@@ -812,7 +849,9 @@ impl Writer {
         if self.end <= self.used {
             return None;
         }
-        (0..params).try_fold(self.used + 1, |at, parameter| self.put_parameter(parameter, at))
+        (0..params).try_fold(self.used + 1, |at, parameter| {
+            self.put_parameter(parameter, at)
+        })
     }
 
     /// Writes the answer of a path behind those already there.
@@ -889,12 +928,8 @@ fn keep_equations(memory: Memory, state: &mut State, mark: u32) {
         memory.set(open, 0);
         let i = state.trail - mark;
         let at = PAIRS + i / 2;
-        let word = memory.get(at);
-        if i % 2 == 0 {
-            memory.set(at, word & 0xffff_0000 | open);
-        } else {
-            memory.set(at, word & 0xffff | open << 16);
-        }
+        let shift = 16 * (i % 2);
+        memory.set(at, memory.get(at) & !(0xffff << shift) | open << shift);
     }
 }
 

@@ -21,16 +21,23 @@ pub fn compared() -> Vec<Program> {
         program("absence over long lists", absence, 255),
         program("wide disjunctions", wide, 255),
         program("deep unification", deep(), 255),
-        program("metaKanren, a connective sought", metakanren(CONNECTIVE), 255),
+        program(
+            "metaKanren, a connective sought",
+            metakanren(CONNECTIVE),
+            255,
+        ),
         program("metaKanren, a goal sought", metakanren(GOAL), 13),
     ]
 }
 
 /// Programs that take more than 10^9 steps.
 pub fn endless() -> Vec<Program> {
-    let cycle = include_str!("../programs/cycle.rules").replace("{rows}", &rows(200));
+    let typing = include_str!("../programs/typing_long.rules").replace("{antigens}", &antigens(24));
+    let absence =
+        include_str!("../programs/absence_long.rules").replace("{donors}", &donors(40, 100));
     vec![
-        program("wide disjunctions, a long chain", cycle, 255),
+        program("typings with disequalities", typing, 255),
+        program("absence over long lists", absence, 255),
         program("metaKanren, a goal sought", metakanren(GOAL), 255),
     ]
 }
@@ -55,12 +62,22 @@ fn numbers(count: usize) -> String {
     numbers.join(" ")
 }
 
+fn antigens(count: usize) -> String {
+    let antigens: Vec<String> = (0..count)
+        .map(|antigen| format!("(same x 'a{antigen})"))
+        .collect();
+    antigens.join(" ")
+}
+
 /// Numbers that look random and are the same in every run.
 struct Random(u64);
 
 impl Random {
     fn below(&mut self, bound: u64) -> u64 {
-        self.0 = self.0.wrapping_mul(6364136223846793005).wrapping_add(1442695040888963407);
+        self.0 = self
+            .0
+            .wrapping_mul(6364136223846793005)
+            .wrapping_add(1442695040888963407);
         (self.0 >> 33) % bound
     }
 }
@@ -70,12 +87,19 @@ fn donors(count: usize, length: usize) -> String {
     let mut random = Random(1);
     let mut text = String::new();
     for donor in 0..count {
-        let mut typing: Vec<String> = (0..length).map(|_| format!("'a{}", random.below(60))).collect();
+        let mut typing: Vec<String> = (0..length)
+            .map(|_| format!("'a{}", random.below(60)))
+            .collect();
         if random.below(2) == 0 {
             let place = length - 1 - random.below(10) as usize;
             typing[place] = format!("'x{}", 1 + random.below(4));
         }
-        write!(text, "(all (same d 'd{donor}) (same t ({}))) ", typing.join(" ")).unwrap();
+        write!(
+            text,
+            "(all (same d 'd{donor}) (same t ({}))) ",
+            typing.join(" ")
+        )
+        .unwrap();
     }
     text
 }
@@ -84,7 +108,13 @@ fn rows(count: usize) -> String {
     let mut random = Random(2);
     let mut text = String::new();
     for _ in 0..count {
-        write!(text, "(all (same x 'p{}) (same y 'p{})) ", random.below(50), random.below(50)).unwrap();
+        write!(
+            text,
+            "(all (same x 'p{}) (same y 'p{})) ",
+            random.below(50),
+            random.below(50)
+        )
+        .unwrap();
     }
     text
 }

@@ -97,7 +97,9 @@ fn goal_mentions(goal: &Goal, variable: usize) -> bool {
     match goal {
         Goal::Same(a, b) | Goal::Other(a, b) => mentions(a, variable) || mentions(b, variable),
         Goal::Symbol(a) | Goal::Number(a) | Goal::Without(_, a) => mentions(a, variable),
-        Goal::All(goals) | Goal::Any(goals) => goals.iter().any(|goal| goal_mentions(goal, variable)),
+        Goal::All(goals) | Goal::Any(goals) => {
+            goals.iter().any(|goal| goal_mentions(goal, variable))
+        }
         Goal::Call(_, terms) => terms.iter().any(|term| mentions(term, variable)),
     }
 }
@@ -110,7 +112,13 @@ fn calls(goal: &Goal) -> bool {
     }
 }
 
-fn conjunction(rules: &Rules, goals: &[Goal], before: &str, after: &str, fresh: &mut usize) -> String {
+fn conjunction(
+    rules: &Rules,
+    goals: &[Goal],
+    before: &str,
+    after: &str,
+    fresh: &mut usize,
+) -> String {
     let last = goals.iter().rposition(calls);
     let mut parts = Vec::new();
     let mut at = before.to_string();

@@ -52,7 +52,11 @@ pub fn parse(text: &str) -> Rules {
     while tokens.peek().is_some() {
         forms.push(form(&mut tokens));
     }
-    let numbers = forms.iter().enumerate().map(|(number, form)| (name_of(form), number)).collect();
+    let numbers = forms
+        .iter()
+        .enumerate()
+        .map(|(number, form)| (name_of(form), number))
+        .collect();
     let mut reader = Reader {
         rules: numbers,
         symbols: HashMap::new(),
@@ -67,7 +71,10 @@ pub fn parse(text: &str) -> Rules {
 }
 
 fn tokens(text: &str) -> Vec<String> {
-    let text: Vec<&str> = text.lines().map(|line| line.split(';').next().unwrap_or("")).collect();
+    let text: Vec<&str> = text
+        .lines()
+        .map(|line| line.split(';').next().unwrap_or(""))
+        .collect();
     let text = text.join("\n").replace('(', " ( ").replace(')', " ) ");
     text.split_whitespace().map(str::to_string).collect()
 }
@@ -137,8 +144,14 @@ impl Reader {
             ("all", goals) => Goal::All(goals.iter().map(|goal| self.goal(goal, names)).collect()),
             ("any", goals) => Goal::Any(goals.iter().map(|goal| self.goal(goal, names)).collect()),
             (name, terms) => {
-                let rule = *self.rules.get(name).unwrap_or_else(|| panic!("no rule {name}"));
-                Goal::Call(rule, terms.iter().map(|term| self.term(term, names)).collect())
+                let rule = *self
+                    .rules
+                    .get(name)
+                    .unwrap_or_else(|| panic!("no rule {name}"));
+                Goal::Call(
+                    rule,
+                    terms.iter().map(|term| self.term(term, names)).collect(),
+                )
             }
         }
     }

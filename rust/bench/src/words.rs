@@ -32,7 +32,9 @@ fn goal(words: &mut Vec<u32>, goal: &Goal) {
         term(words, a);
         term(words, b);
     };
-    let goals = |words: &mut Vec<u32>, goals: &[Goal]| goals.iter().for_each(|goal| self::goal(words, goal));
+    let goals = |words: &mut Vec<u32>, goals: &[Goal]| {
+        goals.iter().for_each(|goal| self::goal(words, goal))
+    };
     match goal {
         Goal::Same(a, b) => part(words, 5, |words| two(words, a, b)),
         Goal::Other(a, b) => part(words, 6, |words| two(words, a, b)),

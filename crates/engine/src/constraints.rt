@@ -55,7 +55,7 @@ fn add_differ(
         → Differs (now (program .entry)) (now (scratch .entry)) bs left u right v trail
         → AddedAs (now (program .entry)) (now (scratch .entry)) (now (scratch .exit)) g (now (output .exit)) bs (lines-of bs (differ u v) steps) r) ⌝ }
 {
-    match unify(program, scratch, left, right, trail, steps) {
+    match unify(&*program, scratch, left, right, trail, steps) {
         Unified::Failed(top, rest) => {
             undo(scratch, trail, top);
             return Added::Done(written, rest);

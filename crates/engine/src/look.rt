@@ -21,7 +21,7 @@ pub(crate) fn look(program: &[u32], scratch: &[u32], term: u32, steps: u32) -> L
     requires { ⌜ ((bs : Substitution) × (t : Term) × Follows (now program) (now scratch) bs term t) ⌝ }
     ensures { λ r. ⌜ ((bs : Substitution) (t : Term) → Follows (now (program .entry)) (now (scratch .entry)) bs term t → LookedAs bs t steps r) ⌝ }
 {
-    match scan(program, scratch, 1073741824, term, 0, steps) {
+    match scan(&*program, &*scratch, 1073741824, term, 0, steps) {
         Scanned::Found(left) => {
             return Looked::Done(left);
         }

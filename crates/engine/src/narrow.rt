@@ -54,13 +54,13 @@ pub(crate) fn take_equal(program: &[u32], scratch: &mut [u32], st: State, goal: 
         → TookAs P (now (program .entry)) (now (scratch .exit)) cs (take-equal p cs (shift base s) (shift base t) (st .left)) r) ⌝ }
 {
     let second = skip(program, goal + 1);
-    match unify(program, scratch, goal + 1, second, st.trail, st.left) {
+    match unify(&*program, scratch, goal + 1, second, st.trail, st.left) {
         Unified::Joined(trail, left) => {
             let joined = narrowed(st, trail, st.kept, left);
             if trail == st.trail {
                 return Took::Goes(joined);
             }
-            let reviewed = review_all(program, scratch, trail, st.kept, left);
+            let reviewed = review_all(&*program, scratch, trail, st.kept, left);
             after_review(joined, reviewed)
         }
         Unified::Failed(trail, left) => Took::Leaves(narrowed(st, trail, st.kept, left)),
@@ -79,6 +79,6 @@ pub(crate) fn take_constraint(program: &[u32], scratch: &mut [u32], st: State, g
         return Took::Stops(Stop::Path(Bound::Constraints), st.left + 1);
     }
     scratch[CONSTRAINTS + st.kept as usize] = goal;
-    let reviewed = review(program, scratch, goal, st.trail, st.kept + 1, st.left);
+    let reviewed = review(&*program, scratch, goal, st.trail, st.kept + 1, st.left);
     after_review(narrowed(st, st.trail, st.kept + 1, st.left), reviewed)
 }

@@ -35,11 +35,11 @@ fn reaches(program: &[u32], scratch: &[u32], constraint: u32, kind: u32, variabl
     requires { ⌜ ((bs : Substitution) × (c : Constraint) × (k : Sort) × Binds (now program) (now scratch) bs × KeepsAt (now program) constraint c × (kind ≡ other-kind k)) ⌝ }
     ensures { λ r. ⌜ ((bs : Substitution) (c : Constraint) (k : Sort) → Binds (now (program .entry)) (now (scratch .entry)) bs → KeepsAt (now (program .entry)) constraint c → kind ≡ other-kind k → r ≡ definition.reaches bs k variable c) ⌝ }
 {
-    if node_at(program, constraint).kind != kind {
+    if node_at(&*program, constraint).kind != kind {
         return false;
     }
-    let found = walk(program, scratch, constraint + 1);
-    let node = node_at(program, found);
+    let found = walk(&*program, &*scratch, constraint + 1);
+    let node = node_at(&*program, found);
     if node.kind != Word::VARIABLE {
         return false;
     }
@@ -64,8 +64,8 @@ fn clashes(
     let mut i = 0;
     while i < kept {
         if reaches(
-            program,
-            scratch,
+            &*program,
+            &*scratch,
             scratch[CONSTRAINTS + i as usize],
             kind,
             variable,
@@ -92,13 +92,13 @@ fn review_type(
     ensures { λ r. ⌜ ((bs : Substitution) (cs : List Constraint) (k : Sort) (t : Term) → Kept (now (program .entry)) (now (scratch .entry)) bs cs trail kept → Stands (now (program .entry)) term t → atom ≡ atom-kind k → other ≡ other-kind k
         → done (definition.sort-fails bs cs k (walk bs t)) left ≡ review-says r) ⌝ }
 {
-    let found = walk(program, scratch, term);
-    let node = node_at(program, found);
+    let found = walk(&*program, &*scratch, term);
+    let node = node_at(&*program, found);
     let kind = node.kind;
     if kind == Word::VARIABLE {
         if clashes(
-            program,
-            scratch,
+            &*program,
+            &*scratch,
             other,
             found / ENVIRONMENT + node.payload,
             trail,
@@ -119,8 +119,8 @@ fn review_absento(program: &[u32], scratch: &[u32], constraint: u32, left: u32) 
     requires { ⌜ ((bs : Substitution) × (a : Atom) × (t : Term) × Binds (now program) (now scratch) bs × KeepsAt (now program) constraint (absento a t)) ⌝ }
     ensures { λ r. ⌜ ((bs : Substitution) (a : Atom) (t : Term) → Binds (now (program .entry)) (now (scratch .entry)) bs → KeepsAt (now (program .entry)) constraint (absento a t) → unification.scan (unification.is-atom a) bs [] t left ≡ review-says r) ⌝ }
 {
-    let tag = node_at(program, constraint + 1).bits;
-    match scan(program, scratch, tag, constraint + 2, 0, left) {
+    let tag = node_at(&*program, constraint + 1).bits;
+    match scan(&*program, &*scratch, tag, constraint + 2, 0, left) {
         Scanned::Found(rest) => Reviewed::Fails(rest),
         Scanned::Clear(rest) => Reviewed::Holds(rest),
         Scanned::StepsOut => Reviewed::StepsOut,
@@ -141,7 +141,7 @@ fn review_differ(
     ensures { λ r. ⌜ ((bs : Substitution) (u v : Term) → Meets (now (program .entry)) (now (scratch .entry)) bs first u second v trail
         → ReviewedAs (now (program .entry)) (now (scratch .entry)) (now (scratch .exit)) bs (and-then (unification.unify-terms bs u v left) (λ o l. done (definition.trial-fails bs o) l)) r) ⌝ }
 {
-    match unify(program, scratch, first, second, trail, left) {
+    match unify(&*program, scratch, first, second, trail, left) {
         Unified::Joined(grown, rest) => {
             undo(scratch, trail, grown);
             if grown == trail {
@@ -181,17 +181,17 @@ pub(crate) fn review(
         return Reviewed::StepsOut;
     }
     let left = steps - 1;
-    let kind = node_at(program, constraint).kind;
+    let kind = node_at(&*program, constraint).kind;
     if kind == Word::DIFFER {
-        let second = skip(program, constraint + 1);
-        return review_differ(program, scratch, constraint + 1, second, trail, left);
+        let second = skip(&*program, constraint + 1);
+        return review_differ(&*program, scratch, constraint + 1, second, trail, left);
     }
     if kind == Word::ABSENTO {
-        return review_absento(program, scratch, constraint, left);
+        return review_absento(&*program, scratch, constraint, left);
     }
     if kind == Word::SYMBOLO {
         return review_type(
-            program,
+            &*program,
             scratch,
             constraint + 1,
             Word::SYMBOL,
@@ -202,7 +202,7 @@ pub(crate) fn review(
         );
     }
     review_type(
-        program,
+        &*program,
         scratch,
         constraint + 1,
         Word::NUMBER,
@@ -229,7 +229,7 @@ pub(crate) fn review_all(
     let mut left = steps;
     while i < kept {
         let constraint = scratch[CONSTRAINTS + i as usize];
-        match review(program, scratch, constraint, trail, kept, left) {
+        match review(&*program, scratch, constraint, trail, kept, left) {
             Reviewed::Holds(rest) => {
                 left = rest;
                 i += 1;

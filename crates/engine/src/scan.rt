@@ -54,7 +54,14 @@ pub(crate) fn scan(
         if MOST_NODES <= waiting {
             return Scanned::PathOut(left);
         }
-        match scan(program, scratch, sought, found + 1, waiting + 1, left - 1) {
+        match scan(
+            &*program,
+            &*scratch,
+            sought,
+            found + 1,
+            waiting + 1,
+            left - 1,
+        ) {
             Scanned::Clear(rest) => {
                 left = rest;
                 at = found + 1 + node.payload;

@@ -93,7 +93,7 @@ fn meet(program: &[u32], scratch: &mut [u32], left: u32, right: u32, trail: u32,
         Compared::Agrees => Met::Goes(trail, steps - 1),
         Compared::Parts(c, d, e, f) => Met::Parts(c, d, e, f),
         Compared::Binds(variable, term) => match scan(
-            program,
+            &*program,
             scratch,
             variable,
             term,

@@ -10,6 +10,7 @@ use std::collections::BTreeMap;
 use std::env;
 use std::fs;
 use std::io;
+use std::iter;
 use std::path::Path;
 use std::process::ExitCode;
 
@@ -65,7 +66,10 @@ fn write(count: usize, seed: u64, folder: &Path) -> io::Result<()> {
     )?;
     let mut rng = Rng::new(seed);
     let fixed = decisions().into_iter().map(|decision| decision.case);
-    let cases: Vec<Case> = fixed.chain((0..count).map(|_| case(&mut rng))).collect();
+    let random = iter::repeat_with(|| case(&mut rng))
+        .filter(computable)
+        .take(count);
+    let cases: Vec<Case> = fixed.chain(random).collect();
     let mut ends: BTreeMap<String, usize> = BTreeMap::new();
     let mut modules = String::new();
     for (file, chunk) in cases.chunks(ROWS).enumerate() {
@@ -83,6 +87,11 @@ fn write(count: usize, seed: u64, folder: &Path) -> io::Result<()> {
         println!("{count:6} {end}");
     }
     Ok(())
+}
+
+/// The checker reads a word by walking the list up to it, so it gets no long programs and no long runs.
+fn computable(case: &Case) -> bool {
+    case.words.len() <= 1_500 && case.run().map_or(true, |outcome| outcome.steps <= 5_000)
 }
 
 fn name(result: &Result<Outcome, Refusal>) -> String {

@@ -28,10 +28,9 @@ use Rattle.engine.specs.Look.{LookedAs, Looks, rights, Small, ThroughAs}
 use Rattle.engine.specs.Lines.{Equations, LineAs, as-differ}
 use Rattle.engine.specs.Names.{Names}
 use Rattle.engine.specs.Put.{Touched}
-use Rattle.engine.specs.Page.{Page, add-line, add-lines, occurrences, AddsAbsent, AddsTyped}
-use Rattle.engine.specs.Adding.{Writing, AddedSays, AddedAs, Differs, Lists}
+use Rattle.engine.specs.Page.{Page, add-line, add-lines, Writing, Extended, occurrences, AddsAbsent, AddsTyped}
+use Rattle.engine.specs.Adding.{AddedSays, AddedAs, Differs, Lists}
 use Rattle.engine.specs.Review.{Kept}
-use Rattle.engine.specs.declared.page.Written.{Written}
 use Rattle.engine.specs.declared.line.Listed.the-variants.{Differ}
 use Rattle.engine.specs.declared.look.Looked.{Looked}
 use Rattle.engine.specs.declared.look.Looked.the-variants as looked
@@ -57,15 +56,15 @@ module _ {ws s : List ℕ} {bs : Substitution} {a : ℕ} {u : Term} {b : ℕ} {v
       omega (arith, d .meets .trail-is, q .0 .trail-is, ap length (q .0 .grows), length-append (q .0 .new) bs)
 
   -- the trial did not succeed, and was undone
-  module _ {out : List ℕ} {first end : ℕ} {w : Written} (g : Writing s out first end (w .at) (w .full)) (s₂ : List ℕ) (n : ℕ) (undone : (ws : List ℕ) (new bs : Substitution) → Trailed ws s₁ new bs trail n → Undone ws s₁ s₂ bs) where
+  module _ {out : List ℕ} {first end place : ℕ} (g : Writing s out first end place) (s₂ : List ℕ) (n : ℕ) (undone : (ws : List ℕ) (new bs : Substitution) → Trailed ws s₁ new bs trail n → Undone ws s₁ s₂ bs) where
     given-back : Trial ws s₁ bs trail n → Apart s s₁ → {o : Outcome (List Line)} {x : Added} → AddedSays g out o x → AddedAs ws s s₂ g out bs o x
     given-back t p y = let z = undone ws (t .new) bs (t .trailed) in record { says = y; bindings-in = z .bindings-in; apart = apart-trans p (undone-apart z); touched = g .page .touched }
 
-    pub differ-failed : {rest : ℕ} → r ≡ unified.Failed n rest → AddedAs ws s s₂ g out bs (lines-of bs (differ u v) steps) (Done w rest)
+    pub differ-failed : {rest : ℕ} → r ≡ unified.Failed n rest → AddedAs ws s s₂ g out bs (lines-of bs (differ u v) steps) (Done place rest)
     unfolding UnifiedAs AddedSays add-lines
     differ-failed {rest} e =
         let q : (w : Went ws s bs s₁ n) × (unify-terms bs u v steps ≡ done none rest) = rw e at told in
-        given-back (trial-failed steps (d .meets) s₁ r told e) (q .0 .apart) (subst (λ o. AddedSays g out (and-then o (λ x l. trial-lines bs x l)) (Done w rest)) (sym (q .1)) (refl, g .page))
+        given-back (trial-failed steps (d .meets) s₁ r told e) (q .0 .apart) (subst (λ o. AddedSays g out (and-then o (λ x l. trial-lines bs x l)) (Done place rest)) (sym (q .1)) (refl, g .page))
 
     pub differ-stepped : r ≡ unified.StepsOut n → AddedAs ws s s₂ g out bs (lines-of bs (differ u v) steps) StepsOut
     unfolding UnifiedAs AddedSays
@@ -140,7 +139,7 @@ module _ {ws s s₂ : List ℕ} {bs : Substitution} {u v : Term} {trail n steps 
       let l : length (resolve-right bs (reverse (t .new))) ≡ length (reverse (t .new)) = right-length bs (reverse (t .new)) in
       equations-line (resolve-right bs (reverse (t .new))) (omega (arith, length-reverse (t .new), t .some-new)) (equations-kept rest trail 0 (reverse (t .new)) (h .held) (h .kept) (q .1)) (h .count-is ∙ sym l) (h .few)
 
-  module _ {out : List ℕ} {first end place : ℕ} {full : Bool} (g : Writing s out first end place full) where
+  module _ {out : List ℕ} {first end place : ℕ} (g : Writing s out first end place) where
     kept-back : {out′ : List ℕ} (o : Outcome (List Line)) {x : Added} → AddedSays g out′ o x → lines-of bs (differ u v) steps ≡ o → Touched (g .before) out′ (g .begin) end → AddedAs ws s s₂ g out′ bs (lines-of bs (differ u v) steps) x
     kept-back {out′} o {x} y e z = record { says = subst (λ p. AddedSays g out′ p x) (sym e) y; bindings-in = t .looks .held .bindings-in; apart = t .apart; touched = z }
 
@@ -155,7 +154,7 @@ module _ {ws s s₂ : List ℕ} {bs : Substitution} {u v : Term} {trail n steps 
     unfolding ThroughAs AddedSays
     tried-path {after} e = kept-back (stop (at-bound waiting) after) (refl, refl) (looked-is (stop (at-bound waiting) after) (rw e at told)) (g .page .touched)
 
-    pub tried-done : {after : ℕ} {out′ : List ℕ} {w : Written} → r ≡ looked.Done after → Page (g .before) out′ (g .begin) first end (w .at) (w .full) (g .head) (add-line (g .names) (g .lines) tried-line-is) → AddedAs ws s s₂ g out′ bs (lines-of bs (differ u v) steps) (Done w after)
+    pub tried-done : {after : ℕ} {out′ : List ℕ} {next : ℕ} → r ≡ looked.Done after → Page (g .before) out′ (g .begin) first end next (g .head) (add-line (g .names) (g .lines) tried-line-is) → AddedAs ws s s₂ g out′ bs (lines-of bs (differ u v) steps) (Done next after)
     unfolding ThroughAs AddedSays add-lines tried-line-is
     tried-done {after} e p =
         let q : (look-through bs (rights (reverse (t .new))) rest ≡ done tt after) × Each (Small bs rest) (rights (reverse (t .new))) = rw e at told in
@@ -163,7 +162,7 @@ module _ {ws s s₂ : List ℕ} {bs : Substitution} {u v : Term} {trail n steps 
 
 -- A term that was looked through, with the lines that its constraint comes to
 
-module _ {ws s : List ℕ} {bs : Substitution} {out : List ℕ} {first end place : ℕ} {full : Bool} (g : Writing s out first end place full) (held : Binds ws s bs) (t : Term) (steps : ℕ) (r : Looked) (told : LookedAs bs t steps r) (lines : List Line) where
+module _ {ws s : List ℕ} {bs : Substitution} {out : List ℕ} {first end place : ℕ} (g : Writing s out first end place) (held : Binds ws s bs) (t : Term) (steps : ℕ) (r : Looked) (told : LookedAs bs t steps r) (lines : List Line) where
   abbrev term-lines : Outcome (List Line)
   term-lines = and-then (scan never bs [] t steps) (λ _ l. done lines l)
 
@@ -178,7 +177,7 @@ module _ {ws s : List ℕ} {bs : Substitution} {out : List ℕ} {first end place
   unfolding LookedAs AddedSays
   term-path {rest} e = untouched (stop (at-bound waiting) rest) (rw e at told) (refl, refl) (g .page .touched)
 
-  pub term-done : {rest : ℕ} {out′ : List ℕ} {w : Written} → r ≡ looked.Done rest → Page (g .before) out′ (g .begin) first end (w .at) (w .full) (g .head) (add-lines (g .names) (g .lines) lines) → AddedAs ws s s g out′ bs term-lines (Done w rest)
+  pub term-done : {rest : ℕ} {out′ : List ℕ} {next : ℕ} → r ≡ looked.Done rest → Extended g out′ next lines → AddedAs ws s s g out′ bs term-lines (Done next rest)
   unfolding LookedAs AddedSays
   term-done {rest} e p =
       let q : (scan never bs [] t steps ≡ done false rest) × (term-size (resolve bs t) + rest < steps) = rw e at told in
@@ -189,21 +188,14 @@ module _ {ws s : List ℕ} {w : ℕ} {bs : Substitution} {a : Atom} {t : Term} (
   pub absento-follows : Follows ws s bs (w + 2) t
   absento-follows = record { binds = held; stands = absento-term ws w a t h }
 
-  module _ {out : List ℕ} {first end place : ℕ} {full : Bool} {steps : ℕ} (g : Writing s out first end place full) (r : Looked) (told : LookedAs bs t steps r) {rest : ℕ} (e : r ≡ looked.Done rest) {bits k p : ℕ} (node : NodeAt ws (w + 1) bits k p) where
-    pub absento-adds : AddsAbsent ws s out bits (w + 2) first end place full steps
+  module _ {out : List ℕ} {first end place steps : ℕ} (g : Writing s out first end place) (r : Looked) (told : LookedAs bs t steps r) {rest : ℕ} (e : r ≡ looked.Done rest) {bits k p : ℕ} (node : NodeAt ws (w + 1) bits k p) where
+    pub absento-adds : AddsAbsent ws s out bits (w + 2) first end place steps
     unfolding LookedAs
     absento-adds =
         let q : (scan never bs [] t steps ≡ done false rest) × (term-size (resolve bs t) + rest < steps) = rw e at told in
         let l : term-size (resolve bs t) + rest < steps = q .1 in
         record {
-          before = g .before;
-          begin = g .begin;
-          head = g .head;
-          lines = g .lines;
-          top = g .top;
-          names = g .names;
-          page = g .page;
-          named = g .named;
+          writing = g;
           tag-of = a;
           is-tag = atom-word-is bits a (absento-tag ws w a t h node);
           term = resolve bs t;
@@ -211,11 +203,10 @@ module _ {ws s : List ℕ} {w : ℕ} {bs : Substitution} {a : Atom} {t : Term} (
           small = omega arith;
         }
 
-    pub absento-page : {out′ : List ℕ} {place′ : ℕ} {full′ : Bool}
-        → ((k : AddsAbsent ws s out bits (w + 2) first end place full steps) → Page (k .before) out′ (k .begin) first end place′ full′ (k .head) (add-lines (k .names) (k .lines) (lacks-each (k .tag-of) (occurrences (k .term)))))
-        → Page (g .before) out′ (g .begin) first end place′ full′ (g .head) (add-lines (g .names) (g .lines) (lacks-each a (appear [] (resolve bs t))))
+    pub absento-page : {out′ : List ℕ} {place′ : ℕ} → ((k : AddsAbsent ws s out bits (w + 2) first end place steps) → Extended (k .writing) out′ place′ (lacks-each (k .tag-of) (occurrences (k .term))))
+        → Extended g out′ place′ (lacks-each a (appear [] (resolve bs t)))
     unfolding absento-adds
-    absento-page {out′} {place′} {full′} f = subst (Page (g .before) out′ (g .begin) first end place′ full′ (g .head)) (absent-once (g .names) a (g .lines) (resolve bs t)) (f absento-adds)
+    absento-page {out′} {place′} f = subst (Page (g .before) out′ (g .begin) first end place′ (g .head)) (absent-once (g .names) a (g .lines) (resolve bs t)) (f absento-adds)
 
 -- a type
 typed-walked : (bs : Substitution) → Good bs → (k : Sort) (t : Term) → typed-lines k (resolve bs t) ≡ typed-lines k (walk bs t)
@@ -226,28 +217,13 @@ typed-walked bs good k t = go (walk bs t) (walk-seen bs good t)
     go (atom a) q = ap (typed-lines k) q
     go (pair a b) q = ap (typed-lines k) q
 
-module _ {ws s : List ℕ} {bs : Substitution} {w : ℕ} {t : Term} {kind : ℕ} {out : List ℕ} {first end place : ℕ} {full : Bool} (k : Sort) (g : Writing s out first end place full) (f : Follows ws s bs w t) (e : kind ≡ sort-kind k) where
-  pub typed-adds : AddsTyped ws s out kind w first end place full
-  typed-adds = record {
-    before = g .before;
-    begin = g .begin;
-    head = g .head;
-    lines = g .lines;
-    top = g .top;
-    names = g .names;
-    page = g .page;
-    named = g .named;
-    sort = k;
-    is-kind = e;
-    term = resolve bs t;
-    here = record { bindings = bs; term = t; follows = f; is = refl };
-  }
+module _ {ws s : List ℕ} {bs : Substitution} {w : ℕ} {t : Term} {kind : ℕ} {out : List ℕ} {first end place : ℕ} (k : Sort) (g : Writing s out first end place) (f : Follows ws s bs w t) (e : kind ≡ sort-kind k) where
+  pub typed-adds : AddsTyped ws s out kind w first end place
+  typed-adds = record { writing = g; sort = k; is-kind = e; term = resolve bs t; here = record { bindings = bs; term = t; follows = f; is = refl } }
 
-  pub typed-page : {out′ : List ℕ} {place′ : ℕ} {full′ : Bool}
-      → ((a : AddsTyped ws s out kind w first end place full) → Page (a .before) out′ (a .begin) first end place′ full′ (a .head) (add-lines (a .names) (a .lines) (typed-lines (a .sort) (a .term))))
-      → Page (g .before) out′ (g .begin) first end place′ full′ (g .head) (add-lines (g .names) (g .lines) (typed-lines k (walk bs t)))
+  pub typed-page : {out′ : List ℕ} {place′ : ℕ} → ((a : AddsTyped ws s out kind w first end place) → Extended (a .writing) out′ place′ (typed-lines (a .sort) (a .term))) → Extended g out′ place′ (typed-lines k (walk bs t))
   unfolding typed-adds
-  typed-page {out′} {place′} {full′} a = subst (λ ls. Page (g .before) out′ (g .begin) first end place′ full′ (g .head) (add-lines (g .names) (g .lines) ls)) (typed-walked bs (f .binds .good) k t) (a typed-adds)
+  typed-page {out′} {place′} a = subst (Extended g out′ place′) (typed-walked bs (f .binds .good) k t) (a typed-adds)
 
 -- One constraint, whatever its kind
 
@@ -258,14 +234,14 @@ module _ {ws s : List ℕ} {bs : Substitution} {cs : List Constraint} {w : ℕ} 
     unforced = subst (Passes bs cs) (q .is) (h .passes);
   }
 
-pub added-one : {ws s s′ : List ℕ} {out : List ℕ} {first end place : ℕ} {full : Bool} {g : Writing s out first end place full} {out′ : List ℕ} {bs : Substitution} {r : Added} (c d : Constraint) (steps : ℕ) → c ≡ d
+pub added-one : {ws s s′ : List ℕ} {out : List ℕ} {first end place : ℕ} {g : Writing s out first end place} {out′ : List ℕ} {bs : Substitution} {r : Added} (c d : Constraint) (steps : ℕ) → c ≡ d
     → AddedAs ws s s′ g out′ bs (lines-of bs d steps) r → AddedAs ws s s′ g out′ bs (lines-of bs c steps) r
 added-one {ws} {s} {s′} {g = g} {out′ = out′} {bs = bs} {r = r} c d steps e h = subst (λ z. AddedAs ws s s′ g out′ bs (lines-of bs z steps) r) (sym e) h
 
 -- All constraints
 
 -- where the loop is: constraints from i on are left, the lines of those before are added
-pub record Adding (ws s₀ : List ℕ) {out₀ : List ℕ} {first end place₀ : ℕ} {full₀ : Bool} (g : Writing s₀ out₀ first end place₀ full₀) (bs : Substitution) (cs : List Constraint) (trail kept steps : ℕ) (s out : List ℕ) (place : ℕ) (full : Bool) (left i : ℕ) : Type 0 where
+pub record Adding (ws s₀ : List ℕ) {out₀ : List ℕ} {first end place₀ : ℕ} (g : Writing s₀ out₀ first end place₀) (bs : Substitution) (cs : List Constraint) (trail kept steps : ℕ) (s out : List ℕ) (place left i : ℕ) : Type 0 where
   pub whole : Kept ws s bs cs trail kept
   pub apart : Apart s₀ s
   pub later : List Constraint
@@ -273,7 +249,7 @@ pub record Adding (ws s₀ : List ℕ) {out₀ : List ℕ} {first end place₀ :
   pub count : i + length later ≡ kept
   pub passes : Each (Passes bs cs) later
   pub lines : List Line
-  pub page : Page (g .before) out (g .begin) first end place full (g .head) (add-lines (g .names) (g .lines) lines)
+  pub page : Extended g out place lines
   pub same : all-lines bs cs steps ≡ and-then (all-lines bs later left) (λ ms m. done (lines ++ ms) m)
 
 then-self : (o : Outcome (List Line)) → o ≡ and-then o (λ ms m. done ([] ++ ms) m)
@@ -284,8 +260,8 @@ then-more : (ls ms : List Line) (o : Outcome (List Line)) → and-then (and-then
 then-more ls ms (done ns l) = ap (λ z. done z l) (sym (append-assoc ls ms ns))
 then-more ls ms (stop why l) = refl
 
-pub adding-start : {ws s out : List ℕ} {first end place : ℕ} {full : Bool} (g : Writing s out first end place full) {bs : Substitution} {cs : List Constraint} {made trail kept : ℕ} (steps : ℕ) → Kept ws s bs cs trail kept → Sound bs cs made
-    → Adding ws s g bs cs trail kept steps s out place full steps 0
+pub adding-start : {ws s out : List ℕ} {first end place : ℕ} (g : Writing s out first end place) {bs : Substitution} {cs : List Constraint} {made trail kept : ℕ} (steps : ℕ) → Kept ws s bs cs trail kept → Sound bs cs made
+    → Adding ws s g bs cs trail kept steps s out place steps 0
 unfolding add-lines
 adding-start {s = s} g {bs} {cs} steps h k = record {
   whole = h;
@@ -300,16 +276,16 @@ adding-start {s = s} g {bs} {cs} steps h k = record {
 }
 
 -- what each case says of the outcome
-record Says {s out : List ℕ} {first end place : ℕ} {full : Bool} (g : Writing s out first end place full) (out′ : List ℕ) (o : Outcome (List Line)) (w : Written) (rest : ℕ) : Type 0 where
+record Says {s out : List ℕ} {first end place : ℕ} (g : Writing s out first end place) (out′ : List ℕ) (o : Outcome (List Line)) (next rest : ℕ) : Type 0 where
   pub lines : List Line
   pub is : o ≡ done lines rest
-  pub page : Page (g .before) out′ (g .begin) first end (w .at) (w .full) (g .head) (add-lines (g .names) (g .lines) lines)
+  pub page : Extended g out′ next lines
 
-module _ {s out : List ℕ} {first end place : ℕ} {full : Bool} (g : Writing s out first end place full) (out′ : List ℕ) where
-  says-done : (o : Outcome (List Line)) (w : Written) (rest : ℕ) → AddedSays g out′ o (Done w rest) → Says g out′ o w rest
+module _ {s out : List ℕ} {first end place : ℕ} (g : Writing s out first end place) (out′ : List ℕ) where
+  says-done : (o : Outcome (List Line)) (next rest : ℕ) → AddedSays g out′ o (Done next rest) → Says g out′ o next rest
   unfolding AddedSays
-  says-done (done ls l) w rest h = record { lines = ls; is = ap (done ls) (sym (h .0)); page = h .1 }
-  says-done (stop why l) w rest h = absurd h
+  says-done (done ls l) next rest h = record { lines = ls; is = ap (done ls) (sym (h .0)); page = h .1 }
+  says-done (stop why l) next rest h = absurd h
 
   says-steps : (o : Outcome (List Line)) → AddedSays g out′ o StepsOut → o ≡ stop no-steps 0
   unfolding AddedSays
@@ -321,12 +297,12 @@ module _ {s out : List ℕ} {first end place : ℕ} {full : Bool} (g : Writing s
   says-path (done ls l) rest h = absurd h
   says-path (stop why l) rest h = ap (λ z. stop z l) (h .0) ∙ ap (stop (at-bound waiting)) (sym (h .1))
 
-module _ {ws s₀ out₀ : List ℕ} {first end place₀ : ℕ} {full₀ : Bool} {g : Writing s₀ out₀ first end place₀ full₀} {bs : Substitution} {cs : List Constraint} {trail kept steps : ℕ} {s out : List ℕ} {place : ℕ} {full : Bool} {left i : ℕ} (h : Adding ws s₀ g bs cs trail kept steps s out place full left i) where
+module _ {ws s₀ out₀ : List ℕ} {first end place₀ : ℕ} {g : Writing s₀ out₀ first end place₀} {bs : Substitution} {cs : List Constraint} {trail kept steps : ℕ} {s out : List ℕ} {place left i : ℕ} (h : Adding ws s₀ g bs cs trail kept steps s out place left i) where
   pub adding-long : length out ≡ length out₀
   adding-long = h .page .touched .long ∙ sym (g .page .touched .long)
 
   -- the answer under way is that of the caller, with more lines
-  abbrev pub adding-writing : Writing s out first end place full
+  abbrev pub adding-writing : Writing s out first end place
   adding-writing = record { before = g .before; begin = g .begin; head = g .head; lines = add-lines (g .names) (g .lines) (h .lines); top = g .top; names = g .names; page = h .page; named = names-apart (h .apart) (g .named) }
 
   pub record AddingNext : Type 0 where
@@ -344,11 +320,10 @@ module _ {ws s₀ out₀ : List ℕ} {first end place₀ : ℕ} {full₀ : Bool}
       go [] e k n p = absurd (omega arith)
       go (c ∷ later) e k n p = record { one = c; others = later; is = e; lists = record { held = h .whole .held; keeps = k .0; trail-is = h .whole .trail-is; passes = p .0 }; kept-in = k .1; passes = p .1 }
 
-  pub adding-end : (w : Written) → place ≡ w .at → full ≡ w .full → kept ≤ i → AddedAs ws s₀ s g out bs (all-lines bs cs steps) (Done w left)
+  pub adding-end : kept ≤ i → AddedAs ws s₀ s g out bs (all-lines bs cs steps) (Done place left)
   unfolding AddedSays
-  adding-end w at-w full-w le = record {
-    says = subst (λ o. AddedSays g out o (Done w left)) (sym (h .same ∙ go (h .later) (h .count)))
-        (refl, subst (λ b. Page (g .before) out (g .begin) first end (w .at) b (g .head) (add-lines (g .names) (g .lines) (h .lines))) full-w (subst (λ z. Page (g .before) out (g .begin) first end z full (g .head) (add-lines (g .names) (g .lines) (h .lines))) at-w (h .page)));
+  adding-end le = record {
+    says = subst (λ o. AddedSays g out o (Done place left)) (sym (h .same ∙ go (h .later) (h .count))) (refl, h .page);
     bindings-in = h .whole .held .bindings-in;
     apart = h .apart;
     touched = h .page .touched;
@@ -380,9 +355,9 @@ module _ {ws s₀ out₀ : List ℕ} {first end place₀ : ℕ} {full₀ : Bool}
     adding-bound {rest} e =
         stopped (stop (at-bound waiting) rest) (next-is (stop (at-bound waiting) rest) (says-path adding-writing out′ (lines-of bs (n .one) left) rest (subst (AddedSays adding-writing out′ (lines-of bs (n .one) left)) e (told .says)))) (refl, refl)
 
-    pub adding-on : {w : Written} {rest : ℕ} → r ≡ Done w rest → Adding ws s₀ g bs cs trail kept steps s′ out′ (w .at) (w .full) rest (i + 1)
-    adding-on {w} {rest} e =
-        let q = says-done adding-writing out′ (lines-of bs (n .one) left) w rest (subst (AddedSays adding-writing out′ (lines-of bs (n .one) left)) e (told .says)) in
+    pub adding-on : {next rest : ℕ} → r ≡ Done next rest → Adding ws s₀ g bs cs trail kept steps s′ out′ next rest (i + 1)
+    adding-on {next} {rest} e =
+        let q = says-done adding-writing out′ (lines-of bs (n .one) left) next rest (subst (AddedSays adding-writing out′ (lines-of bs (n .one) left)) e (told .says)) in
         let l : length (h .later) ≡ suc (length (n .others)) = ap length (n .is) in
         let z : suc i ≡ i + 1 = omega arith in
         record {
@@ -393,6 +368,6 @@ module _ {ws s₀ out₀ : List ℕ} {first end place₀ : ℕ} {full₀ : Bool}
           count = omega (arith, h .count);
           passes = n .passes;
           lines = h .lines ++ q .lines;
-          page = subst (Page (g .before) out′ (g .begin) first end (w .at) (w .full) (g .head)) (sym (add-append (g .names) (g .lines) (h .lines) (q .lines))) (q .page);
+          page = subst (Page (g .before) out′ (g .begin) first end next (g .head)) (sym (add-append (g .names) (g .lines) (h .lines) (q .lines))) (q .page);
           same = next-is (done (q .lines) rest) (q .is) ∙ then-more (h .lines) (q .lines) (all-lines bs (n .others) rest);
         }

@@ -1,7 +1,7 @@
 -- The answer of a path: its page's begin and end, the scratch as it was, and the words as the definition has them.
 use Prim.Native.Nat.{ℕ, zero, suc, _+_, _-_, _<_, _≤_}
 use mathlib.Core.Path.{_≡_, refl, sym, ap, ap₂, subst, _∙_}
-use mathlib.Core.Bool.{Bool, true, false, true≢false}
+use mathlib.Core.Bool.{true}
 use mathlib.Core.List.{List, [], _∷_, _++_, append-nil, map}
 use native.Mathlib.Omega.{arith}
 use native.Mathlib.Nat.{zero-add, suc-add}
@@ -27,14 +27,13 @@ use Rattle.engine.specs.Trail.{Apart}
 use Rattle.engine.specs.Review.{Kept}
 use Rattle.engine.specs.Names.{top-from, word-from, Distinct, Names, Named}
 use Rattle.engine.specs.Put.{Touched, Laid, Placed, all-laid, some-missing}
-use Rattle.engine.specs.Page.{joined, add-lines, Wholes, Page}
+use Rattle.engine.specs.Page.{joined, add-lines, Wholes, Page, Writing}
 use Rattle.engine.specs.Query.{Small, Known, query-words, Query, Ends, EndedAs}
 use Rattle.engine.specs.Look.{Small as LookSmall, ThroughAs}
-use Rattle.engine.specs.Adding.{Writing, AddedSays, AddedAs}
+use Rattle.engine.specs.Adding.{AddedSays, AddedAs}
 use Rattle.engine.specs.Taking.{Holds, registers}
 use Rattle.engine.specs.Answering.{Answering, AnswerLeft, AnswerSays, AnsweredAs}
 use Rattle.engine.specs.declared.state.State.{State}
-use Rattle.engine.specs.declared.page.Written.{Written}
 use Rattle.engine.specs.declared.put.Put.{Put}
 use Rattle.engine.specs.declared.put.Put.the-variants.{End, Missed}
 use Rattle.engine.specs.declared.look.Looked.{Looked}
@@ -48,7 +47,7 @@ use Rattle.engine.proofs.FrameLaws.{bindings-same, kept-same}
 use Rattle.engine.proofs.StoredLaws.{trailed, rebound, stored-binds}
 use Rattle.engine.proofs.NameLaws.{names-apart}
 use Rattle.engine.proofs.PutLaws.{untouched, touched-then, laid-of, missing-of}
-use Rattle.engine.proofs.PageLaws.{lines-listed}
+use Rattle.engine.proofs.PageLaws.{page-over, lines-listed}
 use Rattle.engine.proofs.QueryLaws.{binds-named}
 
 -- the first words of a list, by what stands at each place
@@ -79,28 +78,14 @@ unfolding joined
 bare head = ap length (append-nil head)
 
 module _ {o : List ℕ} (start : ℕ) {end : ℕ} {head : List ℕ} where
-  pub begin-none : end ≤ start → Page o o (start + 1) start end start true head []
-  begin-none l = record {
-    stands = λ q. absurd (true≢false q);
-    whole = λ q. absurd (true≢false q);
-    begins = λ q. absurd (true≢false q);
-    over = λ _. omega arith;
-    touched = untouched o (start + 1) end;
-  }
+  pub begin-none : end ≤ start → Page o o (start + 1) (end + 1) end (end + 1) head []
+  begin-none l = page-over (omega arith) (omega arith) (untouched o (start + 1) end)
 
   module _ {o′ : List ℕ} {r : Put} (p : Placed o o′ (start + 1) end true head r) where
-    pub begin-missed : r ≡ Missed → Page o o′ (start + 1) start end start true head []
-    begin-missed e =
-        let m = missing-of p e in
-        record {
-          stands = λ q. absurd (true≢false q);
-          whole = λ q. absurd (true≢false q);
-          begins = λ q. absurd (true≢false q);
-          over = λ _. omega (arith, m .no-room refl, bare head);
-          touched = m .touched;
-        }
+    pub begin-missed : r ≡ Missed → Page o o′ (start + 1) (end + 1) end (end + 1) head []
+    begin-missed e = let m = missing-of p e in page-over (omega arith) (omega (arith, m .no-room refl, bare head)) (m .touched)
 
-    pub begin-put : {next : ℕ} → r ≡ End next → Page o o′ (start + 1) next end next false head []
+    pub begin-put : {next : ℕ} → r ≡ End next → Page o o′ (start + 1) next end next head []
     unfolding joined Wholes
     begin-put {next} e =
         let d = laid-of p e in
@@ -110,7 +95,7 @@ module _ {o : List ℕ} (start : ℕ) {end : ℕ} {head : List ℕ} where
           stands = λ _. subst (λ v. Laid o o′ (start + 1) end true v next) (sym (append-nil head)) d;
           whole = λ _. tt;
           begins = λ _. d .is;
-          over = λ q. absurd (true≢false (sym q));
+          over = λ q. absurd (omega arith);
           touched = touched-then (start + 1) next (start + 1) end (start + 1) end (omega arith) (omega arith) (omega arith) (omega arith) (d .touched) (untouched o′ (start + 1) end);
         }
 
@@ -124,26 +109,22 @@ module _ (o₀ o : List ℕ) (start end : ℕ) (v : List ℕ) (r : Added) where
   unfolding EndedAs
   ended-path e = rw e (refl, refl)
 
-  pub ended-full : {w : Written} {left : ℕ} → r ≡ added.Done w left → w .full ≡ true → EndedAs o₀ o o start end v r (answered.Full left)
+  pub ended-full : {place left : ℕ} → r ≡ added.Done place left → end < place → EndedAs o₀ o o start end v r (answered.Full left)
   unfolding EndedAs
   ended-full e f = rw e (f, refl, refl)
 
-  pub ends-laid : {w : Written} {left : ℕ} → Ends o₀ o start end v r → r ≡ added.Done w left → w .full ≡ false → Laid o₀ o (start + 1) end true v (w .at)
+  pub ends-laid : {place left : ℕ} → Ends o₀ o start end v r → r ≡ added.Done place left → place ≤ end → Laid o₀ o (start + 1) end true v place
   unfolding Ends
-  ends-laid {w} {left} h e f = let d : Ends o₀ o start end v (added.Done w left) = rw e at h in d f
+  ends-laid {place} {left} h e f = let d : Ends o₀ o start end v (added.Done place left) = rw e at h in d f
 
-  pub ended-written : {o′ : List ℕ} {w : Written} {left n : ℕ} {q : Put} → Ends o₀ o start end v r → r ≡ added.Done w left → w .full ≡ false → n ≡ w .at → Placed o₀ o′ start end true (part 15 v) q
+  pub ended-written : {o′ : List ℕ} {place left n : ℕ} {q : Put} → Ends o₀ o start end v r → r ≡ added.Done place left → place ≤ end → n ≡ place → Placed o₀ o′ start end true (part 15 v) q
       → EndedAs o₀ o o′ start end v r (answered.Written n left)
   unfolding EndedAs
-  ended-written {o′} {w} {left} {n} {q} h e f is p =
-      let d = ends-laid h e f in
-      let a : w .at ≡ start + 1 + length v = d .is in
-      let b : w .at ≤ end = d .fits in
-      rw e (f, refl, placed p a b)
+  ended-written {o′} {place} {left} {n} {q} h e f is p = rw e (f, refl, placed p (ends-laid h e f .is))
     where
-      placed : {q : Put} → Placed o₀ o′ start end true (part 15 v) q → w .at ≡ start + 1 + length v → w .at ≤ end → Laid o₀ o′ start end true (part 15 v) n
-      placed (all-laid {e = k} l) a b = let z : k ≡ n = omega (arith, l .is) in subst (Laid o₀ o′ start end true (part 15 v)) z l
-      placed (some-missing m) a b = absurd (omega (arith, m .no-room refl))
+      placed : {q : Put} → Placed o₀ o′ start end true (part 15 v) q → place ≡ start + 1 + length v → Laid o₀ o′ start end true (part 15 v) n
+      placed (all-laid {e = k} l) a = let z : k ≡ n = omega (arith, l .is) in subst (Laid o₀ o′ start end true (part 15 v)) z l
+      placed (some-missing m) a = absurd (omega (arith, m .no-room refl))
 
 -- what it left of the output
 pub ended-touched : {o₀ o o′ : List ℕ} {start end : ℕ} (v : List ℕ) (r : Added) (q : Answered) → start ≤ end → Touched o₀ o (start + 1) end → EndedAs o₀ o o′ start end v r q → Touched o₀ o′ start end
@@ -157,14 +138,14 @@ ended-touched {o₀} {o} {o′} {start} {end} v r q le t h = go r q h
     same e = subst (λ x. Touched o₀ x start end) (sym e) wide
 
     go : (r : Added) (q : Answered) → EndedAs o₀ o o′ start end v r q → Touched o₀ o′ start end
-    go (added.Done w left) (answered.Written n l) h =
+    go (added.Done place left) (answered.Written n l) h =
         let d = h .2 in
         let f : n ≤ end = d .fits in
         let z : n ≡ start + suc (length v) = d .is in
         touched-then start n start end start end (omega arith) (omega arith) (omega arith) (omega arith) (d .touched) (untouched o′ start end)
-    go (added.Done w left) (answered.Full l) h = same (h .2)
-    go (added.Done w left) answered.StepsOut h = absurd h
-    go (added.Done w left) (answered.PathOut l) h = absurd h
+    go (added.Done place left) (answered.Full l) h = same (h .2)
+    go (added.Done place left) answered.StepsOut h = absurd h
+    go (added.Done place left) (answered.PathOut l) h = absurd h
     go added.StepsOut (answered.Written n l) h = absurd h
     go added.StepsOut (answered.Full l) h = absurd h
     go added.StepsOut answered.StepsOut h = same h
@@ -265,8 +246,8 @@ module _ {P : Program} {ws s output : List ℕ} {st : State} {p : Path} {cs : Li
         }
 
     -- with the query terms put
-    module _ {out₁ : List ℕ} {end place : ℕ} {full : Bool} (page : Page output out₁ (used + 1) place end place full (query-words bs names 0 params) []) where
-      abbrev pub answer-writing : Writing s₁ out₁ place end place full
+    module _ {out₁ : List ℕ} {end place : ℕ} (page : Page output out₁ (used + 1) place end place (query-words bs names 0 params) []) where
+      abbrev pub answer-writing : Writing s₁ out₁ place end place
       answer-writing = record { before = output; begin = used + 1; head = query-words bs names 0 params; lines = []; top = top; names = names; page = page; named = m .given }
 
       -- with the lines of the constraints
@@ -279,10 +260,10 @@ module _ {P : Program} {ws s output : List ℕ} {st : State} {p : Path} {cs : Li
         answer-ends = go o r (d .says)
           where
             go : (o : Outcome (List Line)) (r : Added) → AddedSays answer-writing out₂ o r → Ends output out₂ used end (page-words bs params o) r
-            go (done ls l) (added.Done w left) h = h .1 .stands
+            go (done ls l) (added.Done next left) h = h .1 .stands
             go (done ls l) added.StepsOut h = tt
             go (done ls l) (added.PathOut left) h = tt
-            go (stop why l) (added.Done w left) h = absurd h
+            go (stop why l) (added.Done next left) h = absurd h
             go (stop why l) added.StepsOut h = tt
             go (stop why l) (added.PathOut left) h = tt
 
@@ -316,21 +297,21 @@ module _ {P : Program} {ws s output : List ℕ} {st : State} {p : Path} {cs : Li
             where
               go : (o : Outcome (List Line)) (r : Added) (q : Answered) → AddedSays answer-writing out₂ o r → EndedAs output out₂ out₃ used end (page-words bs params o) r q
                   → AnswerSays output out₃ used (and-then o (λ ls k. done (answer-words bs params ls) k)) q
-              go (done ls l) (added.Done w left) (answered.Written n k) h i =
+              go (done ls l) (added.Done next left) (answered.Written n k) h i =
                   let z : List ℕ = answer-words bs params ls in
                   let g : Laid output out₃ used end true z n = subst (λ v. Laid output out₃ used end true v n) (words-are bs params ls l) (i .2) in
                   let x : n ≡ used + length z = g .is in
                   let y : n ≤ end = g .fits in
                   let u : length out₃ ≡ length output = end-touched .long in
                   (i .1 ∙ h .0, x, omega arith, ap (λ j. take j out₃) x ∙ take-spelled used out₃ z (omega arith) (g .words) ∙ ap (λ v. v ++ z) (take-same used output out₃ u (end-touched .below)))
-              go (done ls l) (added.Done w left) (answered.Full k) h i =
+              go (done ls l) (added.Done next left) (answered.Full k) h i =
                   let x : length (part 15 (page-words bs params (done ls l))) ≡ length (answer-words bs params ls) = ap length (words-are bs params ls l) in
                   (i .1 ∙ h .0, omega (arith, h .1 .over (i .0)))
-              go (done ls l) (added.Done w left) answered.StepsOut h i = absurd i
-              go (done ls l) (added.Done w left) (answered.PathOut k) h i = absurd i
+              go (done ls l) (added.Done next left) answered.StepsOut h i = absurd i
+              go (done ls l) (added.Done next left) (answered.PathOut k) h i = absurd i
               go (done ls l) added.StepsOut q h i = absurd h
               go (done ls l) (added.PathOut left) q h i = absurd h
-              go (stop why l) (added.Done w left) q h i = absurd h
+              go (stop why l) (added.Done next left) q h i = absurd h
               go (stop why l) added.StepsOut (answered.Written n k) h i = absurd i
               go (stop why l) added.StepsOut (answered.Full k) h i = absurd i
               go (stop why l) added.StepsOut answered.StepsOut h i = h
@@ -372,16 +353,16 @@ module _ {P : Program} {ws s output : List ℕ} {st : State} {p : Path} {cs : Li
       pub query-now : Query ws s₁ params (st .left) (p .bindings) (names-of (p .bindings) params)
       query-now = answer-query a named-now small-now
 
-      module _ {out₁ : List ℕ} {end place : ℕ} {full : Bool}
-          (begin : (bs : Substitution) (names : List ℕ) → Query ws s₁ params (st .left) bs names → Page output out₁ (used + 1) place end place full (query-words bs names 0 params) []) where
-        pub page-now : Page output out₁ (used + 1) place end place full (query-words (p .bindings) (names-of (p .bindings) params) 0 params) []
+      module _ {out₁ : List ℕ} {end place : ℕ}
+          (begin : (bs : Substitution) (names : List ℕ) → Query ws s₁ params (st .left) bs names → Page output out₁ (used + 1) place end place (query-words bs names 0 params) []) where
+        pub page-now : Page output out₁ (used + 1) place end place (query-words (p .bindings) (names-of (p .bindings) params) 0 params) []
         page-now = begin (p .bindings) (names-of (p .bindings) params) query-now
 
-        abbrev pub writing-now : Writing s₁ out₁ place end place full
+        abbrev pub writing-now : Writing s₁ out₁ place end place
         writing-now = answer-writing a named-now page-now
 
         module _ {s₂ out₂ : List ℕ} (d : Added)
-            (add : (g : Writing s₁ out₁ place end place full) (bs : Substitution) (ks : List Constraint) (made : ℕ) → Kept ws s₁ bs ks (st .trail) (st .kept) → Sound bs ks made → AddedAs ws s₁ s₂ g out₂ bs (all-lines bs ks left) d) where
+            (add : (g : Writing s₁ out₁ place end place) (bs : Substitution) (ks : List Constraint) (made : ℕ) → Kept ws s₁ bs ks (st .trail) (st .kept) → Sound bs ks made → AddedAs ws s₁ s₂ g out₂ bs (all-lines bs ks left) d) where
           added-now : AddedAs ws s₁ s₂ writing-now out₂ (p .bindings) (all-lines (p .bindings) (p .kept) left) d
           added-now = add writing-now (p .bindings) (p .kept) (p .made) (answer-kept a named-now) (a .sound)
 
@@ -398,7 +379,7 @@ module _ {P : Program} {ws s output : List ℕ} {st : State} {p : Path} {cs : Li
           ends-now = answer-ends a named-now page-now _ d added-now
 
           pub answered-now : {s₃ : List ℕ} (out₃ : List ℕ) (q : Answered) → end ≡ usable (length output) → ((names : List ℕ) → Names s₂ top names → Named s₂ s₃ 0 [])
-              → ((o : List ℕ) (end : ℕ) (v : List ℕ) → Ends o out₂ used end v d → EndedAs o out₂ out₃ used end v d q)
+              → ((o : List ℕ) (v : List ℕ) → Ends o out₂ used end v d → EndedAs o out₂ out₃ used end v d q)
               → AnsweredAs P ws s output s₃ out₃ st p cs used (answer p params (st .left)) q
           answered-now out₃ q is-end clear finish =
-              answer-done a named-now page-now _ d added-now out₃ q (finish output end _ ends-now) is-end (clear _ names-now) (answer-on a r (look (p .bindings) (answer-binds a)) e)
+              answer-done a named-now page-now _ d added-now out₃ q (finish output _ ends-now) is-end (clear _ names-now) (answer-on a r (look (p .bindings) (answer-binds a)) e)

@@ -1,7 +1,7 @@
 -- Lines that stay: one law for each way in which the code returns or goes on, and what the definition lists.
 use Prim.Native.Nat.{ℕ, zero, suc, _+_, _*_, _%_, _/_, _-_, _<_, _≤_}
 use mathlib.Core.Path.{_≡_, refl, sym, ap, ap₂, subst, _∙_}
-use mathlib.Core.Bool.{Bool, true, false, _&&_, _||_, not, true≢false, false≢true}
+use mathlib.Core.Bool.{Bool, true, false, _&&_, _||_, not, false≢true}
 use mathlib.Core.List.{List, [], _∷_, _++_, append-assoc, append-nil}
 use native.Mathlib.Omega.{arith}
 use lib.Dec.{eqb}
@@ -157,11 +157,12 @@ module _ (names : List ℕ) (ws : List (List ℕ)) (l : Line) where
   add-longer = by-choose (λ (xs : List (List ℕ)). length (joined ws) ≤ length (joined xs)) (line-in names l && not (any-same (line-words names l) ws)) _ _
       (λ q. omega (arith, ap length (joined-snoc ws (line-words names l)), length-append (joined ws) (line-words names l))) (λ q. omega arith)
 
-module _ {o₀ o : List ℕ} {begin first end place : ℕ} {full : Bool} {head : List ℕ} {ws : List (List ℕ)} (h : Page o₀ o begin first end place full head ws) where
-  pub page-at : full ≡ false → place ≤ end
-  page-at e = h .stands e .fits
+-- a page that does not fit
+pub page-over : {o₀ o : List ℕ} {begin first end place : ℕ} {head : List ℕ} {ws : List (List ℕ)} → end < place → end < begin + length (head ++ joined ws) → Touched o₀ o begin end → Page o₀ o begin first end place head ws
+page-over beyond long t = record { stands = λ q. absurd (omega arith); whole = λ q. absurd (omega arith); begins = λ q. absurd (omega arith); over = λ _. long; touched = t }
 
-  pub page-rows : full ≡ false → Rows o first place ws
+module _ {o₀ o : List ℕ} {begin first end place : ℕ} {head : List ℕ} {ws : List (List ℕ)} (h : Page o₀ o begin first end place head ws) where
+  pub page-rows : place ≤ end → Rows o first place ws
   page-rows e =
       let d = h .stands e in
       let a : length (head ++ joined ws) ≡ length head + length (joined ws) = length-append head (joined ws) in
@@ -171,50 +172,36 @@ module _ {o₀ o : List ℕ} {begin first end place : ℕ} {full : Bool} {head :
 
   module _ (names : List ℕ) (l : Line) where
     -- nothing more fits
-    pub page-full : full ≡ true → Page o₀ o begin first end place true head (add-line names ws l)
-    page-full e =
-        let a = length-append head (joined ws) in
-        let b = length-append head (joined (add-line names ws l)) in
-        record {
-          stands = λ q. absurd (true≢false q);
-          whole = λ q. absurd (true≢false q);
-          begins = λ q. absurd (true≢false q);
-          over = λ _. omega (arith, h .over e, a, b, add-longer names ws l);
-          touched = h .touched;
-        }
+    pub page-full : end < place → Page o₀ o begin first end place head (add-line names ws l)
+    page-full e = page-over e (omega (arith, h .over e, length-append head (joined ws), length-append head (joined (add-line names ws l)), add-longer names ws l)) (h .touched)
 
-    as-before : full ≡ false → add-line names ws l ≡ ws → Page o₀ o begin first end place false head (add-line names ws l)
-    as-before e q = subst (λ xs. Page o₀ o begin first end place false head xs) (sym q) (subst (λ b. Page o₀ o begin first end place b head ws) e h)
+    as-before : add-line names ws l ≡ ws → Page o₀ o begin first end place head (add-line names ws l)
+    as-before q = subst (Page o₀ o begin first end place head) (sym q) h
 
-    pub page-dropped : {named : Bool} → full ≡ false → named ≡ line-in names l → named ≡ false → Page o₀ o begin first end place false head (add-line names ws l)
-    page-dropped e f g = as-before e (line-dropped names ws l (sym f ∙ g))
+    pub page-dropped : {named : Bool} → named ≡ line-in names l → named ≡ false → Page o₀ o begin first end place head (add-line names ws l)
+    page-dropped f g = as-before (line-dropped names ws l (sym f ∙ g))
 
-    module _ {o₁ : List ℕ} {named again : Bool} (e : full ≡ false) (f : named ≡ line-in names l) (g : named ≡ true) (unread : o₁ ≡ o) (i : again ≡ any-same (line-words names l) ws) where
-      pub page-repeated : again ≡ true → Page o₀ o₁ begin first end place false head (add-line names ws l)
-      page-repeated k = subst (λ x. Page o₀ x begin first end place false head (add-line names ws l)) (sym unread) (as-before e (line-repeats names ws l (sym f ∙ g) (sym i ∙ k)))
+    module _ {o₁ : List ℕ} {named again : Bool} (f : named ≡ line-in names l) (g : named ≡ true) (unread : o₁ ≡ o) (i : again ≡ any-same (line-words names l) ws) where
+      pub page-repeated : again ≡ true → Page o₀ o₁ begin first end place head (add-line names ws l)
+      page-repeated k = subst (λ x. Page o₀ x begin first end place head (add-line names ws l)) (sym unread) (as-before (line-repeats names ws l (sym f ∙ g) (sym i ∙ k)))
 
-      module _ {o₂ : List ℕ} {r : Put} (k : again ≡ false) (p : Placed o₁ o₂ place end true (line-words names l) r) where
+      module _ {o₂ : List ℕ} {r : Put} (e : place ≤ end) (k : again ≡ false) (p : Placed o₁ o₂ place end true (line-words names l) r) where
         added : add-line names ws l ≡ ws ++ (line-words names l ∷ [])
         added = line-added names ws l (sym f ∙ g) (sym i ∙ k)
 
         longer : head ++ joined (add-line names ws l) ≡ (head ++ joined ws) ++ line-words names l
         longer = ap (λ x. head ++ joined x) added ∙ ap (λ x. head ++ x) (joined-snoc ws (line-words names l)) ∙ sym (append-assoc head (joined ws) (line-words names l))
 
-        pub page-missed : r ≡ Missed → Page o₀ o₂ begin first end place true head (add-line names ws l)
+        pub page-missed : r ≡ Missed → Page o₀ o₂ begin first end (end + 1) head (add-line names ws l)
         page-missed q =
             let d = h .stands e in
             let m = missing-of p q in
             let c : place ≡ begin + length (head ++ joined ws) = d .is in
             let n = m .no-room refl in
-            record {
-              stands = λ z. absurd (true≢false z);
-              whole = λ z. absurd (true≢false z);
-              begins = λ z. absurd (true≢false z);
-              over = λ _. omega (arith, ap length longer, length-append (head ++ joined ws) (line-words names l));
-              touched = touched-then begin end place end begin end (omega arith) (omega arith) (omega arith) (omega arith) (h .touched) (subst (λ x. Touched x o₂ place end) unread (m .touched));
-            }
+            page-over (omega arith) (omega (arith, ap length longer, length-append (head ++ joined ws) (line-words names l)))
+            (touched-then begin end place end begin end (omega arith) (omega arith) (omega arith) (omega arith) (h .touched) (subst (λ x. Touched x o₂ place end) unread (m .touched)))
 
-        pub page-put : {next : ℕ} → end < 268435456 → r ≡ End next → Page o₀ o₂ begin first end next false head (add-line names ws l)
+        pub page-put : {next : ℕ} → end < 268435456 → r ≡ End next → Page o₀ o₂ begin first end next head (add-line names ws l)
         page-put {next} short q =
             let d = h .stands e in
             let u = subst (λ x. Laid x o₂ place end true (line-words names l) next) unread (laid-of p q) in
@@ -227,7 +214,7 @@ module _ {o₀ o : List ℕ} {begin first end place : ℕ} {full : Bool} {head :
               stands = λ _. subst (λ v. Laid o₀ o₂ begin end true v next) (sym longer) (laid-then d u);
               whole = λ _. subst Wholes (sym added) (wholes-snoc ws (line-words names l) (h .whole e) (record { kind = lp .0; rest = lp .1; is = lp .2; short = omega arith }));
               begins = λ _. h .begins e;
-              over = λ z. absurd (true≢false (sym z));
+              over = λ z. absurd (omega arith);
               touched = touched-then begin end place next begin end (omega arith) (omega arith) (omega arith) (omega arith) (h .touched) (u .touched);
             }
 

@@ -1,7 +1,6 @@
 -- The lines of a path's constraints, added to an answer under way.
 use Prim.Native.Nat.{ℕ, _≤_, _<_}
 use mathlib.Core.Path.{_≡_}
-use mathlib.Core.Bool.{Bool}
 use mathlib.Core.List.{List}
 use lib.ListN.{length}
 use Rattle.rules.specs.Syntax.{Term, Constraint}
@@ -15,34 +14,22 @@ use Rattle.engine.specs.Memory.{BindingsIn}
 use Rattle.engine.specs.Walk.{Binds}
 use Rattle.engine.specs.Unify.{Meets}
 use Rattle.engine.specs.Trail.{Apart}
-use Rattle.engine.specs.Names.{Names}
 use Rattle.engine.specs.Put.{Touched}
-use Rattle.engine.specs.Page.{Page, add-lines}
+use Rattle.engine.specs.Page.{Writing, Extended}
 use Rattle.engine.specs.declared.constraints.Added.{Added}
 use Rattle.engine.specs.declared.constraints.Added.the-variants.{Done, StepsOut, PathOut}
 
--- an answer under way, with the names of its query terms' variables
-pub record Writing (s out : List ℕ) (first end place : ℕ) (full : Bool) : Type 0 where
-  pub before : List ℕ
-  pub begin : ℕ
-  pub head : List ℕ
-  pub lines : List (List ℕ)
-  pub top : ℕ
-  pub names : List ℕ
-  pub page : Page before out begin first end place full head lines
-  pub named : Names s top names
-
 -- what each case says: the lines are added, or a stop
-unfoldable pub AddedSays : {s out : List ℕ} {first end place : ℕ} {full : Bool} → Writing s out first end place full → List ℕ → Outcome (List Line) → Added → Type 0
-AddedSays {first = first} {end = end} g out′ (done ls l) (Done w left) = (left ≡ l) × Page (g .before) out′ (g .begin) first end (w .at) (w .full) (g .head) (add-lines (g .names) (g .lines) ls)
+unfoldable pub AddedSays : {s out : List ℕ} {first end place : ℕ} → Writing s out first end place → List ℕ → Outcome (List Line) → Added → Type 0
+AddedSays g out′ (done ls l) (Done next left) = (left ≡ l) × Extended g out′ next ls
 AddedSays g out′ (done ls l) StepsOut = ⊥
 AddedSays g out′ (done ls l) (PathOut left) = ⊥
-AddedSays g out′ (stop why l) (Done w left) = ⊥
+AddedSays g out′ (stop why l) (Done next left) = ⊥
 AddedSays g out′ (stop why l) StepsOut = (why ≡ no-steps) × (l ≡ 0)
 AddedSays g out′ (stop why l) (PathOut left) = (why ≡ at-bound waiting) × (left ≡ l)
 
 -- and a trial's bindings are taken back, also where it stops
-pub record AddedAs (ws s s′ : List ℕ) {out : List ℕ} {first end place : ℕ} {full : Bool} (g : Writing s out first end place full) (out′ : List ℕ) (bs : Substitution) (o : Outcome (List Line)) (r : Added) : Type 0 where
+pub record AddedAs (ws s s′ : List ℕ) {out : List ℕ} {first end place : ℕ} (g : Writing s out first end place) (out′ : List ℕ) (bs : Substitution) (o : Outcome (List Line)) (r : Added) : Type 0 where
   pub says : AddedSays g out′ o r
   pub bindings-in : BindingsIn ws s′ bs
   pub apart : Apart s s′

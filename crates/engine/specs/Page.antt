@@ -1,7 +1,7 @@
 -- The lines of an answer under way: which of them stay, and where they stand in the output.
 use Prim.Native.Nat.{ℕ, _+_, _≤_, _<_}
 use mathlib.Core.Path.{_≡_}
-use mathlib.Core.Bool.{Bool, true, false, _&&_, not}
+use mathlib.Core.Bool.{true, _&&_, not}
 use mathlib.Core.List.{List, [], _∷_, _++_}
 use lib.ListN.{length}
 use Rattle.rules.specs.Reading.{choose}
@@ -45,13 +45,28 @@ pub record Rows (o : List ℕ) (place to : ℕ) (ws : List (List ℕ)) : Type 0 
   pub ends : to ≡ place + length (joined ws)
   pub whole : Wholes ws
 
--- The answer so far, `head` and then lines from `first` on: it stands from `begin` up to `place`, or it does not fit.
-pub record Page (o₀ o : List ℕ) (begin first end place : ℕ) (full : Bool) (head : List ℕ) (lines : List (List ℕ)) : Type 0 where
-  pub stands : full ≡ false → Laid o₀ o begin end true (head ++ joined lines) place
-  pub whole : full ≡ false → Wholes lines
-  pub begins : full ≡ false → first ≡ begin + length head
-  pub over : full ≡ true → end < begin + length (head ++ joined lines)
+-- The answer so far, `head` and then lines from `first` on: it stands from `begin` up to `place`, or it does not fit and `place` is beyond `end`.
+pub record Page (o₀ o : List ℕ) (begin first end place : ℕ) (head : List ℕ) (lines : List (List ℕ)) : Type 0 where
+  pub stands : place ≤ end → Laid o₀ o begin end true (head ++ joined lines) place
+  pub whole : place ≤ end → Wholes lines
+  pub begins : place ≤ end → first ≡ begin + length head
+  pub over : end < place → end < begin + length (head ++ joined lines)
   pub touched : Touched o₀ o begin end
+
+-- an answer under way, with the names of its query terms' variables
+pub record Writing (s out : List ℕ) (first end place : ℕ) : Type 0 where
+  pub before : List ℕ
+  pub begin : ℕ
+  pub head : List ℕ
+  pub lines : List (List ℕ)
+  pub top : ℕ
+  pub names : List ℕ
+  pub page : Page before out begin first end place head lines
+  pub named : Names s top names
+
+-- and with these lines more
+abbrev pub Extended : {s out : List ℕ} {first end place : ℕ} → Writing s out first end place → List ℕ → ℕ → List Line → Type 0
+Extended {first = first} {end = end} g out′ place′ ls = Page (g .before) out′ (g .begin) first end place′ (g .head) (add-lines (g .names) (g .lines) ls)
 
 -- the variables of a term where they stand, also those that stand there again
 unfoldable pub occurrences : Term → List ℕ
@@ -60,30 +75,16 @@ occurrences (atom a) = []
 occurrences (pair s t) = occurrences s ++ occurrences t
 
 -- an absence or a type whose lines are to be added
-pub record AddsAbsent (ws s out : List ℕ) (tag w first end place : ℕ) (full : Bool) (pairs : ℕ) : Type 0 where
-  pub before : List ℕ
-  pub begin : ℕ
-  pub head : List ℕ
-  pub lines : List (List ℕ)
-  pub top : ℕ
-  pub names : List ℕ
-  pub page : Page before out begin first end place full head lines
-  pub named : Names s top names
+pub record AddsAbsent (ws s out : List ℕ) (tag w first end place pairs : ℕ) : Type 0 where
+  pub writing : Writing s out first end place
   pub tag-of : Atom
   pub is-tag : tag ≡ atom-word tag-of
   pub term : Term
   pub here : Resolves ws s w term
   pub small : term-size term ≤ pairs
 
-pub record AddsTyped (ws s out : List ℕ) (kind w first end place : ℕ) (full : Bool) : Type 0 where
-  pub before : List ℕ
-  pub begin : ℕ
-  pub head : List ℕ
-  pub lines : List (List ℕ)
-  pub top : ℕ
-  pub names : List ℕ
-  pub page : Page before out begin first end place full head lines
-  pub named : Names s top names
+pub record AddsTyped (ws s out : List ℕ) (kind w first end place : ℕ) : Type 0 where
+  pub writing : Writing s out first end place
   pub sort : Sort
   pub is-kind : kind ≡ sort-kind sort
   pub term : Term

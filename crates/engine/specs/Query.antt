@@ -1,7 +1,7 @@
 -- What the loops over a query's parameters promise, and the page that an answer begins with.
 use Prim.Native.Nat.{ℕ, _+_, _≤_, _<_}
 use mathlib.Core.Path.{_≡_}
-use mathlib.Core.Bool.{true, false}
+use mathlib.Core.Bool.{true}
 use mathlib.Core.List.{List, map}
 use Rattle.rules.specs.Syntax.{var}
 use Rattle.rules.specs.Written.{part, terms-words}
@@ -38,16 +38,16 @@ pub record Query (ws s : List ℕ) (n pairs : ℕ) (bs : Substitution) (names : 
 
 -- the words of an answer but its own, from the word after `start` on, if they fit
 unfoldable pub Ends : List ℕ → List ℕ → ℕ → ℕ → List ℕ → Added → Type 0
-Ends o₀ o start end v (added.Done w left) = w .full ≡ false → Laid o₀ o (start + 1) end true v (w .at)
+Ends o₀ o start end v (added.Done place left) = place ≤ end → Laid o₀ o (start + 1) end true v place
 Ends o₀ o start end v added.StepsOut = Unit {0}
 Ends o₀ o start end v (added.PathOut left) = Unit {0}
 
 -- with its own word, where all of it fits
 unfoldable pub EndedAs : List ℕ → List ℕ → List ℕ → ℕ → ℕ → List ℕ → Added → Answered → Type 0
-EndedAs o₀ o o′ start end v (added.Done w left) (answered.Written n l) = (w .full ≡ false) × (l ≡ left) × Laid o₀ o′ start end true (part 15 v) n
-EndedAs o₀ o o′ start end v (added.Done w left) (answered.Full l) = (w .full ≡ true) × (l ≡ left) × (o′ ≡ o)
-EndedAs o₀ o o′ start end v (added.Done w left) answered.StepsOut = ⊥
-EndedAs o₀ o o′ start end v (added.Done w left) (answered.PathOut l) = ⊥
+EndedAs o₀ o o′ start end v (added.Done place left) (answered.Written n l) = (place ≤ end) × (l ≡ left) × Laid o₀ o′ start end true (part 15 v) n
+EndedAs o₀ o o′ start end v (added.Done place left) (answered.Full l) = (end < place) × (l ≡ left) × (o′ ≡ o)
+EndedAs o₀ o o′ start end v (added.Done place left) answered.StepsOut = ⊥
+EndedAs o₀ o o′ start end v (added.Done place left) (answered.PathOut l) = ⊥
 EndedAs o₀ o o′ start end v added.StepsOut (answered.Written n l) = ⊥
 EndedAs o₀ o o′ start end v added.StepsOut (answered.Full l) = ⊥
 EndedAs o₀ o o′ start end v added.StepsOut answered.StepsOut = o′ ≡ o

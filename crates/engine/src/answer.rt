@@ -3,7 +3,6 @@ use crate::constraints::Added;
 use crate::constraints::add_constraints;
 use crate::look::Looked;
 use crate::names::clear_names;
-use crate::page::Written;
 use crate::put::Put;
 use crate::put::put_head;
 use crate::query::look_parameters;
@@ -51,36 +50,27 @@ fn begin_page(
     start: usize,
     end: usize,
     pairs: u32,
-) -> Written
+) -> usize
     requires { ⌜ (end ≤ length (now output)) × (end < 268435456) × (params ≤ 2048) × ((bs : Substitution) × (names : List ℕ) × Query (now program) (now scratch) params pairs bs names) ⌝ }
-    ensures { λ r. ⌜ ((bs : Substitution) (names : List ℕ) → Query (now (program .entry)) (now (scratch .entry)) params pairs bs names → Page (now (output .entry)) (now (output .exit)) (start + 1) (r .at) end (r .at) (r .full) (query-words bs names 0 params) []) ⌝ }
+    ensures { λ r. ⌜ ((bs : Substitution) (names : List ℕ) → Query (now (program .entry)) (now (scratch .entry)) params pairs bs names → Page (now (output .entry)) (now (output .exit)) (start + 1) r end r (query-words bs names 0 params) []) ⌝ }
 {
     if end <= start {
-        return Written {
-            at: start,
-            full: true,
-        };
+        return end + 1;
     }
     match put_parameters(program, scratch, output, params, start + 1, end, pairs) {
         Put::End(next) => {
-            return Written {
-                at: next,
-                full: false,
-            };
+            return next;
         }
         Put::Missed => {
-            return Written {
-                at: start,
-                full: true,
-            };
+            return end + 1;
         }
     }
 }
 
 // The answer's own word, if all of it fits.
-fn end_page(output: &mut [u32], start: usize, added: Added) -> Answered
-    requires { ⌜ ((o : List ℕ) × (end : ℕ) × (v : List ℕ) × (end ≤ length (now output)) × (end < 268435456) × Ends o (now output) start end v added) ⌝ }
-    ensures { λ r. ⌜ ((o : List ℕ) (end : ℕ) (v : List ℕ) → Ends o (now (output .entry)) start end v added → EndedAs o (now (output .entry)) (now (output .exit)) start end v added r) ⌝ }
+fn end_page(output: &mut [u32], start: usize, end: usize, added: Added) -> Answered
+    requires { ⌜ (end ≤ length (now output)) × (end < 268435456) × ((o : List ℕ) × (v : List ℕ) × Ends o (now output) start end v added) ⌝ }
+    ensures { λ r. ⌜ ((o : List ℕ) (v : List ℕ) → Ends o (now (output .entry)) start end v added → EndedAs o (now (output .entry)) (now (output .exit)) start end v added r) ⌝ }
 {
     match added {
         Added::StepsOut => {
@@ -89,12 +79,12 @@ fn end_page(output: &mut [u32], start: usize, added: Added) -> Answered
         Added::PathOut(left) => {
             return Answered::PathOut(left);
         }
-        Added::Done(written, left) => {
-            if written.full {
+        Added::Done(at, left) => {
+            if end < at {
                 return Answered::Full(left);
             }
-            put_head(output, start, written.at, Word::ANSWER, true);
-            return Answered::Written(written.at as u32, left);
+            put_head(output, start, at, Word::ANSWER, true);
+            return Answered::Written(at as u32, left);
         }
     }
 }
@@ -122,20 +112,20 @@ pub(crate) fn write_answer(
             let start = used as usize;
             let end = usable(output.len());
             let top = name_parameters(program, scratch, params, state.left);
-            let page = begin_page(program, scratch, output, params, start, end, state.left);
+            let first = begin_page(program, scratch, output, params, start, end, state.left);
             let added = add_constraints(
                 program,
                 scratch,
                 output,
                 state.kept,
                 state.trail,
-                page.at,
+                first,
                 end,
-                page,
+                first,
                 left,
             );
             clear_names(scratch, top);
-            return end_page(output, start, added);
+            return end_page(output, start, end, added);
         }
     }
 }

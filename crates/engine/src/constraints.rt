@@ -7,7 +7,6 @@ use crate::lines::add_typed;
 use crate::look::Looked;
 use crate::look::look;
 use crate::look::look_equations;
-use crate::page::Written;
 use crate::page::add_line;
 use crate::trail::undo;
 use crate::unify::Unified;
@@ -27,17 +26,18 @@ ghost use Rattle.semantics.proofs.Sound.{Sound};
 ghost use Rattle.engine.specs.Reference.{KeepsAt};
 ghost use Rattle.engine.specs.Walk.{Binds, Follows};
 ghost use Rattle.engine.specs.Review.{Kept};
-ghost use Rattle.engine.specs.Adding.{Writing, AddedAs, Differs, Lists};
+ghost use Rattle.engine.specs.Page.{Writing};
+ghost use Rattle.engine.specs.Adding.{AddedAs, Differs, Lists};
 
 // How the lines of constraints end: where the next one goes with the steps left, or a stop.
 pub enum Added {
-    Done(Written, u32),
+    Done(usize, u32),
     StepsOut,
     PathOut(u32),
 }
 
 // A disequality: its trial again. What it bound is taken back in every case, and listed if it succeeded.
-fn add_differ(
+fn differ_lines(
     program: &[u32],
     scratch: &mut [u32],
     output: &mut [u32],
@@ -46,19 +46,19 @@ fn add_differ(
     trail: u32,
     first: usize,
     end: usize,
-    written: Written,
+    at: usize,
     steps: u32,
 ) -> Added
-    requires { ⌜ (end ≤ length (now output)) × (end < 268435456) × Writing (now scratch) (now output) first end (written .at) (written .full)
+    requires { ⌜ (end ≤ length (now output)) × (end < 268435456) × Writing (now scratch) (now output) first end at
         × ((bs : Substitution) × (u : Term) × (v : Term) × Differs (now program) (now scratch) bs left u right v trail) ⌝ }
-    ensures { λ r. ⌜ ((g : Writing (now (scratch .entry)) (now (output .entry)) first end (written .at) (written .full)) (bs : Substitution) (u v : Term)
+    ensures { λ r. ⌜ ((g : Writing (now (scratch .entry)) (now (output .entry)) first end at) (bs : Substitution) (u v : Term)
         → Differs (now (program .entry)) (now (scratch .entry)) bs left u right v trail
         → AddedAs (now (program .entry)) (now (scratch .entry)) (now (scratch .exit)) g (now (output .exit)) bs (lines-of bs (differ u v) steps) r) ⌝ }
 {
     match unify(&*program, scratch, left, right, trail, steps) {
         Unified::Failed(top, rest) => {
             undo(scratch, trail, top);
-            return Added::Done(written, rest);
+            return Added::Done(at, rest);
         }
         Unified::StepsOut(top) => {
             undo(scratch, trail, top);
@@ -81,7 +81,7 @@ fn add_differ(
                 }
                 Looked::Done(after) => {
                     let line = Listed::Differ(mark, count);
-                    let next = add_line(program, scratch, output, line, first, end, written, rest);
+                    let next = add_line(program, scratch, output, line, first, end, at, rest);
                     return Added::Done(next, after);
                 }
             }
@@ -90,19 +90,19 @@ fn add_differ(
 }
 
 // An absence: its term's nodes, then a line for each open variable in it.
-fn add_absento(
+fn absence_lines(
     program: &[u32],
     scratch: &[u32],
     output: &mut [u32],
     constraint: u32,
     first: usize,
     end: usize,
-    written: Written,
+    at: usize,
     steps: u32,
 ) -> Added
-    requires { ⌜ (end ≤ length (now output)) × (end < 268435456) × Writing (now scratch) (now output) first end (written .at) (written .full)
+    requires { ⌜ (end ≤ length (now output)) × (end < 268435456) × Writing (now scratch) (now output) first end at
         × ((bs : Substitution) × (a : Atom) × (t : Term) × Binds (now program) (now scratch) bs × KeepsAt (now program) constraint (absento a t)) ⌝ }
-    ensures { λ r. ⌜ ((g : Writing (now (scratch .entry)) (now (output .entry)) first end (written .at) (written .full)) (bs : Substitution) (a : Atom) (t : Term)
+    ensures { λ r. ⌜ ((g : Writing (now (scratch .entry)) (now (output .entry)) first end at) (bs : Substitution) (a : Atom) (t : Term)
         → Binds (now (program .entry)) (now (scratch .entry)) bs → KeepsAt (now (program .entry)) constraint (absento a t)
         → AddedAs (now (program .entry)) (now (scratch .entry)) (now (scratch .entry)) g (now (output .exit)) bs (lines-of bs (absento a t) steps) r) ⌝ }
 {
@@ -124,7 +124,7 @@ fn add_absento(
                 term,
                 first,
                 end,
-                written,
+                at,
                 steps,
             );
             return Added::Done(next, rest);
@@ -133,7 +133,7 @@ fn add_absento(
 }
 
 // A type: its term's nodes, then a line if it is an open variable.
-fn add_type(
+fn type_lines(
     program: &[u32],
     scratch: &[u32],
     output: &mut [u32],
@@ -141,12 +141,12 @@ fn add_type(
     term: u32,
     first: usize,
     end: usize,
-    written: Written,
+    at: usize,
     steps: u32,
 ) -> Added
-    requires { ⌜ (end ≤ length (now output)) × (end < 268435456) × Writing (now scratch) (now output) first end (written .at) (written .full)
+    requires { ⌜ (end ≤ length (now output)) × (end < 268435456) × Writing (now scratch) (now output) first end at
         × ((bs : Substitution) × (k : Sort) × (t : Term) × Follows (now program) (now scratch) bs term t × (kind ≡ sort-kind k)) ⌝ }
-    ensures { λ r. ⌜ ((g : Writing (now (scratch .entry)) (now (output .entry)) first end (written .at) (written .full)) (bs : Substitution) (k : Sort) (t : Term)
+    ensures { λ r. ⌜ ((g : Writing (now (scratch .entry)) (now (output .entry)) first end at) (bs : Substitution) (k : Sort) (t : Term)
         → Follows (now (program .entry)) (now (scratch .entry)) bs term t → kind ≡ sort-kind k
         → AddedAs (now (program .entry)) (now (scratch .entry)) (now (scratch .entry)) g (now (output .exit)) bs (lines-of bs (typed k t) steps) r) ⌝ }
 {
@@ -158,7 +158,7 @@ fn add_type(
             return Added::PathOut(rest);
         }
         Looked::Done(rest) => {
-            let next = add_typed(program, scratch, output, kind, term, first, end, written);
+            let next = add_typed(program, scratch, output, kind, term, first, end, at);
             return Added::Done(next, rest);
         }
     }
@@ -173,19 +173,19 @@ fn add_constraint(
     trail: u32,
     first: usize,
     end: usize,
-    written: Written,
+    at: usize,
     steps: u32,
 ) -> Added
-    requires { ⌜ (end ≤ length (now output)) × (end < 268435456) × Writing (now scratch) (now output) first end (written .at) (written .full)
+    requires { ⌜ (end ≤ length (now output)) × (end < 268435456) × Writing (now scratch) (now output) first end at
         × ((bs : Substitution) × (cs : List Constraint) × (c : Constraint) × Lists (now program) (now scratch) bs cs constraint c trail) ⌝ }
-    ensures { λ r. ⌜ ((g : Writing (now (scratch .entry)) (now (output .entry)) first end (written .at) (written .full)) (bs : Substitution) (cs : List Constraint) (c : Constraint)
+    ensures { λ r. ⌜ ((g : Writing (now (scratch .entry)) (now (output .entry)) first end at) (bs : Substitution) (cs : List Constraint) (c : Constraint)
         → Lists (now (program .entry)) (now (scratch .entry)) bs cs constraint c trail
         → AddedAs (now (program .entry)) (now (scratch .entry)) (now (scratch .exit)) g (now (output .exit)) bs (lines-of bs c steps) r) ⌝ }
 {
     let kind = node_at(program, constraint).kind;
     if kind == Word::DIFFER {
         let second = skip(program, constraint + 1);
-        return add_differ(
+        return differ_lines(
             program,
             scratch,
             output,
@@ -194,23 +194,23 @@ fn add_constraint(
             trail,
             first,
             end,
-            written,
+            at,
             steps,
         );
     }
     if kind == Word::ABSENTO {
-        return add_absento(
+        return absence_lines(
             program,
             scratch,
             output,
             constraint,
             first,
             end,
-            written,
+            at,
             steps,
         );
     }
-    add_type(
+    type_lines(
         program,
         scratch,
         output,
@@ -218,7 +218,7 @@ fn add_constraint(
         constraint + 1,
         first,
         end,
-        written,
+        at,
         steps,
     )
 }
@@ -232,16 +232,16 @@ pub(crate) fn add_constraints(
     trail: u32,
     first: usize,
     end: usize,
-    page: Written,
+    at: usize,
     steps: u32,
 ) -> Added
-    requires { ⌜ (end ≤ length (now output)) × (end < 268435456) × Writing (now scratch) (now output) first end (page .at) (page .full)
+    requires { ⌜ (end ≤ length (now output)) × (end < 268435456) × Writing (now scratch) (now output) first end at
         × ((bs : Substitution) × (cs : List Constraint) × (made : ℕ) × Kept (now program) (now scratch) bs cs trail kept × Sound bs cs made) ⌝ }
-    ensures { λ r. ⌜ ((g : Writing (now (scratch .entry)) (now (output .entry)) first end (page .at) (page .full)) (bs : Substitution) (cs : List Constraint) (made : ℕ)
+    ensures { λ r. ⌜ ((g : Writing (now (scratch .entry)) (now (output .entry)) first end at) (bs : Substitution) (cs : List Constraint) (made : ℕ)
         → Kept (now (program .entry)) (now (scratch .entry)) bs cs trail kept → Sound bs cs made
         → AddedAs (now (program .entry)) (now (scratch .entry)) (now (scratch .exit)) g (now (output .exit)) bs (all-lines bs cs steps) r) ⌝ }
 {
-    let mut written = page;
+    let mut place = at;
     let mut left = steps;
     let mut i = 0;
     while i < kept {
@@ -254,11 +254,11 @@ pub(crate) fn add_constraints(
             trail,
             first,
             end,
-            written,
+            place,
             left,
         ) {
             Added::Done(next, rest) => {
-                written = next;
+                place = next;
                 left = rest;
                 i += 1;
             }
@@ -270,5 +270,5 @@ pub(crate) fn add_constraints(
             }
         }
     }
-    Added::Done(written, left)
+    Added::Done(place, left)
 }

@@ -2,12 +2,11 @@
 use crate::follow::Shape;
 use crate::follow::follow;
 use crate::line::Listed;
-use crate::page::Written;
 use crate::page::add_line;
 ghost use Prim.Native.Nat.{_≤_, _<_};
 ghost use lib.ListN.{length};
 ghost use Rattle.semantics.specs.Answer.{typed-lines, lacks-each};
-ghost use Rattle.engine.specs.Page.{Page, add-lines, occurrences, AddsAbsent, AddsTyped};
+ghost use Rattle.engine.specs.Page.{Extended, occurrences, AddsAbsent, AddsTyped};
 
 // A type on an open variable; on anything else it holds already.
 pub(crate) fn add_typed(
@@ -18,10 +17,10 @@ pub(crate) fn add_typed(
     term: u32,
     first: usize,
     end: usize,
-    written: Written,
-) -> Written
-    requires { ⌜ (end ≤ length (now output)) × (end < 268435456) × AddsTyped (now program) (now scratch) (now output) kind term first end (written .at) (written .full) ⌝ }
-    ensures { λ r. ⌜ ((g : AddsTyped (now (program .entry)) (now (scratch .entry)) (now (output .entry)) kind term first end (written .at) (written .full)) → Page (g .before) (now (output .exit)) (g .begin) first end (r .at) (r .full) (g .head) (add-lines (g .names) (g .lines) (typed-lines (g .sort) (g .term)))) ⌝ }
+    at: usize,
+) -> usize
+    requires { ⌜ (end ≤ length (now output)) × (end < 268435456) × AddsTyped (now program) (now scratch) (now output) kind term first end at ⌝ }
+    ensures { λ r. ⌜ ((g : AddsTyped (now (program .entry)) (now (scratch .entry)) (now (output .entry)) kind term first end at) → Extended (g .writing) (now (output .exit)) r (typed-lines (g .sort) (g .term))) ⌝ }
 {
     match follow(program, scratch, term) {
         Shape::Open(x) => {
@@ -32,15 +31,15 @@ pub(crate) fn add_typed(
                 Listed::Typed(kind, x),
                 first,
                 end,
-                written,
+                at,
                 0,
             );
         }
         Shape::Atom(_) => {
-            return written;
+            return at;
         }
         Shape::Pair(_, _) => {
-            return written;
+            return at;
         }
     }
 }
@@ -54,15 +53,14 @@ pub(crate) fn add_absent(
     term: u32,
     first: usize,
     end: usize,
-    written: Written,
+    at: usize,
     pairs: u32,
-) -> Written
-    requires { ⌜ (end ≤ length (now output)) × (end < 268435456) × AddsAbsent (now program) (now scratch) (now output) tag term first end (written .at) (written .full) pairs ⌝ }
-    ensures { λ r. ⌜ ((g : AddsAbsent (now (program .entry)) (now (scratch .entry)) (now (output .entry)) tag term first end (written .at) (written .full) pairs) → Page (g .before) (now (output .exit)) (g .begin) first end (r .at) (r .full) (g .head) (add-lines (g .names) (g .lines) (lacks-each (g .tag-of) (occurrences (g .term))))) ⌝ }
+) -> usize
+    requires { ⌜ (end ≤ length (now output)) × (end < 268435456) × AddsAbsent (now program) (now scratch) (now output) tag term first end at pairs ⌝ }
+    ensures { λ r. ⌜ ((g : AddsAbsent (now (program .entry)) (now (scratch .entry)) (now (output .entry)) tag term first end at pairs) → Extended (g .writing) (now (output .exit)) r (lacks-each (g .tag-of) (occurrences (g .term)))) ⌝ }
 {
     let mut from = term;
-    let mut at = written.at;
-    let mut full = written.full;
+    let mut place = at;
     let mut left = pairs;
     loop {
         match follow(program, scratch, from) {
@@ -74,16 +72,16 @@ pub(crate) fn add_absent(
                     Listed::Lacks(tag, x),
                     first,
                     end,
-                    Written { at, full },
+                    place,
                     left,
                 );
             }
             Shape::Atom(_) => {
-                return Written { at, full };
+                return place;
             }
             Shape::Pair(a, b) => {
                 left -= 1;
-                let next = add_absent(
+                place = add_absent(
                     program,
                     scratch,
                     output,
@@ -91,11 +89,9 @@ pub(crate) fn add_absent(
                     a,
                     first,
                     end,
-                    Written { at, full },
+                    place,
                     left,
                 );
-                at = next.at;
-                full = next.full;
                 from = b;
             }
         }

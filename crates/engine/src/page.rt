@@ -1,4 +1,5 @@
 // The lines of one answer: which of them stay. A dropped or repeated line needs no room, not even for a moment.
+// How far an answer is written is one number, `at`: where its next line goes, beyond `end` once a line did not fit.
 use crate::line::Listed;
 use crate::line::line_named;
 use crate::line::put_line;
@@ -14,12 +15,6 @@ ghost use Rattle.semantics.specs.Answer.{line-in, line-words, same-words, any-s
 ghost use Rattle.engine.specs.Names.{Names};
 ghost use Rattle.engine.specs.Lines.{LineAs};
 ghost use Rattle.engine.specs.Page.{Rows, Page, add-line};
-
-// Where the next line goes, and whether one did not fit.
-pub struct Written {
-    pub at: usize,
-    pub full: bool,
-}
 
 // Whether the line has the words from `place` up to `next`.
 pub(crate) fn same_line(
@@ -80,31 +75,27 @@ pub(crate) fn add_line(
     line: Listed,
     first: usize,
     end: usize,
-    written: Written,
+    at: usize,
     pairs: u32,
-) -> Written
-    requires { ⌜ (end ≤ length (now output)) × (end < 268435456) × (12288 ≤ length (now scratch)) × ((o : List ℕ) × (begin : ℕ) × (head : List ℕ) × (ws : List (List ℕ)) × (l : Line) × (top : ℕ) × (names : List ℕ) × Page o (now output) begin first end (written .at) (written .full) head ws × LineAs (now program) (now scratch) pairs line l × Names (now scratch) top names) ⌝ }
-    ensures { λ r. ⌜ ((o : List ℕ) (begin : ℕ) (head : List ℕ) (ws : List (List ℕ)) (l : Line) (top : ℕ) (names : List ℕ) → Page o (now (output .entry)) begin first end (written .at) (written .full) head ws → LineAs (now (program .entry)) (now (scratch .entry)) pairs line l → Names (now (scratch .entry)) top names → Page o (now (output .exit)) begin first end (r .at) (r .full) head (add-line names ws l)) ⌝ }
+) -> usize
+    requires { ⌜ (end ≤ length (now output)) × (end < 268435456) × (12288 ≤ length (now scratch)) × ((o : List ℕ) × (begin : ℕ) × (head : List ℕ) × (ws : List (List ℕ)) × (l : Line) × (top : ℕ) × (names : List ℕ) × Page o (now output) begin first end at head ws × LineAs (now program) (now scratch) pairs line l × Names (now scratch) top names) ⌝ }
+    ensures { λ r. ⌜ ((o : List ℕ) (begin : ℕ) (head : List ℕ) (ws : List (List ℕ)) (l : Line) (top : ℕ) (names : List ℕ) → Page o (now (output .entry)) begin first end at head ws → LineAs (now (program .entry)) (now (scratch .entry)) pairs line l → Names (now (scratch .entry)) top names → Page o (now (output .exit)) begin first end r head (add-line names ws l)) ⌝ }
 {
-    let at = written.at;
-    if written.full {
-        return Written { at, full: true };
+    if end < at {
+        return at;
     }
     if line_named(program, scratch, line, pairs) {
         if repeated(program, scratch, output, line, first, at, pairs) {
-            return Written { at, full: false };
+            return at;
         }
         match put_line(program, scratch, output, line, at, end, true, pairs) {
             Put::Missed => {
-                return Written { at, full: true };
+                return end + 1;
             }
             Put::End(next) => {
-                return Written {
-                    at: next,
-                    full: false,
-                };
+                return next;
             }
         }
     }
-    Written { at, full: false }
+    at
 }

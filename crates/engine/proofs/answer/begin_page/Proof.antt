@@ -4,6 +4,9 @@ use borrow.Author.Needs.{needs}
 use Rattle.engine.proofs.answer.begin_page.Statement.{statement}
 use Rattle.engine.proofs.answer.begin_page.Tie as tie
 
+add-result : tie.Need-add-result
+add-result c = search needs
+
 returns : tie.Need-returns
 returns c = λ bs names q. begin-none _ (c .if1 .taken)
 
@@ -25,6 +28,9 @@ returns-2 c = λ bs names q. begin-put _ (c .before .before .before .before .bef
 enum-told : tie.Need-enum-told
 enum-told c = search needs
 
+add-result-2 : tie.Need-add-result-2
+add-result-2 c = search needs
+
 same-length-2 : tie.Need-same-length-2
 same-length-2 c = search needs
 
@@ -35,6 +41,7 @@ pub begin-page-spec : {M : Type 1} → statement M
 begin-page-spec =
     tie.close
     (tie.spec
+    add-result
     returns
     add-put-parameters
     put-parameters-requires
@@ -42,5 +49,6 @@ begin-page-spec =
     same-length
     returns-2
     enum-told
+    add-result-2
     same-length-2
     returns-3)

@@ -10,38 +10,38 @@ use Rattle.engine.proofs.answer.end_page.Statement.{statement}
 use Rattle.engine.proofs.answer.end_page.Tie as tie
 
 -- the words but the first, as the caller knows of them
-laid-at : (c : tie.After-put-head-arg) → (let a = c .before .before .before .before .before .before .args in let q = c .before .before .before .before .before .before .pre in Laid (q .0) (a .output .now) (a .start + 1) (q .1) true (q .2) (c .before .before .before .added2 .given .0 .0 .at))
-laid-at c = ends-laid _ _ _ _ _ _ (c .before .before .before .before .before .before .pre .5) (c .before .before .before .added2 .given .1) (c .before .if1 .left)
+laid-at : (c : tie.After-put-head-arg) → (let a = c .before .before .before .before .before .before .args in let q = c .before .before .before .before .before .before .pre in Laid (q .2 .0) (a .output .now) (a .start + 1) (a .end) true (q .2 .1) (c .before .before .before .added2 .given .0 .0))
+laid-at c = ends-laid _ _ _ _ _ _ (c .before .before .before .before .before .before .pre .2 .2) (c .before .before .before .added2 .given .1) (c .before .if1 .left)
 
 enum-told : tie.Need-enum-told
 enum-told c = search needs
 
 returns : tie.Need-returns
-returns c = λ o end v h. ended-steps _ _ _ _ _ _ (c .enum-told .given .1)
+returns c = λ o v h. ended-steps _ _ _ _ _ _ (c .enum-told .given .1)
 
 enum-known-added : tie.Need-enum-known-added
 enum-known-added c = search needs
 
 returns-2 : tie.Need-returns-2
-returns-2 c = λ o end v h. ended-path _ _ _ _ _ _ (c .before .added .given .1)
+returns-2 c = λ o v h. ended-path _ _ _ _ _ _ (c .before .added .given .1)
 
 enum-known-added-2 : tie.Need-enum-known-added-2
 enum-known-added-2 c = search needs
 
 returns-3 : tie.Need-returns-3
-returns-3 c = λ o end v h. ended-full _ _ _ _ _ _ (c .before .before .added2 .given .1) (c .if1 .taken)
+returns-3 c = λ o v h. ended-full _ _ _ _ _ _ (c .before .before .added2 .given .1) (c .if1 .taken)
 
 put-head-requires : tie.Need-put-head-requires
-put-head-requires c κs = let d = laid-at c in let q = c .before .before .before .before .before .before .pre in (omega (arith, d .is), omega (arith, d .fits, q .3), omega (arith, d .fits, q .4), omega arith)
+put-head-requires c κs = let d = laid-at c in let q = c .before .before .before .before .before .before .pre in (omega (arith, d .is), omega (arith, d .fits, q .0), omega (arith, d .fits, q .1), omega arith)
 
-cast-t11 : tie.Need-cast-t11
-cast-t11 c = let d = laid-at (c .before .before .before .before) in let q = c .before .before .before .before .before .before .before .before .before .before .pre in omega (arith, d .fits, q .4)
+cast-t12 : tie.Need-cast-t12
+cast-t12 c = let d = laid-at (c .before .before .before) in let q = c .before .before .before .before .before .before .before .before .before .pre in omega (arith, d .fits, q .1)
 
 same-length : tie.Need-same-length
 same-length c = search needs
 
 returns-4 : tie.Need-returns-4
-returns-4 c = λ o end v h. ended-written _ _ _ _ _ _ h (c .before .before .before .before .before .before .before .added2 .given .1) (c .before .before .before .before .before .if1 .left) refl (c .before .before .before .put-head .ensures o end v (ends-laid _ _ _ _ _ _ h (c .before .before .before .before .before .before .before .added2 .given .1) (c .before .before .before .before .before .if1 .left)))
+returns-4 c = λ o v h. ended-written _ _ _ _ _ _ h (c .before .before .before .before .before .before .added2 .given .1) (c .before .before .before .before .if1 .left) refl (c .before .before .put-head .ensures o _ v (ends-laid _ _ _ _ _ _ h (c .before .before .before .before .before .before .added2 .given .1) (c .before .before .before .before .if1 .left)))
 
 pub end-page-spec : {M : Type 1} → statement M
 end-page-spec =
@@ -54,6 +54,6 @@ end-page-spec =
     enum-known-added-2
     returns-3
     put-head-requires
-    cast-t11
+    cast-t12
     same-length
     returns-4)

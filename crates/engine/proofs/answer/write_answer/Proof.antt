@@ -64,7 +64,7 @@ clear-names-requires : tie.Need-clear-names-requires
 clear-names-requires c κs = let d = c .before .before .before .before .before in let b = begun-at d in let n = named-at b in let a = start-at n .pre .3 in (omega (arith, a .stored .roomy .long, named-now a _ (looked-at n .look-parameters .ensures) _ (left-at n .left2 .given .1) (n .name-parameters .ensures) .long, apart-now a _ (looked-at n .look-parameters .ensures) _ (left-at n .left2 .given .1) (n .name-parameters .ensures) (b .begin-page .ensures) _ (d .add-constraints .ensures) .long), (_, names-now a _ (looked-at n .look-parameters .ensures) _ (left-at n .left2 .given .1) (n .name-parameters .ensures) (b .begin-page .ensures) _ (d .add-constraints .ensures)))
 
 end-page-requires : tie.Need-end-page-requires
-end-page-requires c κs = let d = c .before .before .before .before .before .before .before .before .before in let b = begun-at d in let n = named-at b in let a = start-at n .pre .3 in (start-at n .args .output .now, limit-at n .usable .result, _, omega (arith, limit-at n .usable .ensures, touched-now a _ (looked-at n .look-parameters .ensures) _ (left-at n .left2 .given .1) (n .name-parameters .ensures) (b .begin-page .ensures) _ (d .add-constraints .ensures) .long), omega (arith, limit-at n .usable .ensures), ends-now a _ (looked-at n .look-parameters .ensures) _ (left-at n .left2 .given .1) (n .name-parameters .ensures) (b .begin-page .ensures) _ (d .add-constraints .ensures))
+end-page-requires c κs = let d = c .before .before .before .before .before .before .before .before .before in let b = begun-at d in let n = named-at b in let a = start-at n .pre .3 in (omega (arith, limit-at n .usable .ensures, touched-now a _ (looked-at n .look-parameters .ensures) _ (left-at n .left2 .given .1) (n .name-parameters .ensures) (b .begin-page .ensures) _ (d .add-constraints .ensures) .long), omega (arith, limit-at n .usable .ensures), (start-at n .args .output .now, _, ends-now a _ (looked-at n .look-parameters .ensures) _ (left-at n .left2 .given .1) (n .name-parameters .ensures) (b .begin-page .ensures) _ (d .add-constraints .ensures)))
 
 same-length-3 : tie.Need-same-length-3
 same-length-3 c = search needs

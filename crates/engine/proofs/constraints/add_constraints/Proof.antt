@@ -1,6 +1,5 @@
 -- `add_constraints` goes over the constraints kept, as the definition does.
 use Prim.Native.Nat.{ℕ, _-_}
-use mathlib.Core.Path.{refl}
 use mathlib.Core.List.{List}
 use native.Mathlib.Omega.{arith}
 use borrow.Author.Needs.{needs}
@@ -8,17 +7,17 @@ use Rattle.rules.specs.Syntax.{Constraint}
 use Rattle.semantics.specs.Substitution.{Substitution}
 use Rattle.semantics.proofs.Sound.{Sound}
 use Rattle.engine.specs.Review.{Kept}
-use Rattle.engine.specs.Adding.{Writing}
+use Rattle.engine.specs.Page.{Writing}
 use Rattle.engine.proofs.AddingLaws.{Adding, adding-start, adding-long, adding-writing, adding-next, adding-end, adding-still, adding-room, adding-stops, adding-bound, adding-on}
 use Rattle.engine.proofs.constraints.add_constraints.Statement.{statement}
 use Rattle.engine.proofs.constraints.add_constraints.Tie as tie
 
 abbrev Inv-loop : tie.InvT-loop
-Inv-loop program scratch₀ output₀ kept trail first end steps written₀ left₀ i₀ scratch output written left i = (g : Writing scratch₀ output₀ first end (written₀ .at) (written₀ .full)) (bs : Substitution) (cs : List Constraint) (made : ℕ) → Kept program scratch₀ bs cs trail kept → Sound bs cs made
-    → Adding program scratch₀ g bs cs trail kept steps scratch output (written .at) (written .full) left i
+Inv-loop program scratch₀ output₀ kept trail first end at steps place₀ left₀ i₀ scratch output place left i = (g : Writing scratch₀ output₀ first end at) (bs : Substitution) (cs : List Constraint) (made : ℕ) → Kept program scratch₀ bs cs trail kept → Sound bs cs made
+    → Adding program scratch₀ g bs cs trail kept steps scratch output place left i
 
 abbrev μ-loop : tie.MeasureT-loop
-μ-loop program scratch₀ output₀ kept trail first end steps written₀ left₀ i₀ scratch output written left i = kept - i
+μ-loop program scratch₀ output₀ kept trail first end at steps place₀ left₀ i₀ scratch output place left i = kept - i
 
 loop-holds : tie.Need-loop-holds Inv-loop μ-loop
 loop-holds c = λ g bs cs made k d. adding-start g _ k d
@@ -81,7 +80,7 @@ same-length-6 : tie.Need-same-length-6 Inv-loop μ-loop
 same-length-6 c = let p = c .before .before .before .before .before .pre .3 in let h = c .before .loop .inv (c .before .before .before .before .before .pre .2) (p .0) (p .1) (p .2) (p .3) (p .4) in adding-long h
 
 returns-3 : tie.Need-returns-3 Inv-loop μ-loop
-returns-3 c = λ g bs cs made k d. adding-end (c .before .loop .inv g bs cs made k d) _ refl refl (c .loop-test .left)
+returns-3 c = λ g bs cs made k d. adding-end (c .before .loop .inv g bs cs made k d) (c .loop-test .left)
 
 pub add-constraints-spec : {M : Type 1} → statement M
 add-constraints-spec =

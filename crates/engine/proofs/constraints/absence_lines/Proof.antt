@@ -1,4 +1,4 @@
--- `add_absento` looks at the term's nodes, then adds the lines of its open variables.
+-- `absence_lines` looks at the term's nodes, then adds the lines of its open variables.
 use native.Mathlib.Omega.{arith}
 use mathlib.Core.List.{[]}
 use borrow.Author.Needs.{needs}
@@ -6,8 +6,8 @@ use Rattle.semantics.specs.Substitution.{resolve}
 use Rattle.semantics.specs.Answer.{appear, lacks-each}
 use Rattle.engine.proofs.ReviewSteps.{absento-inside}
 use Rattle.engine.proofs.AddingLaws.{term-steps, term-path, term-done, absento-follows, absento-adds, absento-page}
-use Rattle.engine.proofs.constraints.add_absento.Statement.{statement}
-use Rattle.engine.proofs.constraints.add_absento.Tie as tie
+use Rattle.engine.proofs.constraints.absence_lines.Statement.{statement}
+use Rattle.engine.proofs.constraints.absence_lines.Tie as tie
 
 add-term : tie.Need-add-term
 add-term c = omega (arith, c .before .before .before .pre .3 .4 .below)
@@ -45,8 +45,8 @@ same-length c = search needs
 returns-3 : tie.Need-returns-3
 returns-3 c = λ g bs a t h k. term-done g h t (c .before .before .before .before .before .before .before .before .before .before .before .before .args .steps) _ (c .before .before .before .before .before .before .before .before .look .ensures bs t (absento-follows h k)) (lacks-each a (appear [] (resolve bs t))) (c .before .before .before .before .before .before .rest2 .given .1) (absento-page h k g _ (c .before .before .before .before .before .before .before .before .look .ensures bs t (absento-follows h k)) (c .before .before .before .before .before .before .rest2 .given .1) (c .before .before .before .before .node-at .ensures) (c .before .before .add-absent .ensures))
 
-pub add-absento-spec : {M : Type 1} → statement M
-add-absento-spec =
+pub absence-lines-spec : {M : Type 1} → statement M
+absence-lines-spec =
     tie.close
     (tie.spec
     add-term

@@ -1,11 +1,11 @@
--- `add_differ` tries the two terms again. The trial is undone, or its equations are kept and listed.
+-- `differ_lines` tries the two terms again. The trial is undone, or its equations are kept and listed.
 use mathlib.Core.List.{reverse}
 use borrow.Author.Needs.{needs}
 use Rattle.engine.proofs.ReviewSteps.{trial-joined, trial-failed, trial-stepped, trial-pathed}
 use Rattle.engine.proofs.NameLaws.{names-apart}
 use Rattle.engine.proofs.AddingLaws.{trial-grown, differ-failed, differ-stepped, differ-pathed, tried, tried-line-is, tried-line, tried-steps, tried-path, tried-done}
-use Rattle.engine.proofs.constraints.add_differ.Statement.{statement}
-use Rattle.engine.proofs.constraints.add_differ.Tie as tie
+use Rattle.engine.proofs.constraints.differ_lines.Statement.{statement}
+use Rattle.engine.proofs.constraints.differ_lines.Tie as tie
 
 unify-requires : tie.Need-unify-requires
 unify-requires c κs = let p = c .before .before .before .before .pre .3 in (p .0, p .1, p .2, p .3 .meets)
@@ -94,8 +94,8 @@ same-length-7 c = search needs
 returns-6 : tie.Need-returns-6
 returns-6 c = λ g bs u v d. let t = tried (c .before .before .before .before .before .before .before .before .before .before .before .before .before .before .before .before .before .before .before .before .before .before .before .before .args .steps) d _ _ (c .before .before .before .before .before .before .before .before .before .before .before .before .before .before .before .before .before .before .before .unify .ensures bs u v (d .meets)) (c .before .before .before .before .before .before .before .before .before .before .before .before .before .before .before .top4 .given .1) _ (c .before .before .before .before .before .before .before .before .before .before .before .before .keep-equations .ensures) in let l = c .before .before .before .before .before .before .before .before .look-equations .ensures bs (reverse (t .new)) (t .looks) in tried-done t _ l g (c .before .before .before .before .before .before .after2 .given .1) (c .before .before .add-line .ensures (g .before) (g .begin) (g .head) (g .lines) (tried-line-is t _ l) (g .top) (g .names) (g .page) (tried-line t _ l (c .before .before .before .before .before .before .after2 .given .1)) (names-apart (t .apart) (g .named)))
 
-pub add-differ-spec : {M : Type 1} → statement M
-add-differ-spec =
+pub differ-lines-spec : {M : Type 1} → statement M
+differ-lines-spec =
     tie.close
     (tie.spec
     unify-requires

@@ -1,10 +1,10 @@
--- `add_type` looks at the term's nodes, then adds its line if it is an open variable.
+-- `type_lines` looks at the term's nodes, then adds its line if it is an open variable.
 use borrow.Author.Needs.{needs}
 use Rattle.semantics.specs.Substitution.{walk}
 use Rattle.semantics.specs.Answer.{typed-lines}
 use Rattle.engine.proofs.AddingLaws.{term-steps, term-path, term-done, typed-adds, typed-page}
-use Rattle.engine.proofs.constraints.add_type.Statement.{statement}
-use Rattle.engine.proofs.constraints.add_type.Tie as tie
+use Rattle.engine.proofs.constraints.type_lines.Statement.{statement}
+use Rattle.engine.proofs.constraints.type_lines.Tie as tie
 
 look-requires : tie.Need-look-requires
 look-requires c κs = let p = c .before .before .before .pre .3 in (p .0, p .2, p .3)
@@ -33,8 +33,8 @@ same-length c = search needs
 returns-3 : tie.Need-returns-3
 returns-3 c = λ g bs k t f e. term-done g (f .binds) t (c .before .before .before .before .before .before .before .before .before .before .before .args .steps) _ (c .before .before .before .before .before .before .before .look .ensures bs t f) (typed-lines k (walk bs t)) (c .before .before .before .before .before .rest2 .given .1) (typed-page k g f e (c .before .before .add-typed .ensures))
 
-pub add-type-spec : {M : Type 1} → statement M
-add-type-spec =
+pub type-lines-spec : {M : Type 1} → statement M
+type-lines-spec =
     tie.close
     (tie.spec
     look-requires

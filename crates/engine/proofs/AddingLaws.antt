@@ -26,7 +26,6 @@ use Rattle.engine.specs.Unify.{Went, UnifiedAs}
 use Rattle.engine.specs.Keep.{AllKept}
 use Rattle.engine.specs.Look.{LookedAs, Looks, rights, Small, ThroughAs}
 use Rattle.engine.specs.Lines.{Equations, LineAs, as-differ}
-use Rattle.engine.specs.Names.{Names}
 use Rattle.engine.specs.Put.{Touched}
 use Rattle.engine.specs.Page.{Page, add-line, add-lines, Writing, Extended, occurrences, AddsAbsent, AddsTyped}
 use Rattle.engine.specs.Adding.{AddedSays, AddedAs, Differs, Lists}

@@ -1,17 +1,11 @@
--- The lines of types and absences: one law for each way in which the code returns or goes on, and that a variable that stands in a term again changes nothing.
-use Prim.Native.Nat.{ℕ, zero, suc, _+_, _-_, _<_, _≤_}
+-- The lines of types and absences: one law for each way in which the code returns or goes on.
+use Prim.Native.Nat.{ℕ, _-_}
 use mathlib.Core.Path.{_≡_, refl, sym, ap, subst, _∙_}
-use mathlib.Core.Bool.{Bool, true, false, _&&_, _||_, not}
-use mathlib.Core.List.{List, [], _∷_, _++_, append-assoc, append-nil}
-use native.Mathlib.Omega.{arith}
+use mathlib.Core.List.{List, [], _∷_, _++_}
 use lib.ListN.{length}
-use Rattle.rules.specs.Reading.{choose}
-use Rattle.rules.specs.Syntax.{Atom, Term, var, atom, pair, Sort}
-use Rattle.rules.specs.Written.{atom-word, sort-kind}
-use Rattle.semantics.specs.Answer.{member, appear, Line, is-sort, lacks, line-in, line-words, any-same, typed-lines, lacks-each}
-use Rattle.semantics.proofs.Basics.{clash, by-choose, or-right}
-use Rattle.semantics.proofs.TermLaws.{term-size}
-use Rattle.engine.specs.Follow.{Resolves, Shaped}
+use Rattle.rules.specs.Syntax.{Atom}
+use Rattle.semantics.specs.Answer.{Line, is-sort, lacks, typed-lines, lacks-each}
+use Rattle.engine.specs.Follow.{Shaped}
 use Rattle.engine.specs.Names.{Names}
 use Rattle.engine.specs.Lines.{LineAs, as-sort, as-lacks}
 use Rattle.engine.specs.Page.{add-line, add-lines, Page, Writing, Extended, occurrences, AddsAbsent, AddsTyped}

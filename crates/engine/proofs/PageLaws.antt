@@ -1,5 +1,5 @@
 -- Lines that stay: one law for each way in which the code returns or goes on, and what the definition lists.
-use Prim.Native.Nat.{ℕ, zero, suc, _+_, _*_, _%_, _/_, _-_, _<_, _≤_}
+use Prim.Native.Nat.{ℕ, suc, _+_, _<_, _≤_}
 use mathlib.Core.Path.{_≡_, refl, sym, ap, ap₂, subst, _∙_}
 use mathlib.Core.Bool.{Bool, true, false, _&&_, _||_, not, false≢true}
 use mathlib.Core.List.{List, [], _∷_, _++_, append-assoc, append-nil}
@@ -7,16 +7,16 @@ use native.Mathlib.Omega.{arith}
 use lib.Dec.{eqb}
 use lib.ListN.{length, length-append}
 use borrow.Author.Tests.{eq-eqb, eqb-true}
-use Rattle.word.specs.Word.{word, payload, payload-word}
+use Rattle.word.specs.Word.{payload, payload-word}
 use Rattle.rules.specs.Reading.{choose}
 use Rattle.rules.specs.Syntax.{empty, var, atom}
 use Rattle.rules.specs.Written.{part, sort-kind, atom-word, term-words, goal-words, goals-words}
 use Rattle.rules.specs.Inner.{Stands as Spells}
-use Rattle.rules.proofs.Stands.{stands-at as spells-at, stands-append as spells-append, stands-split as spells-split}
+use Rattle.rules.proofs.Stands.{stands-at as spells-at, stands-split as spells-split}
 use Rattle.semantics.specs.Answer.{index, reify, reify-bindings, differ-goals, Line, is-sort, lacks, not-all, line-in, line-words, lines-words, same-words, any-same, listed}
-use Rattle.semantics.proofs.Basics.{clash, and-true, by-choose, or-right}
+use Rattle.semantics.proofs.Basics.{and-true, by-choose}
 use Rattle.engine.specs.Reference.{at}
-use Rattle.engine.specs.Put.{Touched, Laid, Missing, Placed, all-laid, some-missing}
+use Rattle.engine.specs.Put.{Touched, Laid, Placed, all-laid, some-missing}
 use Rattle.engine.specs.Page.{joined, add-line, add-lines, Whole, Wholes, Rows, Page}
 use Rattle.engine.specs.declared.put.Put.{Put}
 use Rattle.engine.specs.declared.put.Put.the-variants.{End, Missed}

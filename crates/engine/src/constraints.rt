@@ -116,17 +116,7 @@ fn absence_lines(
         }
         Looked::Done(rest) => {
             let tag = node_at(program, constraint + 1).bits;
-            let next = add_absent(
-                program,
-                scratch,
-                output,
-                tag,
-                term,
-                first,
-                end,
-                at,
-                steps,
-            );
+            let next = add_absent(program, scratch, output, tag, term, first, end, at, steps);
             return Added::Done(next, rest);
         }
     }
@@ -199,16 +189,7 @@ fn add_constraint(
         );
     }
     if kind == Word::ABSENTO {
-        return absence_lines(
-            program,
-            scratch,
-            output,
-            constraint,
-            first,
-            end,
-            at,
-            steps,
-        );
+        return absence_lines(program, scratch, output, constraint, first, end, at, steps);
     }
     type_lines(
         program,

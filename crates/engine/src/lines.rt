@@ -81,17 +81,7 @@ pub(crate) fn add_absent(
             }
             Shape::Pair(a, b) => {
                 left -= 1;
-                place = add_absent(
-                    program,
-                    scratch,
-                    output,
-                    tag,
-                    a,
-                    first,
-                    end,
-                    place,
-                    left,
-                );
+                place = add_absent(program, scratch, output, tag, a, first, end, place, left);
                 from = b;
             }
         }

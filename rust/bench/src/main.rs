@@ -4,11 +4,10 @@
 mod plain;
 mod programs;
 mod prolog;
-mod proved;
 mod rules;
 mod words;
 
-use plain::{End, Report};
+use kindcanvas::{Ending, Report};
 use programs::Program;
 use prolog::Style;
 use std::fmt::Write;
@@ -54,13 +53,13 @@ impl Bench {
         assert_eq!(bench.plain(), report);
         assert!(page == bench.output, "the two engines write the same page");
         assert!(bench.scratch.iter().all(|&word| word == 0));
-        bench.output.truncate(report.words as usize);
+        bench.output.truncate(report.words);
         bench.output.shrink_to_fit();
         (bench, report)
     }
 
     fn proved(&mut self) -> Report {
-        proved::run(
+        kindcanvas::run(
             &self.words,
             self.rounds,
             self.steps,
@@ -116,7 +115,7 @@ fn measure(program: &Program, swi: Option<&Path>) -> Row {
     let rules = rules::parse(&program.text);
     let (mut bench, report) = Bench::new(words::words(&rules), program.rounds);
     assert!(
-        matches!(report.end, End::Finished | End::Rounds),
+        matches!(report.end, Ending::Finished | Ending::Rounds),
         "{}: {report:?}",
         program.name
     );
@@ -187,7 +186,7 @@ fn at_steps(program: &Program, steps: u32) -> [f64; 2] {
         assert_eq!(proved, plain);
         assert_eq!(
             proved.map(|report| report.end),
-            Some(End::Steps),
+            Some(Ending::Steps),
             "{}",
             program.name
         );

@@ -1,6 +1,8 @@
 //! The engine once more in plain Rust, over the same memory and with the same steps: the limit that the proved code is
 //! measured against. Nothing is checked at run time.
 
+use kindcanvas::{Bound, Ending, Report};
+
 const ENVIRONMENT: u32 = 16384;
 const PAYLOAD: u32 = (1 << 28) - 1;
 
@@ -33,33 +35,6 @@ const MOST_GOALS: u32 = 1024;
 const MOST_DISJUNCTIONS: u32 = 256;
 const MOST_CONSTRAINTS: u32 = 512;
 const MOST_WAITING: u32 = 512;
-
-#[derive(Clone, Copy, Debug, PartialEq, Eq)]
-pub enum Bound {
-    Variables,
-    Goals,
-    Disjunctions,
-    Constraints,
-    Waiting,
-}
-
-#[derive(Clone, Copy, Debug, PartialEq, Eq)]
-pub enum End {
-    Finished,
-    Rounds,
-    Steps,
-    Output,
-    Path(Bound),
-}
-
-#[derive(Clone, Copy, Debug, PartialEq, Eq)]
-pub struct Report {
-    pub end: End,
-    pub round: u32,
-    pub steps: u32,
-    pub answers: u32,
-    pub words: u32,
-}
 
 /// Why a run is broken off.
 #[derive(Clone, Copy)]
@@ -136,11 +111,11 @@ pub unsafe fn run(
     let mut number = 0;
     let end = loop {
         match round(memory, &mut writer, number, &mut left) {
-            Err(Stop::Steps) => break End::Steps,
-            Err(Stop::Output) => break End::Output,
-            Err(Stop::Path(bound)) => break End::Path(bound),
-            Ok(0) => break End::Finished,
-            Ok(_) if limit <= number => break End::Rounds,
+            Err(Stop::Steps) => break Ending::Steps,
+            Err(Stop::Output) => break Ending::Output,
+            Err(Stop::Path(bound)) => break Ending::Path(bound),
+            Ok(0) => break Ending::Finished,
+            Ok(_) if limit <= number => break Ending::Rounds,
             Ok(_) => number += 1,
         }
     };
@@ -152,7 +127,7 @@ pub unsafe fn run(
         round: number,
         steps: steps - left,
         answers,
-        words: used as u32,
+        words: used,
     }
 }
 

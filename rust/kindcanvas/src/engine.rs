@@ -156,21 +156,7 @@ pub fn run(
     scratch: &mut [u32],
 ) -> Result<Report, Refusal> {
     let mut numbers = [0; 7];
-    // SAFETY: pointers and lengths are those of slices, used only during the call; none that is written overlaps another.
-    let result = unsafe {
-        kindcanvas_run(
-            program.as_ptr(),
-            program.len(),
-            rounds,
-            steps,
-            output.as_mut_ptr(),
-            output.len(),
-            scratch.as_mut_ptr(),
-            scratch.len(),
-            numbers.as_mut_ptr(),
-            numbers.len(),
-        )
-    };
+    let result = call(program, rounds, steps, output, scratch, &mut numbers);
     assert_eq!(result, 0, "seven numbers are enough");
     let [end, which, place, round, steps, answers, words] = numbers;
     let end = match end {
@@ -195,6 +181,32 @@ pub fn run(
     })
 }
 
+/// The exported function on slices.
+fn call(
+    program: &[u32],
+    rounds: u32,
+    steps: u32,
+    output: &mut [u32],
+    scratch: &mut [u32],
+    numbers: &mut [u32],
+) -> u32 {
+    // SAFETY: pointers and lengths are those of slices, used only during the call; none that is written overlaps another.
+    unsafe {
+        kindcanvas_run(
+            program.as_ptr(),
+            program.len(),
+            rounds,
+            steps,
+            output.as_mut_ptr(),
+            output.len(),
+            scratch.as_mut_ptr(),
+            scratch.len(),
+            numbers.as_mut_ptr(),
+            numbers.len(),
+        )
+    }
+}
+
 #[cfg(test)]
 mod tests {
     use super::*;
@@ -203,20 +215,14 @@ mod tests {
     fn too_few_numbers() {
         let program = text::parse("13:5 2:1 2:1 5:2 0:0 1:7").unwrap();
         let (mut output, mut scratch, mut numbers) = ([7; 10], vec![8; SCRATCH_WORDS], [9; 6]);
-        let result = unsafe {
-            kindcanvas_run(
-                program.as_ptr(),
-                program.len(),
-                16,
-                1_000_000,
-                output.as_mut_ptr(),
-                output.len(),
-                scratch.as_mut_ptr(),
-                scratch.len(),
-                numbers.as_mut_ptr(),
-                numbers.len(),
-            )
-        };
+        let result = call(
+            &program,
+            16,
+            1_000_000,
+            &mut output,
+            &mut scratch,
+            &mut numbers,
+        );
         assert_eq!(result, 1);
         assert_eq!((output, numbers), ([7; 10], [9; 6]));
         assert!(scratch.iter().all(|&word| word == 8));

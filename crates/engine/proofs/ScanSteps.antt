@@ -1,5 +1,5 @@
 -- One node of a scan, in the shape of the code's tests.
-use Prim.Native.Nat.{ℕ, suc, _+_, _-_, _≤_, _<_}
+use Prim.Native.Nat.{ℕ, zero, suc, _+_, _-_, _≤_, _<_}
 use mathlib.Core.Path.{_≡_, refl, sym, ap, _∙_}
 use mathlib.Core.Bool.{Bool, true, false}
 use mathlib.Core.List.{List, _∷_}
@@ -12,10 +12,11 @@ use Rattle.rules.specs.Syntax.{Atom, Term, var, atom, pair}
 use Rattle.semantics.specs.Substitution.{Substitution, walk}
 use Rattle.semantics.specs.Steps.{waiting, at-bound, Outcome, stop}
 use Rattle.semantics.specs.Unify.{scan, is-var, is-atom, never}
-use Rattle.semantics.proofs.SubstitutionLaws.{size, size-parts}
+use Rattle.semantics.proofs.SubstitutionLaws.{Good, followed-follow, walk-followed, size, size-walk, size-parts}
+use Rattle.semantics.proofs.ScanLaws.{Leaf}
 use Rattle.engine.specs.Reference.{at, AtomIs, pos-of, base-of, Stands}
 use Rattle.engine.specs.Walk.{NodeAt, Follows}
-use Rattle.engine.specs.Scan.{TestAs, ScanAs, scan-says}
+use Rattle.engine.specs.Scan.{LeafWord, TestAs, ScanAs, scan-says}
 use Rattle.engine.specs.declared.scan.Scanned.{Scanned}
 use Rattle.engine.specs.declared.scan.Scanned.the-variants.{Found, Clear, StepsOut, PathOut}
 use Rattle.engine.proofs.ReferenceLaws.{atom-low, atom-test, parts}
@@ -56,6 +57,21 @@ module _ {ws : List ℕ} {w : ℕ} {bits k p : ℕ} (node : NodeAt ws w bits k p
   pair-at (atom a) h e = let l = atom-low (at ws (pos-of w)) a (h .reads .0) in absurd (omega (arith, l .1, node .is-kind))
   pair-at (pair a b) h e = let q = parts ws w a b h in record { left = a; right = b; is = refl; first = q .first; second = rw (node .is-payload) (q .second) }
 
+  -- a leaf, by its word
+  pub record LeafAt (t : Term) (r : ℕ) : Type 0 where
+    pub is : Leaf t
+    pub tested : {sought : ℕ} {test : Term → Bool} → TestAs sought test → test t ≡ eqb r sought
+
+  pub leaf-at : {r : ℕ} (t : Term) → Stands ws w t → ¬ (k ≡ 4) → LeafWord w bits k p r → LeafAt t r
+  leaf-at (var x) h m l =
+      let e : _ ≡ x = l .of-var (node .is-kind ∙ h .reads .0) ∙ ap (λ y. base-of w + y) (node .is-payload) ∙ h .reads .1 in
+      record { is = tt; tested = λ {sought} {test} is. is .on-var x (h .in-range) ∙ ap (λ y. eqb y sought) (sym e) }
+  leaf-at (atom a) h m l =
+      let i = atom-low (at ws (pos-of w)) a (h .reads .0) in
+      let e : _ ≡ bits = l .of-atom (λ z. omega (arith, i .0, node .is-kind)) in
+      record { is = tt; tested = λ {sought} {test} is. is .on-atom a bits (rw (node .is-bits) (h .reads .0)) ∙ ap (λ y. eqb y sought) (sym e) }
+  leaf-at (pair a b) h m l = absurd (m (node .is-kind ∙ h .reads .0))
+
 -- one step of the definition's scan
 module _ (test : Term → Bool) (bs : Substitution) (vs : List Term) (u : Term) (left : ℕ) (some-left : ¬ (left ≡ 0)) where
   abbrev Next : List Term → Term → ℕ → Outcome Bool
@@ -64,17 +80,15 @@ module _ (test : Term → Bool) (bs : Substitution) (vs : List Term) (u : Term) 
   one-more : left ≡ suc (left - 1)
   one-more = omega arith
 
-  step-hit : (v : Term) → walk bs u ≡ v → test v ≡ true → scan test bs vs u left ≡ scan-says (Found (left - 1)) vs Next
+  step-hit : test (walk bs u) ≡ true → scan test bs vs u left ≡ scan-says (Found (left - 1)) vs Next
   unfolding scan-says
-  step-hit v e q = ap (scan test bs vs u) one-more ∙ rw (e, q)
+  step-hit q = ap (scan test bs vs u) one-more ∙ rw q
 
-  step-var : (x : ℕ) → walk bs u ≡ var x → test (var x) ≡ false → scan test bs vs u left ≡ scan-says (Clear (left - 1)) vs Next
+  step-leaf : (v : Term) → walk bs u ≡ v → Leaf v → test v ≡ false → scan test bs vs u left ≡ scan-says (Clear (left - 1)) vs Next
   unfolding scan-says
-  step-var x e q = ap (scan test bs vs u) one-more ∙ rw (e, q)
-
-  step-atom : (a : Atom) → walk bs u ≡ atom a → test (atom a) ≡ false → scan test bs vs u left ≡ scan-says (Clear (left - 1)) vs Next
-  unfolding scan-says
-  step-atom a e q = ap (scan test bs vs u) one-more ∙ rw (e, q)
+  step-leaf (var x) e l q = ap (scan test bs vs u) one-more ∙ rw (e, q)
+  step-leaf (atom a) e l q = ap (scan test bs vs u) one-more ∙ rw (e, q)
+  step-leaf (pair a b) e l q = absurd l
 
   step-full : (a b : Term) → walk bs u ≡ pair a b → test (pair a b) ≡ false → 512 ≤ length vs → scan test bs vs u left ≡ scan-says (PathOut left) vs Next
   unfolding scan-says
@@ -83,6 +97,11 @@ module _ (test : Term → Bool) (bs : Substitution) (vs : List Term) (u : Term) 
   step-down : (a b : Term) → walk bs u ≡ pair a b → test (pair a b) ≡ false → length vs < 512 → scan test bs vs u left ≡ scan test bs (b ∷ vs) a (left - 1)
   step-down a b e q lt = ap (scan test bs vs u) one-more ∙ rw (e, q, lt-ltb (length vs) 512 lt)
 
+-- the scan of a followed term is the scan of the term
+scan-walked : (test : Term → Bool) (bs : Substitution) → Good bs → (vs : List Term) (u : Term) (left : ℕ) → scan test bs vs u left ≡ scan test bs vs (walk bs u) left
+scan-walked test bs good vs u zero = refl
+scan-walked test bs good vs u (suc left) = let e : walk bs (walk bs u) ≡ walk bs u = followed-follow (length bs) bs (walk bs u) (walk-followed bs good u) in rw e refl
+
 -- the loop goes on: what is left comes to the same
 pub record Scanning (ws s : List ℕ) (sought n steps : ℕ) (bs : Substitution) (t : Term) (w left : ℕ) : Type 0 where
   pub here : Term
@@ -90,8 +109,19 @@ pub record Scanning (ws s : List ℕ) (sought n steps : ℕ) (bs : Substitution)
   pub smaller : size bs here ≤ size bs t
   pub same : (test : Term → Bool) (vs : List Term) → TestAs sought test → length vs ≡ n → scan test bs vs t steps ≡ scan test bs vs here left
 
-pub scanning-start : {ws s : List ℕ} {sought n steps : ℕ} {bs : Substitution} {t : Term} {w : ℕ} → Follows ws s bs w t → Scanning ws s sought n steps bs t w steps
+abbrev pub scanning-start : {ws s : List ℕ} {sought n steps : ℕ} {bs : Substitution} {t : Term} {w : ℕ} → Follows ws s bs w t → Scanning ws s sought n steps bs t w steps
 scanning-start {t = t} f = record { here = t; follows = f; smaller = omega arith; same = λ test vs is e. refl }
+
+-- a pair is met: its first part, referred to by x, is looked at next, and its second, by y, waits
+pub record Parting (ws s : List ℕ) (sought n steps : ℕ) (bs : Substitution) (t : Term) (w x y left : ℕ) : Type 0 where
+  pub first : Term
+  pub second : Term
+  pub first-follows : Follows ws s bs x first
+  pub second-follows : Follows ws s bs y second
+  pub first-smaller : size bs first < size bs t
+  pub second-smaller : size bs second < size bs t
+  pub second-falls : size bs second < reach ws s w
+  pub same : (test : Term → Bool) (vs : List Term) → TestAs sought test → length vs ≡ n → scan test bs vs t steps ≡ scan test bs (second ∷ vs) first left
 
 module _ {ws s : List ℕ} {sought n steps : ℕ} {bs : Substitution} {t : Term} {w left : ℕ} (g : Scanning ws s sought n steps bs t w left) where
   pub scan-out : left ≡ 0 → ScanAs sought bs t n steps StepsOut
@@ -99,76 +129,74 @@ module _ {ws s : List ℕ} {sought n steps : ℕ} {bs : Substitution} {t : Term}
   scan-out z test vs is e = g .same test vs is e ∙ ap (scan test bs vs (g .here)) z
 
   module _ {q bits k p : ℕ} (some-left : ¬ (left ≡ 0)) (at-q : Stands ws q (walk bs (g .here))) (node : NodeAt ws q bits k p) where
-    pub scan-variable : k ≡ 0 → base-of q + p ≡ sought → ScanAs sought bs t n steps (Found (left - 1))
-    scan-variable e f test vs is m =
-        let o = open-at node (walk bs (g .here)) at-q e in
-        g .same test vs is m ∙ step-hit test bs vs (g .here) left some-left (var (o .number)) (o .is) (is .on-var (o .number) (o .low) ∙ eq-eqb (o .number) sought (sym (o .number-is) ∙ f))
+    pub scan-leaf : {r : ℕ} → ¬ (k ≡ 4) → LeafWord q bits k p r → r ≡ sought → ScanAs sought bs t n steps (Found (left - 1))
+    scan-leaf {r} m l z test vs is e =
+        let o = leaf-at node (walk bs (g .here)) at-q m l in
+        g .same test vs is e ∙ step-hit test bs vs (g .here) left some-left (o .tested is ∙ eq-eqb r sought z)
 
-    pub scan-other-variable : k ≡ 0 → ¬ (base-of q + p ≡ sought) → ScanAs sought bs t n steps (Clear (left - 1))
-    scan-other-variable e f test vs is m =
-        let o = open-at node (walk bs (g .here)) at-q e in
-        g .same test vs is m ∙ step-var test bs vs (g .here) left some-left (o .number) (o .is) (is .on-var (o .number) (o .low) ∙ ne-eqb (o .number) sought (λ z. f (o .number-is ∙ z)))
-
-    pub scan-atom : ¬ (k ≡ 0) → ¬ (k ≡ 4) → bits ≡ sought → ScanAs sought bs t n steps (Found (left - 1))
-    scan-atom e f z test vs is m =
-        let o = atom-at node (walk bs (g .here)) at-q e f in
-        g .same test vs is m ∙ step-hit test bs vs (g .here) left some-left (atom (o .which)) (o .is) (is .on-atom (o .which) bits (o .word-is) ∙ eq-eqb bits sought z)
-
-    pub scan-other-atom : ¬ (k ≡ 0) → ¬ (k ≡ 4) → ¬ (bits ≡ sought) → ScanAs sought bs t n steps (Clear (left - 1))
-    scan-other-atom e f z test vs is m =
-        let o = atom-at node (walk bs (g .here)) at-q e f in
-        g .same test vs is m ∙ step-atom test bs vs (g .here) left some-left (o .which) (o .is) (is .on-atom (o .which) bits (o .word-is) ∙ ne-eqb bits sought z)
+    pub scan-other-leaf : {r : ℕ} → ¬ (k ≡ 4) → LeafWord q bits k p r → ¬ (r ≡ sought) → ScanAs sought bs t n steps (Clear (left - 1))
+    scan-other-leaf {r} m l z test vs is e =
+        let o = leaf-at node (walk bs (g .here)) at-q m l in
+        g .same test vs is e ∙ step-leaf test bs vs (g .here) left some-left (walk bs (g .here)) refl (o .is) (o .tested is ∙ ne-eqb r sought z)
 
     pub scan-full : k ≡ 4 → 512 ≤ n → ScanAs sought bs t n steps (PathOut left)
     scan-full e le test vs is m =
         let o = pair-at node (walk bs (g .here)) at-q e in
         g .same test vs is m ∙ step-full test bs vs (g .here) left some-left (o .left) (o .right) (o .is) (is .on-pair (o .left) (o .right)) (omega arith)
 
-    -- the first part
-    pub first-follows : (e : k ≡ 4) → Follows ws s bs (q + 1) (pair-at node (walk bs (g .here)) at-q e .left)
-    first-follows e = record { binds = g .follows .binds; stands = pair-at node (walk bs (g .here)) at-q e .first }
+    -- a pair, with room for its second part to wait
+    pub parting : k ≡ 4 → n < 512 → Parting ws s sought n steps bs t w (q + 1) (q + 1 + p) (left - 1)
+    parting e room =
+        let o = pair-at node (walk bs (g .here)) at-q e in
+        let small = size-parts bs (g .follows .binds .good) (g .here) (o .left) (o .right) (o .is) in
+        record {
+          first = o .left;
+          second = o .right;
+          first-follows = record { binds = g .follows .binds; stands = o .first };
+          second-follows = record { binds = g .follows .binds; stands = o .second };
+          first-smaller = omega (arith, small .0, g .smaller);
+          second-smaller = omega (arith, small .1, g .smaller);
+          second-falls = omega (arith, small .1, reach-size (g .follows));
+          same = λ test vs is m. g .same test vs is m ∙ step-down test bs vs (g .here) left some-left (o .left) (o .right) (o .is) (is .on-pair (o .left) (o .right)) (omega arith);
+        }
 
-    pub second-follows : (e : k ≡ 4) → Follows ws s bs (q + 1 + p) (pair-at node (walk bs (g .here)) at-q e .right)
-    second-follows e = record { binds = g .follows .binds; stands = pair-at node (walk bs (g .here)) at-q e .second }
+module _ {ws s : List ℕ} {sought n steps : ℕ} {bs : Substitution} {t : Term} {w x y left : ℕ} (g : Parting ws s sought n steps bs t w x y left) where
+  -- the first part is looked at by the loop or, followed, by the recursion
+  abbrev pub first-starts : Scanning ws s sought (n + 1) left bs (g .first) x left
+  first-starts = scanning-start (g .first-follows)
 
-    parts-small : (e : k ≡ 4) → (size bs (pair-at node (walk bs (g .here)) at-q e .left) < size bs (g .here)) × (size bs (pair-at node (walk bs (g .here)) at-q e .right) < size bs (g .here))
-    parts-small e = let o = pair-at node (walk bs (g .here)) at-q e in size-parts bs (g .follows .binds .good) (g .here) (o .left) (o .right) (o .is)
+  pub first-walked : {v : ℕ} → Stands ws v (walk bs (g .first)) → Follows ws s bs v (walk bs (g .first))
+  first-walked h = record { binds = g .first-follows .binds; stands = h }
 
-    pub first-falls : k ≡ 4 → {w₀ : ℕ} → Follows ws s bs w₀ t → reach ws s (q + 1) < reach ws s w₀
-    first-falls e f = omega (arith, parts-small e .0, reach-size (first-follows e), reach-size f, g .smaller)
+  pub first-falls : {v w₀ : ℕ} → Stands ws v (walk bs (g .first)) → Follows ws s bs w₀ t → reach ws s v < reach ws s w₀
+  first-falls h f = omega (arith, g .first-smaller, size-walk bs (g .first-follows .binds .good) (g .first), reach-size (first-walked h), reach-size f)
 
-    pub second-falls : k ≡ 4 → reach ws s (q + 1 + p) < reach ws s w
-    second-falls e = omega (arith, parts-small e .1, reach-size (second-follows e), reach-size (g .follows))
+  pub first-says : {v : ℕ} (r : Scanned) → Stands ws v (walk bs (g .first)) → ((bs : Substitution) (t : Term) → Follows ws s bs v t → ScanAs sought bs t (n + 1) left r) → ScanAs sought bs (g .first) (n + 1) left r
+  first-says r h says test vs is m = scan-walked test bs (g .first-follows .binds .good) vs (g .first) left ∙ says bs (walk bs (g .first)) (first-walked h) test vs is m
 
-    -- what the first part says, then the rest
-    module _ (e : k ≡ 4) (room : n < 512) (r : Scanned) (first : (bs : Substitution) (t : Term) → Follows ws s bs (q + 1) t → ScanAs sought bs t (n + 1) (left - 1) r) where
-      after-first : (test : Term → Bool) (vs : List Term) → TestAs sought test → length vs ≡ n
-          → scan test bs vs t steps ≡ scan-says r (pair-at node (walk bs (g .here)) at-q e .right ∷ vs) (λ us u l. scan test bs us u l)
-      after-first test vs is m =
-          let o = pair-at node (walk bs (g .here)) at-q e in
-          g .same test vs is m ∙ step-down test bs vs (g .here) left some-left (o .left) (o .right) (o .is) (is .on-pair (o .left) (o .right)) (omega arith)
-          ∙ first bs (o .left) (first-follows e) test (o .right ∷ vs) is (omega arith)
+  pub second-less : reach ws s y < reach ws s w
+  second-less = omega (arith, g .second-falls, reach-size (g .second-follows))
 
-      pub first-clear : (m : ℕ) → r ≡ Clear m → Scanning ws s sought n steps bs t (q + 1 + p) m
-      unfolding scan-says
-      first-clear m z = record {
-        here = pair-at node (walk bs (g .here)) at-q e .right;
-        follows = second-follows e;
-        smaller = omega (arith, parts-small e .1, g .smaller);
-        same = λ test vs is l. rw z at (after-first test vs is l);
-      }
+  -- what it says, then the rest
+  module _ (r : Scanned) (says : ScanAs sought bs (g .first) (n + 1) left r) where
+    after-first : (test : Term → Bool) (vs : List Term) → TestAs sought test → length vs ≡ n → scan test bs vs t steps ≡ scan-says r (g .second ∷ vs) (λ us u l. scan test bs us u l)
+    after-first test vs is m = g .same test vs is m ∙ says test (g .second ∷ vs) is (omega arith)
 
-      pub first-found : (m : ℕ) → r ≡ Found m → ScanAs sought bs t n steps (Found m)
-      unfolding scan-says
-      first-found m z test vs is l = rw z at (after-first test vs is l)
+    pub first-clear : (m : ℕ) → r ≡ Clear m → Scanning ws s sought n steps bs t y m
+    unfolding scan-says
+    first-clear m z = record { here = g .second; follows = g .second-follows; smaller = omega (arith, g .second-smaller); same = λ test vs is l. rw z at (after-first test vs is l) }
 
-      pub first-out : r ≡ StepsOut → ScanAs sought bs t n steps StepsOut
-      unfolding scan-says
-      first-out z test vs is l = rw z at (after-first test vs is l)
+    pub first-found : (m : ℕ) → r ≡ Found m → ScanAs sought bs t n steps (Found m)
+    unfolding scan-says
+    first-found m z test vs is l = rw z at (after-first test vs is l)
 
-      pub first-full : (m : ℕ) → r ≡ PathOut m → ScanAs sought bs t n steps (PathOut m)
-      unfolding scan-says
-      first-full m z test vs is l = rw z at (after-first test vs is l)
+    pub first-out : r ≡ StepsOut → ScanAs sought bs t n steps StepsOut
+    unfolding scan-says
+    first-out z test vs is l = rw z at (after-first test vs is l)
+
+    pub first-full : (m : ℕ) → r ≡ PathOut m → ScanAs sought bs t n steps (PathOut m)
+    unfolding scan-says
+    first-full m z test vs is l = rw z at (after-first test vs is l)
 
 -- the words sought
 swapped : (x y : ℕ) → eqb x y ≡ eqb y x

@@ -1,5 +1,5 @@
--- What `scan` promises.
-use Prim.Native.Nat.{ℕ, _<_}
+-- What `leaf_word` and `scan` promise.
+use Prim.Native.Nat.{ℕ, _+_, _<_}
 use mathlib.Core.Path.{_≡_}
 use mathlib.Core.Bool.{Bool, true, false}
 use mathlib.Core.List.{List}
@@ -9,9 +9,14 @@ use Rattle.rules.specs.Syntax.{Atom, Term, var, atom, pair}
 use Rattle.semantics.specs.Substitution.{Substitution}
 use Rattle.semantics.specs.Steps.{waiting, no-steps, at-bound, Outcome, done, stop}
 use Rattle.semantics.specs.Unify.{scan, scan-next}
-use Rattle.engine.specs.Reference.{AtomIs}
+use Rattle.engine.specs.Reference.{AtomIs, base-of}
 use Rattle.engine.specs.declared.scan.Scanned.{Scanned}
 use Rattle.engine.specs.declared.scan.Scanned.the-variants.{Found, Clear, StepsOut, PathOut}
+
+-- the word by which a leaf is sought, from what stands at its reference
+pub record LeafWord (w bits k p r : ℕ) : Type 0 where
+  pub of-var : k ≡ 0 → r ≡ base-of w + p
+  pub of-atom : ¬ (k ≡ 0) → r ≡ bits
 
 -- The word sought and the definition's test agree: an open variable has its number for a word, an atom its own word; no pair is sought.
 pub record TestAs (sought : ℕ) (test : Term → Bool) : Type 0 where

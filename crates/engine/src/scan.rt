@@ -1,13 +1,16 @@
 // The nodes of a followed term, first part before second, up to the first find: the one traversal of the occurs check, of an absento review and of the writer.
 use crate::layout::ENVIRONMENT;
 use crate::layout::MOST_NODES;
+use crate::walk::Node;
 use crate::walk::node_at;
 use crate::walk::walk;
 use word::Word;
+ghost use Prim.Native.Nat.{_+_, _<_};
 ghost use Rattle.rules.specs.Syntax.{Term};
 ghost use Rattle.semantics.specs.Substitution.{Substitution};
+ghost use Rattle.engine.specs.Reference.{base-of};
 ghost use Rattle.engine.specs.Walk.{Follows};
-ghost use Rattle.engine.specs.Scan.{ScanAs};
+ghost use Rattle.engine.specs.Scan.{LeafWord, ScanAs};
 
 // A number is the steps left.
 pub enum Scanned {
@@ -17,8 +20,19 @@ pub enum Scanned {
     PathOut(u32),
 }
 
-// Is the node with the word `sought` in the term? An open variable has its number for a word, an atom its own; a word of kind pair is never met.
-// `waiting` nodes wait already. First parts are a recursion, at most 512 deep; second parts are a loop, so depth never follows the length of a list.
+// The word by which a leaf is sought: an open variable has its number for a word, an atom its own.
+fn leaf_word(reference: u32, node: Node) -> u32
+    requires { ⌜ base-of reference + node .payload < 4294967296 ⌝ }
+    ensures { λ r. ⌜ LeafWord reference (node .bits) (node .kind) (node .payload) r ⌝ }
+{
+    if node.kind == Word::VARIABLE {
+        return reference / ENVIRONMENT + node.payload;
+    }
+    node.bits
+}
+
+// Is the node with the word `sought` in the term? A word of kind pair is never met. `waiting` nodes wait already.
+// First parts that are pairs are a recursion, at most 512 deep; those that are leaves need no call. Second parts are a loop, so depth never follows the length of a list.
 pub(crate) fn scan(
     program: &[u32],
     scratch: &[u32],
@@ -38,15 +52,8 @@ pub(crate) fn scan(
         }
         let found = walk(program, scratch, at);
         let node = node_at(program, found);
-        let kind = node.kind;
-        if kind == Word::VARIABLE {
-            if found / ENVIRONMENT + node.payload == sought {
-                return Scanned::Found(left - 1);
-            }
-            return Scanned::Clear(left - 1);
-        }
-        if kind != Word::PAIR {
-            if node.bits == sought {
+        if node.kind != Word::PAIR {
+            if leaf_word(found, node) == sought {
                 return Scanned::Found(left - 1);
             }
             return Scanned::Clear(left - 1);
@@ -54,17 +61,23 @@ pub(crate) fn scan(
         if MOST_NODES <= waiting {
             return Scanned::PathOut(left);
         }
-        match scan(
-            &*program,
-            &*scratch,
-            sought,
-            found + 1,
-            waiting + 1,
-            left - 1,
-        ) {
+        left = left - 1;
+        if left == 0 {
+            return Scanned::StepsOut;
+        }
+        at = found + 1 + node.payload;
+        let first = walk(program, scratch, found + 1);
+        let part = node_at(program, first);
+        if part.kind != Word::PAIR {
+            if leaf_word(first, part) == sought {
+                return Scanned::Found(left - 1);
+            }
+            left = left - 1;
+            continue;
+        }
+        match scan(&*program, &*scratch, sought, first, waiting + 1, left) {
             Scanned::Clear(rest) => {
                 left = rest;
-                at = found + 1 + node.payload;
             }
             Scanned::Found(rest) => {
                 return Scanned::Found(rest);

@@ -182,6 +182,15 @@ fn variable(reference: u32, word: u32) -> u32 {
     reference / ENVIRONMENT + payload(word)
 }
 
+/// The word by which a leaf is sought: an open variable has its number for a word, an atom its own.
+#[inline(always)]
+fn leaf_word(reference: u32, word: u32) -> u32 {
+    match kind(word) {
+        VARIABLE => variable(reference, word),
+        _ => word,
+    }
+}
+
 impl Memory {
     #[inline(always)]
     fn word(self, reference: u32) -> u32 {
@@ -254,32 +263,33 @@ impl Memory {
         }
     }
 
-    /// Is the node with the word `sought` in the term? An open variable has its number for a word. First parts recurse.
+    /// Is the node with the word `sought` in the term? An open variable has its number for a word. First parts that are pairs recurse.
     fn scan(self, sought: u32, mut term: u32, waiting: u32, left: &mut u32) -> Result<bool, Stop> {
         loop {
             if *left == 0 {
                 return Err(Stop::Steps);
             }
             let (at, word) = self.walk(term);
-            match kind(word) {
-                VARIABLE => {
-                    *left -= 1;
-                    return Ok(variable(at, word) == sought);
+            if kind(word) != PAIR {
+                *left -= 1;
+                return Ok(leaf_word(at, word) == sought);
+            }
+            if waiting == MOST_WAITING {
+                return Err(Stop::Path(Bound::Waiting));
+            }
+            *left -= 1;
+            if *left == 0 {
+                return Err(Stop::Steps);
+            }
+            term = at + 1 + payload(word);
+            let (first, word) = self.walk(at + 1);
+            if kind(word) != PAIR {
+                *left -= 1;
+                if leaf_word(first, word) == sought {
+                    return Ok(true);
                 }
-                PAIR => {
-                    if waiting == MOST_WAITING {
-                        return Err(Stop::Path(Bound::Waiting));
-                    }
-                    *left -= 1;
-                    if self.scan(sought, at + 1, waiting + 1, left)? {
-                        return Ok(true);
-                    }
-                    term = at + 1 + payload(word);
-                }
-                _ => {
-                    *left -= 1;
-                    return Ok(word == sought);
-                }
+            } else if self.scan(sought, first, waiting + 1, left)? {
+                return Ok(true);
             }
         }
     }

@@ -24,7 +24,7 @@ use Rattle.engine.specs.Calling.{Passing, Passed}
 use Rattle.engine.specs.declared.state.State.{State}
 use Rattle.engine.specs.declared.Bound.the-variants.{Variables, Goals as GoalsBound}
 use Rattle.engine.specs.declared.state.Stop.the-variants.{Path as PathLimit}
-use Rattle.engine.specs.declared.state.Took.the-variants.{Cut, Goes, Stops}
+use Rattle.engine.specs.declared.state.Way.the-variants.{Cut, Goes, Stops}
 use Rattle.engine.proofs.ReferenceLaws.{terms-longer, pos-refer, base-refer}
 use Rattle.engine.proofs.ClaimLaws.{stays, claim}
 use Rattle.engine.proofs.StepLaws.{wait-one}
@@ -95,21 +95,21 @@ module _ {P : Program} {ws s : List ℕ} {st : State} {w : ℕ} {p : Path} {cs :
   pub call-found : {b l m a v c : ℕ} → NodeAt ws (w + 1) b l m → ((Q : Program) (R : Relation) → TableIn ws s Q → getElem? Q m ≡ some R → RelationIs ws a v c R) → RelationIs ws a v c callee
   call-found i f = f P callee (stored .table) (ap (getElem? P) (call-number i) ∙ is-callee)
 
-  pub call-cut : {round : ℕ} → round ≤ st .calls → TookAs P ws s cs (take-call round P p cs base n ts (st .left)) (Cut st)
+  pub call-cut : {round : ℕ} → round ≤ st .calls → TookAs P ws s cs (take-call round P p cs base n ts (st .left)) Cut st
   unfolding TookAs
   call-cut {round} le =
       let e : ltb (p .calls) round ≡ false = le-ltb (p .calls) round (omega (arith, stored .path-in .calls)) in
       rw e (refl, (p, stored))
 
   module _ {a v c : ℕ} (is : RelationIs ws a v c callee) where
-    pub call-variables : {round : ℕ} (s′ : List ℕ) → st .calls < round → 2048 < st .made + v → TookAs P ws s′ cs (take-call round P p cs base n ts (st .left)) (Stops (PathLimit Variables) (st .left + 1))
+    pub call-variables : {round : ℕ} (s′ : List ℕ) → st .calls < round → 2048 < st .made + v → TookAs P ws s′ cs (take-call round P p cs base n ts (st .left)) (Stops (PathLimit Variables) (st .left + 1)) st
     unfolding TookAs
     call-variables {round} s′ lt full =
         let e : ltb (p .calls) round ≡ true = lt-ltb (p .calls) round (omega (arith, stored .path-in .calls)) in
         let f : leb (p .made + callee .vars) 2048 ≡ false = lt-leb (p .made + callee .vars) 2048 (omega (arith, stored .path-in .made, is .vars-is)) in
         rw (e, is-callee, f) (refl, omega arith)
 
-    pub call-goals : {round : ℕ} (s′ : List ℕ) → st .calls < round → st .made + v ≤ 2048 → 1024 ≤ st .put → TookAs P ws s′ cs (take-call round P p cs base n ts (st .left)) (Stops (PathLimit GoalsBound) (st .left + 1))
+    pub call-goals : {round : ℕ} (s′ : List ℕ) → st .calls < round → st .made + v ≤ 2048 → 1024 ≤ st .put → TookAs P ws s′ cs (take-call round P p cs base n ts (st .left)) (Stops (PathLimit GoalsBound) (st .left + 1)) st
     unfolding TookAs
     call-goals {round} s′ lt fits full =
         let e : ltb (p .calls) round ≡ true = lt-ltb (p .calls) round (omega (arith, stored .path-in .calls)) in
@@ -153,7 +153,7 @@ module _ {P : Program} {ws s : List ℕ} {st : State} {w : ℕ} {p : Path} {cs :
         → Passed ws s s′ (bind-params (p .made) base ts (p .bindings)) trail
         → r ≡ one-waits (record { head = st .head; trail = trail; made = st .made + v; put = st .put; kept = st .kept; calls = st .calls + 1; choices = st .choices; left = st .left })
         → s″ ≡ cell s′ (st .put + 1) (c + 16384 * st .made) (st .head)
-        → TookAs P ws s″ cs (take-call round P p cs base n ts (st .left)) (Goes r)
+        → TookAs P ws s″ cs (take-call round P p cs base n ts (st .left)) Goes r
     unfolding TookAs
     call-goes {round} {s′} {s″} {trail} {r} lt fits put-fits d is-r is-s =
         let m = stored .path-in in

@@ -17,7 +17,7 @@ use Rattle.engine.specs.Taking.{registers, Holds, Taking, TookAs}
 use Rattle.engine.specs.declared.state.State.{State}
 use Rattle.engine.specs.declared.Bound.the-variants.{Goals as GoalsBound}
 use Rattle.engine.specs.declared.state.Stop.the-variants.{Path as PathLimit}
-use Rattle.engine.specs.declared.state.Took.the-variants.{Goes, Stops}
+use Rattle.engine.specs.declared.state.Way.the-variants.{Goes, Stops}
 use Rattle.engine.proofs.GoalLaws.{conj-rest}
 use Rattle.engine.proofs.ConjLaws.{Lining, lining-start, lining-next, lining-full, lining-last, lining-more, lined-up, conj-all, Next, Rowed}
 
@@ -40,7 +40,7 @@ module _ {P : Program} {ws s₀ : List ℕ} {st : State} {w : ℕ} {p : Path} {c
   conj-starts i = lining-start ws s₀ (st .put) (st .head) (w + 1) _ base gs (conj-goals i) (t .stored .roomy .put) (t .stored .roomy .long)
 
   pub conj-stops : {s : List ℕ} {to goal filled : ℕ} (s′ : List ℕ) → Lining ws s₀ s (st .put) (st .head) (w + 1) to base gs goal filled → 1024 ≤ filled
-      → TookAs P ws s′ cs (take-conj p cs base gs (st .left)) (Stops (PathLimit GoalsBound) (st .left + 1))
+      → TookAs P ws s′ cs (take-conj p cs base gs (st .left)) (Stops (PathLimit GoalsBound) (st .left + 1)) st
   unfolding TookAs
   conj-stops {s} {to} {goal} {filled} s′ l full =
       let e : st .put ≡ p .put = t .stored .path-in .put in
@@ -50,7 +50,7 @@ module _ {P : Program} {ws s₀ : List ℕ} {st : State} {w : ℕ} {p : Path} {c
   pub conj-goes : {s : List ℕ} {b k n goal filled c l m : ℕ} → NodeAt ws w b k n → Lining ws s₀ s (st .put) (st .head) (w + 1) (pos-of w + 1 + n) base gs goal filled → filled < 1024
       → NodeAt ws goal c l m → pos-of goal + 1 + m ≡ pos-of w + 1 + n
       → TookAs P ws (set (set s (goal-at (filled + 1)) goal) (goal-at (filled + 1) + 1) (st .head)) cs (take-conj p cs base gs (st .left))
-      (Goes (record { head = st .put + 1; trail = st .trail; made = st .made; put = filled + 1; kept = st .kept; calls = st .calls; choices = st .choices; left = st .left }))
+      Goes (record { head = st .put + 1; trail = st .trail; made = st .made; put = filled + 1; kept = st .kept; calls = st .calls; choices = st .choices; left = st .left })
   unfolding TookAs
   conj-goes {s} {b} {k} {n} {goal} {filled} {c} {l} {m} i li lt j e =
       let put-is : st .put ≡ p .put = t .stored .path-in .put in

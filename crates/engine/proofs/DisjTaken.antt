@@ -19,7 +19,7 @@ use Rattle.engine.specs.Taking.{registers, Taking, TookAs, one-waits, on
 use Rattle.engine.specs.declared.state.State.{State}
 use Rattle.engine.specs.declared.Bound.the-variants.{Goals as GoalsBound, Disjunctions}
 use Rattle.engine.specs.declared.state.Stop.the-variants.{Path as PathLimit}
-use Rattle.engine.specs.declared.state.Took.the-variants.{Goes, Stops}
+use Rattle.engine.specs.declared.state.Way.the-variants.{Goes, Stops}
 use Rattle.engine.proofs.GoalLaws.{disj-rest, task-one, task-more}
 use Rattle.engine.proofs.StepLaws.{disj-one, disj-more}
 use Rattle.engine.proofs.ConjLaws.{Next, next-goal}
@@ -47,14 +47,14 @@ module _ {P : Program} {ws s₀ : List ℕ} {st : State} {w : ℕ} {p : Path} {c
   first-goals {n = n} i = subst (λ z. RestAt ws (w + 1) (pos-of w + 1 + z) base gs) (sym (i .is-payload)) (disj-rest ws w base gs (t .task-at) .1)
 
   -- no goal fits any more
-  pub disj-full : (s′ : List ℕ) → 1024 ≤ st .put → TookAs P ws s′ cs (take-disj p cs base gs (st .left)) (Stops (PathLimit GoalsBound) (st .left + 1))
+  pub disj-full : (s′ : List ℕ) → 1024 ≤ st .put → TookAs P ws s′ cs (take-disj p cs base gs (st .left)) (Stops (PathLimit GoalsBound) (st .left + 1)) st
   unfolding TookAs
   disj-full s′ full = go gs
     where
       f : leb (suc (p .put)) 1024 ≡ false
       f = lt-leb (suc (p .put)) 1024 (omega (arith, put-is))
 
-      go : (us : Goals) → TookAs P ws s′ cs (take-disj p cs base us (st .left)) (Stops (PathLimit GoalsBound) (st .left + 1))
+      go : (us : Goals) → TookAs P ws s′ cs (take-disj p cs base us (st .left)) (Stops (PathLimit GoalsBound) (st .left + 1)) st
       go (one g) = rw f (refl, omega arith)
       go (more g us) = rw f (refl, omega arith)
 
@@ -70,7 +70,7 @@ module _ {P : Program} {ws s₀ : List ℕ} {st : State} {w : ℕ} {p : Path} {c
 
   -- one alternative only
   pub disj-last : (gs : Goals) {b k n c l m : ℕ} {r : State} {s′ : List ℕ} → Taking P ws s₀ st w p cs (base, disj gs) → NodeAt ws w b k n → st .put < 1024
-      → NodeAt ws (w + 1) c l m → pos-of (w + 1) + 1 + m ≡ pos-of w + 1 + n → r ≡ one-waits st → s′ ≡ cell s₀ (st .put + 1) (w + 1) (st .head) → TookAs P ws s′ cs (take-disj p cs base gs (st .left)) (Goes r)
+      → NodeAt ws (w + 1) c l m → pos-of (w + 1) + 1 + m ≡ pos-of w + 1 + n → r ≡ one-waits st → s′ ≡ cell s₀ (st .put + 1) (w + 1) (st .head) → TookAs P ws s′ cs (take-disj p cs base gs (st .left)) Goes r
   unfolding TookAs
   disj-last (one g) {n = n} t i fits j e q z =
       let f : leb (suc (p .put)) 1024 ≡ true = le-leb (suc (p .put)) 1024 (omega (arith, fits, put-is t)) in
@@ -80,7 +80,7 @@ module _ {P : Program} {ws s₀ : List ℕ} {st : State} {w : ℕ} {p : Path} {c
 
   -- no choice point fits any more
   pub disj-many : (gs : Goals) {b k n c l m : ℕ} (s′ : List ℕ) → Taking P ws s₀ st w p cs (base, disj gs) → NodeAt ws w b k n → st .put < 1024
-      → NodeAt ws (w + 1) c l m → (pos-of (w + 1) + 1 + m ≡ pos-of w + 1 + n → ⊥) → 256 ≤ st .choices → TookAs P ws s′ cs (take-disj p cs base gs (st .left)) (Stops (PathLimit Disjunctions) (st .left + 1))
+      → NodeAt ws (w + 1) c l m → (pos-of (w + 1) + 1 + m ≡ pos-of w + 1 + n → ⊥) → 256 ≤ st .choices → TookAs P ws s′ cs (take-disj p cs base gs (st .left)) (Stops (PathLimit Disjunctions) (st .left + 1)) st
   unfolding TookAs
   disj-many (one g) {n = n} s′ t i fits j e full =
       absurd (e (subst (λ z. pos-of (w + 1) + 1 + z ≡ pos-of w + 1 + n) (sym (j .is-payload)) (task-one ws (w + 1) (pos-of w + 1 + n) base g (first-goals t i) .0)))
@@ -93,7 +93,7 @@ module _ {P : Program} {ws s₀ : List ℕ} {st : State} {w : ℕ} {p : Path} {c
   pub disj-goes : (gs : Goals) {b k n c l m : ℕ} {pushed r : State} {s₁ s₂ : List ℕ} → Taking P ws s₀ st w p cs (base, disj gs) → NodeAt ws w b k n → st .put < 1024
       → NodeAt ws (w + 1) c l m → (pos-of (w + 1) + 1 + m ≡ pos-of w + 1 + n → ⊥) → st .choices < 256
       → pushed ≡ one-choice-more st → s₁ ≡ point s₀ (st .choices) (w + 1 + 1 + m) (pos-of w + 1 + n) (registers st)
-      → r ≡ one-waits pushed → s₂ ≡ cell s₁ (pushed .put + 1) (w + 1) (pushed .head) → TookAs P ws s₂ cs (take-disj p cs base gs (st .left)) (Goes r)
+      → r ≡ one-waits pushed → s₂ ≡ cell s₁ (pushed .put + 1) (w + 1) (pushed .head) → TookAs P ws s₂ cs (take-disj p cs base gs (st .left)) Goes r
   unfolding TookAs
   disj-goes (one g) {n = n} t i fits j e few q z a b =
       absurd (e (subst (λ z. pos-of (w + 1) + 1 + z ≡ pos-of w + 1 + n) (sym (j .is-payload)) (task-one ws (w + 1) (pos-of w + 1 + n) base g (first-goals t i) .0)))

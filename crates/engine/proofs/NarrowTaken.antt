@@ -21,12 +21,13 @@ use Rattle.engine.specs.Reference.{TermAt, pos-of, base-of, Stands, Task
 use Rattle.engine.specs.Memory.{Registers, kept-at, Stored}
 use Rattle.engine.specs.Unify.{Meets, Went, UnifiedAs}
 use Rattle.engine.specs.Review.{Kept, review-says, ReviewedAs}
-use Rattle.engine.specs.Taking.{registers, Holds, Ready, TookAs, narrow, review-took}
+use Rattle.engine.specs.Taking.{registers, Holds, Ready, TookAs, narrow, took-as, review-took}
 use Rattle.engine.specs.declared.state.State.{State}
 use Rattle.engine.specs.declared.Bound.the-variants.{Constraints, Waiting}
 use Rattle.engine.specs.declared.state.Stop.the-variants.{Steps, Path as PathLimit}
+use Rattle.engine.specs.declared.state.Way.{Way}
 use Rattle.engine.specs.declared.state.Took.{Took}
-use Rattle.engine.specs.declared.state.Took.the-variants.{Leaves, Goes, Stops}
+use Rattle.engine.specs.declared.state.Way.the-variants.{Leaves, Goes, Stops}
 use Rattle.engine.specs.declared.review.Reviewed.{Reviewed}
 use Rattle.engine.specs.declared.review.Reviewed.the-variants as reviewed
 use Rattle.engine.specs.declared.unify.Unified.{Unified}
@@ -39,21 +40,21 @@ use Rattle.engine.proofs.ClaimLaws.{constrained}
 use Rattle.engine.proofs.ConjLaws.{keep}
 
 -- each case of a review
-pub review-fails : (st : State) {r : State} {q : Reviewed} {l : ℕ} → q ≡ reviewed.Fails l → r ≡ narrow st (st .trail) (st .kept) l → Leaves r ≡ review-took st q
+pub review-fails : (st : State) {r : State} {q : Reviewed} {l : ℕ} → q ≡ reviewed.Fails l → r ≡ narrow st (st .trail) (st .kept) l → took-as Leaves r ≡ review-took st q
 review-fails st e f = rw (e, f) refl
 
-pub review-holds : (st : State) {r : State} {q : Reviewed} {l : ℕ} → q ≡ reviewed.Holds l → r ≡ narrow st (st .trail) (st .kept) l → Goes r ≡ review-took st q
+pub review-holds : (st : State) {r : State} {q : Reviewed} {l : ℕ} → q ≡ reviewed.Holds l → r ≡ narrow st (st .trail) (st .kept) l → took-as Goes r ≡ review-took st q
 review-holds st e f = rw (e, f) refl
 
-pub review-steps : (st : State) {q : Reviewed} → q ≡ reviewed.StepsOut → Stops Steps 0 ≡ review-took st q
+pub review-steps : (st : State) {q : Reviewed} → q ≡ reviewed.StepsOut → took-as (Stops Steps 0) st ≡ review-took st q
 review-steps st e = rw e refl
 
-pub review-path : (st : State) {q : Reviewed} {l : ℕ} → q ≡ reviewed.PathOut l → Stops (PathLimit Waiting) l ≡ review-took st q
+pub review-path : (st : State) {q : Reviewed} {l : ℕ} → q ≡ reviewed.PathOut l → took-as (Stops (PathLimit Waiting) l) st ≡ review-took st q
 review-path st e = rw e refl
 
 -- a path after a review
 reviewed-took : {P : Program} {ws s : List ℕ} {p : Path} {cs : List ChoicePoint} (st : State) (q : Reviewed) (o : Outcome Bool) → Holds P ws s st p cs → o ≡ review-says q
-    → TookAs P ws s cs (and-then o (λ broken l. choose broken (λ _. done leaves l) (λ _. done (goes p cs) l))) (review-took st q)
+    → TookAs P ws s cs (and-then o (λ broken l. choose broken (λ _. done leaves l) (λ _. done (goes p cs) l))) (review-took st q .way) (review-took st q .state)
 unfolding TookAs review-says
 reviewed-took {p = p} st (reviewed.Fails l) o h e = rw e (refl, (p, h))
 reviewed-took st (reviewed.Holds l) o h e = rw e (refl, h)
@@ -117,23 +118,23 @@ module _ {P : Program} {ws s : List ℕ} {st : State} {w : ℕ} {p : Path} {cs :
   pub equal-meets : {q : ℕ} → ((t : Term) (h : Stands ws (w + 1) t) → q + pos-of (w + 1) ≡ w + 1 + h .to) → Meets ws s (p .bindings) (w + 1) (shift base u) q (shift base v) (st .trail)
   equal-meets {q} skips = stored-meets stored (k .short) (k .sound .good) equal-first (equal-second q (skips (shift base u) equal-first))
 
-  abbrev pub says : List ℕ → Took → Type 0
-  says s″ took = TookAs P ws s″ cs (take-equal p cs (shift base u) (shift base v) (st .left)) took
+  abbrev pub says : List ℕ → Way → State → Type 0
+  says s″ way next = TookAs P ws s″ cs (take-equal p cs (shift base u) (shift base v) (st .left)) way next
 
   module _ (s′ : List ℕ) (r : Unified) (told : UnifiedAs ws s s′ (p .bindings) (unify-terms (p .bindings) (shift base u) (shift base v) (st .left)) r) where
-    pub equal-fails : {n l : ℕ} {st′ : State} → r ≡ unified.Failed n l → st′ ≡ narrow st n (st .kept) l → says s′ (Leaves st′)
+    pub equal-fails : {n l : ℕ} {st′ : State} → r ≡ unified.Failed n l → st′ ≡ narrow st n (st .kept) l → says s′ Leaves st′
     unfolding TookAs UnifiedAs
     equal-fails {n} {l} {st′} e f =
         let q : (g : Went ws s (p .bindings) s′ n) × (unify-terms (p .bindings) (shift base u) (shift base v) (st .left) ≡ done none l) = rw e at told in
         rw (q .1, f) (refl, (bound-to p (q .0 .next), unified-stored stored (q .0)))
 
-    pub equal-steps : {n : ℕ} → r ≡ unified.StepsOut n → says s′ (Stops Steps 0)
+    pub equal-steps : {n : ℕ} → r ≡ unified.StepsOut n → says s′ (Stops Steps 0) st
     unfolding TookAs UnifiedAs
     equal-steps {n} e =
         let q : (g : Went ws s (p .bindings) s′ n) × (unify-terms (p .bindings) (shift base u) (shift base v) (st .left) ≡ stop no-steps 0) = rw e at told in
         rw (q .1) (refl, refl)
 
-    pub equal-path : {n l : ℕ} → r ≡ unified.PathOut n l → says s′ (Stops (PathLimit Waiting) l)
+    pub equal-path : {n l : ℕ} → r ≡ unified.PathOut n l → says s′ (Stops (PathLimit Waiting) l) st
     unfolding TookAs UnifiedAs
     equal-path {n} {l} e =
         let q : (g : Went ws s (p .bindings) s′ n) × (unify-terms (p .bindings) (shift base u) (shift base v) (st .left) ≡ stop (at-bound waiting) l) = rw e at told in
@@ -145,7 +146,7 @@ module _ {P : Program} {ws s : List ℕ} {st : State} {w : ℕ} {p : Path} {cs :
       went = rw joined at told
 
       -- nothing was bound
-      pub equal-same : {st′ : State} → st′ ≡ narrow st n (st .kept) l → n ≡ st .trail → says s′ (Goes st′)
+      pub equal-same : {st′ : State} → st′ ≡ narrow st n (st .kept) l → n ≡ st .trail → says s′ Goes st′
       unfolding TookAs
       equal-same {st′} f z =
           let g : Went ws s (p .bindings) s′ n = went .0 in
@@ -167,7 +168,7 @@ module _ {P : Program} {ws s : List ℕ} {st : State} {w : ℕ} {p : Path} {cs :
 
       -- and where something was
       pub equal-reviewed : {joint : State} {q : Reviewed} {took : Took} {s″ : List ℕ} → joint ≡ narrow st n (st .kept) l → (n ≡ st .trail → ⊥)
-          → ((bs : Substitution) (ds : List Constraint) → Kept ws s′ bs ds n (st .kept) → ReviewedAs ws s′ s″ bs (review-all bs ds ds l) q) → took ≡ review-took joint q → says s″ took
+          → ((bs : Substitution) (ds : List Constraint) → Kept ws s′ bs ds n (st .kept) → ReviewedAs ws s′ s″ bs (review-all bs ds ds l) q) → took ≡ review-took joint q → says s″ (took .way) (took .state)
       equal-reviewed {joint} {q} {took} {s″} f z reviews t =
           let g : Went ws s (p .bindings) s′ n = went .0 in
           let v′ = reviews (g .next) (p .kept) equal-kept in
@@ -185,7 +186,7 @@ module _ {P : Program} {ws s : List ℕ} {st : State} {w : ℕ} {p : Path} {cs :
   held : Stored P ws s (registers st) (st .choices) p cs
   held = k .taking .stored
 
-  pub constraint-full : (s′ : List ℕ) → 512 ≤ st .kept → TookAs P ws s′ cs (take-constraint p cs (shift-constraint base c) (st .left)) (Stops (PathLimit Constraints) (st .left + 1))
+  pub constraint-full : (s′ : List ℕ) → 512 ≤ st .kept → TookAs P ws s′ cs (take-constraint p cs (shift-constraint base c) (st .left)) (Stops (PathLimit Constraints) (st .left + 1)) st
   unfolding TookAs
   constraint-full s′ full =
       let f : leb (suc (length (p .kept))) 512 ≡ false = lt-leb (suc (length (p .kept))) 512 (omega (arith, held .path-in .kept)) in
@@ -211,7 +212,7 @@ module _ {P : Program} {ws s : List ℕ} {st : State} {w : ℕ} {p : Path} {cs :
     pub constraint-took : {q : Reviewed} {joint : State} {took : Took} {s″ : List ℕ}
         → ((bs : Substitution) (ds : List Constraint) (d : Constraint) → Kept ws (set s (kept-at (st .kept)) w) bs ds (st .trail) (st .kept + 1) → KeepsAt ws w d
         → ReviewedAs ws (set s (kept-at (st .kept)) w) s″ bs (review bs ds d (st .left)) q)
-        → joint ≡ narrow st (st .trail) (st .kept + 1) (st .left) → took ≡ review-took joint q → TookAs P ws s″ cs (take-constraint p cs (shift-constraint base c) (st .left)) took
+        → joint ≡ narrow st (st .trail) (st .kept + 1) (st .left) → took ≡ review-took joint q → TookAs P ws s″ cs (take-constraint p cs (shift-constraint base c) (st .left)) (took .way) (took .state)
     constraint-took {q} {joint} {took} {s″} reviews f t =
         let v′ = reviews (p .bindings) (p .kept ++ (shift-constraint base c ∷ [])) (shift-constraint base c) constraint-kept constraint-keeps in
         let y : leb (suc (length (p .kept))) 512 ≡ true = le-leb (suc (length (p .kept))) 512 (omega (arith, held .path-in .kept)) in

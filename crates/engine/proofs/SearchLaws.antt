@@ -23,8 +23,8 @@ use Rattle.engine.specs.Turning.{tallied, NextAs}
 use Rattle.engine.specs.Searching.{count-cuts, Searching, counted-to, Answers, SearchedAs}
 use Rattle.engine.specs.declared.state.State.{State}
 use Rattle.engine.specs.declared.state.Stop.{Stop}
-use Rattle.engine.specs.declared.state.Turned.{Turned}
-use Rattle.engine.specs.declared.state.Turned.the-variants as turned
+use Rattle.engine.specs.declared.state.Lead.{Lead}
+use Rattle.engine.specs.declared.state.Lead.the-variants as lead
 use Rattle.engine.specs.declared.state.Searched.the-variants.{Answer, Over, Stops}
 
 pub count-none : (cuts cut : ℕ) → cut ≡ 0 → cuts ≡ count-cuts cuts cut
@@ -76,7 +76,7 @@ turn-of P n k zero state x lt e = absurd (omega arith)
 turn-of P n k (suc f) state x lt e = (f, refl, ap (λ y. onward P n k y (λ next. search P n k f next)) e)
 
 module _ {P : Program} {wf : ProgramIn P} {n k : ℕ} {ws s : List ℕ} {st : State} {w cuts : ℕ} {state₀ : round.State} {fuel₀ : ℕ} (g : Going P wf n k ws s st w cuts state₀ fuel₀)
-    (s′ : List ℕ) (r : Turned) (told : NextAs P n k ws s′ (g .state .tally) (take-goal k P (g .state .path) (g .state .choices) (g .state .task .0) (g .state .task .1) (st .left)) (turn P n k (g .state)) r) where
+    (s′ : List ℕ) (to : Lead) (next : State) (v c : ℕ) (told : NextAs P n k ws s′ (g .state .tally) (take-goal k P (g .state .path) (g .state .choices) (g .state .task .0) (g .state .task .1) (st .left)) (turn P n k (g .state)) to next v c) where
   total : ℕ
   total = g .state .tally .room + length (page (g .state .tally .written))
 
@@ -91,30 +91,30 @@ module _ {P : Program} {wf : ProgramIn P} {n k : ℕ} {ws s : List ℕ} {st : St
   cuts-as : (l c : ℕ) → tallied (g .state .tally) l c ≡ counted-to (state₀ .tally) l (count-cuts cuts c)
   cuts-as l c = tallied-is (g .state .tally) l c ∙ tally-as l (count-cuts (g .state .tally .cuts) c) ∙ ap (λ x. counted-to (state₀ .tally) l (count-cuts x c)) (g .under .cuts-are)
 
-  pub searched-stops : {why : Stop} {l : ℕ} → r ≡ turned.Stops why l → SearchedAs P wf n k ws s′ state₀ fuel₀ (Stops why l)
+  pub searched-stops : {why : Stop} {l : ℕ} → to ≡ lead.Stops why l → SearchedAs P wf n k ws s′ state₀ fuel₀ (Stops why l)
   unfolding NextAs SearchedAs
   searched-stops {why} {l} e =
       let q : turn P n k (g .state) ≡ over (broken (end-of (stop-of why)) (spend (g .state .tally) l)) = rw e at told in
       let t = turn-of P n k (g .fuel) (g .state) _ (g .enough) q in
       (g .state .tally .cuts, g .same ∙ t .2 ∙ ap (broken (end-of (stop-of why))) (tally-as l (g .state .tally .cuts)))
 
-  pub searched-over : {next : State} {c d : ℕ} → r ≡ turned.Over next c → d ≡ count-cuts cuts c → SearchedAs P wf n k ws s′ state₀ fuel₀ (Over next d)
+  pub searched-over : {d : ℕ} → to ≡ lead.Over → d ≡ count-cuts cuts c → SearchedAs P wf n k ws s′ state₀ fuel₀ (Over next d)
   unfolding NextAs SearchedAs
-  searched-over {next} {c} {d} e f =
+  searched-over {d} e f =
       let q : (turn P n k (g .state) ≡ over (completed (tallied (g .state .tally) (next .left) c))) × ((p : Path) × Holds P ws s′ next p []) = rw e at told in
       let t = turn-of P n k (g .fuel) (g .state) _ (g .enough) (q .0) in
       (g .same ∙ t .2 ∙ ap completed (cuts-as (next .left) c ∙ ap (counted-to (state₀ .tally) (next .left)) (sym f)), q .1)
 
-  pub over-some : {next : State} {c : ℕ} → r ≡ turned.Over next c → 0 < st .left
+  pub over-some : to ≡ lead.Over → 0 < st .left
   unfolding NextAs
-  over-some {next} {c} e =
+  over-some e =
       let q : (turn P n k (g .state) ≡ over (completed (tallied (g .state .tally) (next .left) c))) × ((p : Path) × Holds P ws s′ next p []) = rw e at told in
       omega (arith, g .under .left-is, over-spent P n k (g .state) (g .state .tally .left) _ (q .0))
 
   -- the round goes on
-  pub searched-goal : {next : State} {v c d : ℕ} → r ≡ turned.Goal next v c → d ≡ count-cuts cuts c → Going P wf n k ws s′ next v d state₀ fuel₀ × (next .left < st .left)
+  pub searched-goal : {d : ℕ} → to ≡ lead.Goal → d ≡ count-cuts cuts c → Going P wf n k ws s′ next v d state₀ fuel₀ × (next .left < st .left)
   unfolding NextAs
-  searched-goal {next} {v} {c} {d} e f =
+  searched-goal {d} e f =
       let q : (state : round.State) × (turn P n k (g .state) ≡ going state) × TaskAt ws v (state .task) × Holds P ws s′ next (state .path) (state .choices) × (state .tally ≡ tallied (g .state .tally) (next .left) c) = rw e at told in
       let new : round.State = q .0 in
       let t = turn-of P n k (g .fuel) (g .state) (going new) (g .enough) (q .1) in
@@ -138,9 +138,9 @@ module _ {P : Program} {wf : ProgramIn P} {n k : ℕ} {ws s : List ℕ} {st : St
       )
 
   -- a path gives an answer
-  pub searched-answer : {next : State} → r ≡ turned.Answer next → SearchedAs P wf n k ws s′ state₀ fuel₀ (Answer next cuts)
+  pub searched-answer : to ≡ lead.Answer → SearchedAs P wf n k ws s′ state₀ fuel₀ (Answer next cuts)
   unfolding NextAs SearchedAs
-  searched-answer {next} e =
+  searched-answer e =
       let o : Outcome Taken = take-goal k P (g .state .path) (g .state .choices) (g .state .task .0) (g .state .task .1) (st .left) in
       let q : (p : Path) × (cs : List ChoicePoint) × (turn P n k (g .state) ≡ give P n k cs (spend (g .state .tally) (next .left)) (answer p n (next .left))) × Holds P ws s′ next p cs × (p .stack ≡ []) × (p .calls ≡ k) × (o ≡ done (goes p cs) (next .left)) = rw e at told in
       let p : Path = q .0 in

@@ -14,8 +14,8 @@ use Rattle.engine.specs.Walk.{NodeAt}
 use Rattle.engine.specs.Taking.{Taking, Ready, Due, TookAs, narrow}
 use Rattle.engine.specs.declared.state.State.{State}
 use Rattle.engine.specs.declared.state.Stop.the-variants.{Steps}
+use Rattle.engine.specs.declared.state.Way.the-variants.{Stops}
 use Rattle.engine.specs.declared.state.Took.{Took}
-use Rattle.engine.specs.declared.state.Took.the-variants.{Stops}
 
 -- the kind of each goal's word
 abbrev pub kind-of : Goal → ℕ
@@ -84,9 +84,9 @@ is-constraint (disj gs) a b c d = absurd (c refl)
 is-constraint (call r ts) a b c d = absurd (d refl)
 
 -- no step is left
-pub take-none : (P : Program) (ws s : List ℕ) (p : Path) (cs : List ChoicePoint) (round left : ℕ) (task : Task) → left ≡ 0 → TookAs P ws s cs (take-goal round P p cs (task .0) (task .1) left) (Stops Steps 0)
+pub take-none : (P : Program) (ws s : List ℕ) (p : Path) (cs : List ChoicePoint) (round left : ℕ) (task : Task) (st : State) → left ≡ 0 → TookAs P ws s cs (take-goal round P p cs (task .0) (task .1) left) (Stops Steps 0) st
 unfolding TookAs
-take-none P ws s p cs round left task e = rw e (refl, refl)
+take-none P ws s p cs round left task st e = rw e (refl, refl)
 
 step-is : {A : Type 0} (left : ℕ) (go : ℕ → Outcome A) → (left ≡ 0 → ⊥) → step left go ≡ go (left - 1)
 step-is zero go n = absurd (n refl)
@@ -107,42 +107,42 @@ module _ {P : Program} {ws s : List ℕ} {st : State} {w : ℕ} {p : Path} {cs :
   }))
 
   -- what the goal's function says is what the definition says, its step taken
-  taken-as : (round : ℕ) (s′ : List ℕ) (r : Took) (g : Goal) → task .1 ≡ g → TookAs P ws s′ cs (taken round P p cs (task .0) g (st′ .left)) r → TookAs P ws s′ cs (take-goal round P p cs (task .0) (task .1) (st .left)) r
+  taken-as : (round : ℕ) (s′ : List ℕ) (r : Took) (g : Goal) → task .1 ≡ g → TookAs P ws s′ cs (taken round P p cs (task .0) g (st′ .left)) (r .way) (r .state) → TookAs P ws s′ cs (take-goal round P p cs (task .0) (task .1) (st .left)) (r .way) (r .state)
   taken-as round s′ r g e h =
       let left-is : st′ .left ≡ st .left - 1 = ap (λ x. x .left) is-st in
-      subst (λ o. TookAs P ws s′ cs o r) (sym (step-is (st .left) (λ l. taken round P p cs (task .0) (task .1) l) some-left))
-      (subst (λ x. TookAs P ws s′ cs (taken round P p cs (task .0) x (st .left - 1)) r) (sym e) (subst (λ l. TookAs P ws s′ cs (taken round P p cs (task .0) g l) r) left-is h))
+      subst (λ o. TookAs P ws s′ cs o (r .way) (r .state)) (sym (step-is (st .left) (λ l. taken round P p cs (task .0) (task .1) l) some-left))
+      (subst (λ x. TookAs P ws s′ cs (taken round P p cs (task .0) x (st .left - 1)) (r .way) (r .state)) (sym e) (subst (λ l. TookAs P ws s′ cs (taken round P p cs (task .0) g l) (r .way) (r .state)) left-is h))
 
   pub take-is-equal : k ≡ 5 → (Q : Program) × (q : Path) × (ds : List ChoicePoint) × (base : ℕ) × (u : Term) × (v : Term) × Ready Q ws s st′ w q ds (base, equal u v)
   take-is-equal e = let i = is-equal (task .1) (sym is-kind ∙ e) in (P, p, cs, task .0, i .0, i .1, ready (equal (i .0) (i .1)) (i .2))
 
   pub take-equal-as : (round : ℕ) (s′ : List ℕ) (r : Took) → k ≡ 5
-      → ((Q : Program) (q : Path) (ds : List ChoicePoint) (base : ℕ) (u v : Term) → Ready Q ws s st′ w q ds (base, equal u v) → TookAs Q ws s′ ds (take-equal q ds (shift base u) (shift base v) (st′ .left)) r)
-      → TookAs P ws s′ cs (take-goal round P p cs (task .0) (task .1) (st .left)) r
+      → ((Q : Program) (q : Path) (ds : List ChoicePoint) (base : ℕ) (u v : Term) → Ready Q ws s st′ w q ds (base, equal u v) → TookAs Q ws s′ ds (take-equal q ds (shift base u) (shift base v) (st′ .left)) (r .way) (r .state))
+      → TookAs P ws s′ cs (take-goal round P p cs (task .0) (task .1) (st .left)) (r .way) (r .state)
   take-equal-as round s′ r e f = let i = is-equal (task .1) (sym is-kind ∙ e) in taken-as round s′ r (equal (i .0) (i .1)) (i .2) (f P p cs (task .0) (i .0) (i .1) (ready (equal (i .0) (i .1)) (i .2)))
 
   pub take-is-conj : k ≡ 10 → (Q : Program) × (q : Path) × (ds : List ChoicePoint) × (base : ℕ) × (gs : Goals) × Taking Q ws s st′ w q ds (base, conj gs)
   take-is-conj e = let i = is-conj (task .1) (sym is-kind ∙ e) in (P, p, cs, task .0, i .0, ready (conj (i .0)) (i .1) .taking)
 
   pub take-conj-as : (round : ℕ) (s′ : List ℕ) (r : Took) → k ≡ 10
-      → ((Q : Program) (q : Path) (ds : List ChoicePoint) (base : ℕ) (gs : Goals) → Taking Q ws s st′ w q ds (base, conj gs) → TookAs Q ws s′ ds (take-conj q ds base gs (st′ .left)) r)
-      → TookAs P ws s′ cs (take-goal round P p cs (task .0) (task .1) (st .left)) r
+      → ((Q : Program) (q : Path) (ds : List ChoicePoint) (base : ℕ) (gs : Goals) → Taking Q ws s st′ w q ds (base, conj gs) → TookAs Q ws s′ ds (take-conj q ds base gs (st′ .left)) (r .way) (r .state))
+      → TookAs P ws s′ cs (take-goal round P p cs (task .0) (task .1) (st .left)) (r .way) (r .state)
   take-conj-as round s′ r e f = let i = is-conj (task .1) (sym is-kind ∙ e) in taken-as round s′ r (conj (i .0)) (i .1) (f P p cs (task .0) (i .0) (ready (conj (i .0)) (i .1) .taking))
 
   pub take-is-disj : k ≡ 11 → (Q : Program) × (q : Path) × (ds : List ChoicePoint) × (base : ℕ) × (gs : Goals) × Taking Q ws s st′ w q ds (base, disj gs)
   take-is-disj e = let i = is-disj (task .1) (sym is-kind ∙ e) in (P, p, cs, task .0, i .0, ready (disj (i .0)) (i .1) .taking)
 
   pub take-disj-as : (round : ℕ) (s′ : List ℕ) (r : Took) → k ≡ 11
-      → ((Q : Program) (q : Path) (ds : List ChoicePoint) (base : ℕ) (gs : Goals) → Taking Q ws s st′ w q ds (base, disj gs) → TookAs Q ws s′ ds (take-disj q ds base gs (st′ .left)) r)
-      → TookAs P ws s′ cs (take-goal round P p cs (task .0) (task .1) (st .left)) r
+      → ((Q : Program) (q : Path) (ds : List ChoicePoint) (base : ℕ) (gs : Goals) → Taking Q ws s st′ w q ds (base, disj gs) → TookAs Q ws s′ ds (take-disj q ds base gs (st′ .left)) (r .way) (r .state))
+      → TookAs P ws s′ cs (take-goal round P p cs (task .0) (task .1) (st .left)) (r .way) (r .state)
   take-disj-as round s′ r e f = let i = is-disj (task .1) (sym is-kind ∙ e) in taken-as round s′ r (disj (i .0)) (i .1) (f P p cs (task .0) (i .0) (ready (disj (i .0)) (i .1) .taking))
 
   pub take-is-call : k ≡ 12 → (Q : Program) × (q : Path) × (ds : List ChoicePoint) × (base : ℕ) × (m : ℕ) × (ts : List Term) × Ready Q ws s st′ w q ds (base, call m ts)
   take-is-call e = let i = is-call (task .1) (sym is-kind ∙ e) in (P, p, cs, task .0, i .0, i .1, ready (call (i .0) (i .1)) (i .2))
 
   pub take-call-as : (round : ℕ) (s′ : List ℕ) (r : Took) → k ≡ 12
-      → ((Q : Program) (q : Path) (ds : List ChoicePoint) (base m : ℕ) (ts : List Term) → Ready Q ws s st′ w q ds (base, call m ts) → TookAs Q ws s′ ds (take-call round Q q ds base m ts (st′ .left)) r)
-      → TookAs P ws s′ cs (take-goal round P p cs (task .0) (task .1) (st .left)) r
+      → ((Q : Program) (q : Path) (ds : List ChoicePoint) (base m : ℕ) (ts : List Term) → Ready Q ws s st′ w q ds (base, call m ts) → TookAs Q ws s′ ds (take-call round Q q ds base m ts (st′ .left)) (r .way) (r .state))
+      → TookAs P ws s′ cs (take-goal round P p cs (task .0) (task .1) (st .left)) (r .way) (r .state)
   take-call-as round s′ r e f = let i = is-call (task .1) (sym is-kind ∙ e) in taken-as round s′ r (call (i .0) (i .1)) (i .2) (f P p cs (task .0) (i .0) (i .1) (ready (call (i .0) (i .1)) (i .2)))
 
   module _ (not-equal : k ≡ 5 → ⊥) (not-conj : k ≡ 10 → ⊥) (not-disj : k ≡ 11 → ⊥) (not-call : k ≡ 12 → ⊥) where
@@ -153,6 +153,6 @@ module _ {P : Program} {ws s : List ℕ} {st : State} {w : ℕ} {p : Path} {cs :
     take-is-constraint = (P, p, cs, task .0, constraint-is .0, ready (constrain (constraint-is .0)) (constraint-is .1))
 
     pub take-constraint-as : (round : ℕ) (s′ : List ℕ) (r : Took)
-        → ((Q : Program) (q : Path) (ds : List ChoicePoint) (base : ℕ) (c : Constraint) → Ready Q ws s st′ w q ds (base, constrain c) → TookAs Q ws s′ ds (take-constraint q ds (shift-constraint base c) (st′ .left)) r)
-        → TookAs P ws s′ cs (take-goal round P p cs (task .0) (task .1) (st .left)) r
+        → ((Q : Program) (q : Path) (ds : List ChoicePoint) (base : ℕ) (c : Constraint) → Ready Q ws s st′ w q ds (base, constrain c) → TookAs Q ws s′ ds (take-constraint q ds (shift-constraint base c) (st′ .left)) (r .way) (r .state))
+        → TookAs P ws s′ cs (take-goal round P p cs (task .0) (task .1) (st .left)) (r .way) (r .state)
     take-constraint-as round s′ r f = taken-as round s′ r (constrain (constraint-is .0)) (constraint-is .1) (f P p cs (task .0) (constraint-is .0) (ready (constrain (constraint-is .0)) (constraint-is .1)))

@@ -20,12 +20,13 @@ use Rattle.engine.specs.Taking.{registers, Holds, TookAs, BackAs, stop-o
 use Rattle.engine.specs.Turning.{tallied, NextAs}
 use Rattle.engine.specs.declared.state.State.{State}
 use Rattle.engine.specs.declared.state.Stop.{Stop}
-use Rattle.engine.specs.declared.state.Took.{Took}
-use Rattle.engine.specs.declared.state.Took.the-variants as took
+use Rattle.engine.specs.declared.state.Way.{Way}
+use Rattle.engine.specs.declared.state.Way.the-variants as way
 use Rattle.engine.specs.declared.state.Resumed.{Resumed}
 use Rattle.engine.specs.declared.state.Resumed.the-variants as resumed
+use Rattle.engine.specs.declared.state.Lead.{Lead}
+use Rattle.engine.specs.declared.state.Lead.the-variants.{Goal, Over, Answer, Stops}
 use Rattle.engine.specs.declared.state.Turned.{Turned}
-use Rattle.engine.specs.declared.state.Turned.the-variants.{Goal, Over, Answer, Stops}
 use Rattle.engine.proofs.ClaimLaws.{pop}
 
 -- The path is left.
@@ -35,12 +36,12 @@ tally-left : (t : Tally) (l m c : ℕ) → m ≡ l → tallied t l c ≡ tallied
 tally-left t l m c e = ap (λ x. tallied t x c) (sym e)
 
 module _ (P : Program) (n k : ℕ) (ws s : List ℕ) (st : State) (t : Tally) (o : Outcome Taken) (c : ℕ) where
-  pub left-over : (x : Next) {r : Resumed} → r ≡ resumed.Over → BackAs P ws s st (tallied t (st .left) c) x r → NextAs P n k ws s t o x (Over st c)
+  pub left-over : (x : Next) {r : Resumed} → r ≡ resumed.Over → BackAs P ws s st (tallied t (st .left) c) x r → NextAs P n k ws s t o x Over st 0 c
   unfolding BackAs NextAs
   left-over (over d) e b = let q : (d ≡ completed (tallied t (st .left) c)) × ((p : Path) × Holds P ws s st p []) = rw e at b in (ap over (q .0), q .1)
   left-over (going d) e b = absurd (rw e at b)
 
-  pub left-goal : (x : Next) {r : Resumed} {next : State} {w : ℕ} → r ≡ resumed.Goal next w → BackAs P ws s st (tallied t (st .left) c) x r → NextAs P n k ws s t o x (Goal next w c)
+  pub left-goal : (x : Next) {r : Resumed} {next : State} {w : ℕ} → r ≡ resumed.Goal next w → BackAs P ws s st (tallied t (st .left) c) x r → NextAs P n k ws s t o x Goal next w c
   unfolding BackAs NextAs
   left-goal (over d) e b = absurd (rw e at b)
   left-goal (going d) {next = next} {w = w} e b =
@@ -58,8 +59,8 @@ cell-there {P} {ws} {s} st {p} h e = go (p .stack) (h .path-in .tasks)
     go (x ∷ xs) q = omega (arith, q .0 .low, h .roomy .put)
 
 module _ (P : Program) (n k : ℕ) (ws s : List ℕ) (st : State) (p : Path) (cs : List ChoicePoint) (t : Tally) (h : Holds P ws s st p cs) where
-  abbrev pub goes-to : List ℕ → Turned → Type 0
-  goes-to s′ said = NextAs P n k ws s′ t (done (goes p cs) (st .left)) (go-on P n k p (p .stack) cs (spend t (st .left))) said
+  abbrev pub goes-to : List ℕ → Lead → State → ℕ → ℕ → Type 0
+  goes-to s′ lead next w c = NextAs P n k ws s′ t (done (goes p cs) (st .left)) (go-on P n k p (p .stack) cs (spend t (st .left))) lead next w c
 
   no-stack : st .head ≡ 0 → p .stack ≡ []
   no-stack e = go (p .stack) (h .path-in .tasks)
@@ -68,7 +69,7 @@ module _ (P : Program) (n k : ℕ) (ws s : List ℕ) (st : State) (p : Path) (cs
       go [] q = refl
       go (x ∷ xs) q = absurd (omega (arith, q .0 .is-cell))
 
-  pub goes-answer : st .head ≡ 0 → st .calls ≡ k → goes-to s (Answer st)
+  pub goes-answer : st .head ≡ 0 → st .calls ≡ k → goes-to s Answer st 0 0
   unfolding NextAs
   goes-answer e f =
       let calls : p .calls ≡ k = sym (h .path-in .calls) ∙ f in
@@ -77,18 +78,18 @@ module _ (P : Program) (n k : ℕ) (ws s : List ℕ) (st : State) (p : Path) (cs
       (p, cs, ap (λ ts. go-on P n k p ts cs (spend t (st .left))) (no-stack e) ∙ x, h, no-stack e, calls, refl)
 
   pub goes-fewer : (s′ : List ℕ) (r : Turned) → st .head ≡ 0 → (st .calls ≡ k → ⊥)
-      → ((Q : Program) (m j : ℕ) (q : Path) (ds : List ChoicePoint) (u : Tally) (o : Outcome Taken) → Holds Q ws s st q ds → NextAs Q m j ws s′ u o (back ds (tallied u (st .left) 0)) r) → goes-to s′ r
+      → ((Q : Program) (m j : ℕ) (q : Path) (ds : List ChoicePoint) (u : Tally) (o : Outcome Taken) → Holds Q ws s st q ds → NextAs Q m j ws s′ u o (back ds (tallied u (st .left) 0)) (r .lead) (r .state) (r .goal) (r .cuts)) → goes-to s′ (r .lead) (r .state) (r .goal) (r .cuts)
   goes-fewer s′ r e f left =
       let y : eqb (p .calls) k ≡ false = ne-eqb (p .calls) k (λ q. f (h .path-in .calls ∙ q)) in
       let x : go-on P n k p [] cs (spend t (st .left)) ≡ back cs (spend t (st .left)) = rw y refl in
-      subst (λ z. NextAs P n k ws s′ t (done (goes p cs) (st .left)) z r) (sym (ap (λ ts. go-on P n k p ts cs (spend t (st .left))) (no-stack e) ∙ x)) (left P n k p cs t (done (goes p cs) (st .left)) h)
+      subst (λ z. NextAs P n k ws s′ t (done (goes p cs) (st .left)) z (r .lead) (r .state) (r .goal) (r .cuts)) (sym (ap (λ ts. go-on P n k p ts cs (spend t (st .left))) (no-stack e) ∙ x)) (left P n k p cs t (done (goes p cs) (st .left)) h)
 
   pub goes-goal : (st .head ≡ 0 → ⊥)
-      → goes-to s (Goal (record { head = at s (next-at (st .head)); trail = st .trail; made = st .made; put = st .put; kept = st .kept; calls = st .calls; choices = st .choices; left = st .left }) (at s (goal-at (st .head))) 0)
+      → goes-to s Goal (record { head = at s (next-at (st .head)); trail = st .trail; made = st .made; put = st .put; kept = st .kept; calls = st .calls; choices = st .choices; left = st .left }) (at s (goal-at (st .head))) 0
   unfolding NextAs
   goes-goal e = go (p .stack) refl
     where
-      go : (ts : List Task) → p .stack ≡ ts → goes-to s (Goal (record { head = at s (next-at (st .head)); trail = st .trail; made = st .made; put = st .put; kept = st .kept; calls = st .calls; choices = st .choices; left = st .left }) (at s (goal-at (st .head))) 0)
+      go : (ts : List Task) → p .stack ≡ ts → goes-to s Goal (record { head = at s (next-at (st .head)); trail = st .trail; made = st .made; put = st .put; kept = st .kept; calls = st .calls; choices = st .choices; left = st .left }) (at s (goal-at (st .head))) 0
       go [] q = absurd (e (subst (TasksIn ws s (st .put) (st .head)) q (h .path-in .tasks)))
       go (x ∷ xs) q =
           let g : Stored P ws s (registers st) (st .choices) (waiting-on p (x ∷ xs) (p .put)) cs = subst (λ ts. Stored P ws s (registers st) (st .choices) (waiting-on p ts (p .put)) cs) q h in
@@ -104,21 +105,21 @@ module _ (P : Program) (ws s : List ℕ) (cs : List ChoicePoint) where
     pub choices : List ChoicePoint
     pub held : Holds P ws s st path choices
 
-  pub turn-left : (o : Outcome Taken) {r : Took} {st : State} → r ≡ took.Leaves st → TookAs P ws s cs o r → Holding st
+  pub turn-left : (o : Outcome Taken) {y : Way} {st : State} → y ≡ way.Leaves → TookAs P ws s cs o y st → Holding st
   unfolding TookAs
   turn-left (done leaves m) {st = st} e b = let c : (st .left ≡ m) × ((p : Path) × Holds P ws s st p cs) = rw e at b in record { path = c .1 .0; choices = cs; held = c .1 .1 }
   turn-left (done cut m) e b = absurd (rw e at b)
   turn-left (done (goes x y) m) e b = absurd (rw e at b)
   turn-left (stop y m) e b = absurd (rw e at b)
 
-  pub turn-cut : (o : Outcome Taken) {r : Took} {st : State} → r ≡ took.Cut st → TookAs P ws s cs o r → Holding st
+  pub turn-cut : (o : Outcome Taken) {y : Way} {st : State} → y ≡ way.Cut → TookAs P ws s cs o y st → Holding st
   unfolding TookAs
   turn-cut (done cut m) {st = st} e b = let c : (st .left ≡ m) × ((p : Path) × Holds P ws s st p cs) = rw e at b in record { path = c .1 .0; choices = cs; held = c .1 .1 }
   turn-cut (done leaves m) e b = absurd (rw e at b)
   turn-cut (done (goes x y) m) e b = absurd (rw e at b)
   turn-cut (stop y m) e b = absurd (rw e at b)
 
-  pub turn-goes : (o : Outcome Taken) {r : Took} {st : State} → r ≡ took.Goes st → TookAs P ws s cs o r → Holding st
+  pub turn-goes : (o : Outcome Taken) {y : Way} {st : State} → y ≡ way.Goes → TookAs P ws s cs o y st → Holding st
   unfolding TookAs
   turn-goes (done (goes x y) m) {st = st} e b = let c : (st .left ≡ m) × Holds P ws s st x y = rw e at b in record { path = x; choices = y; held = c .1 }
   turn-goes (done leaves m) e b = absurd (rw e at b)
@@ -129,53 +130,53 @@ module _ (P : Program) (n k : ℕ) (ws s s′ : List ℕ) (state : round.State) 
   abbrev pub took-goal : Outcome Taken
   took-goal = take-goal k P (state .path) (state .choices) (state .task .0) (state .task .1) left
 
-  abbrev pub turns-to : Turned → Type 0
-  turns-to r = NextAs P n k ws s′ (state .tally) took-goal (turn P n k state) r
+  abbrev pub turns-to : Lead → State → ℕ → ℕ → Type 0
+  turns-to lead st w c = NextAs P n k ws s′ (state .tally) took-goal (turn P n k state) lead st w c
 
   turn-is : (o : Outcome Taken) → took-goal ≡ o → turn P n k state ≡ after P n k state o
   turn-is o e = ap (λ l. after P n k state (take-goal k P (state .path) (state .choices) (state .task .0) (state .task .1) l)) same ∙ ap (after P n k state) e
 
   -- what taking the goal came to
-  pub turn-stops : (o : Outcome Taken) {r : Took} {why : Stop} {l : ℕ} → r ≡ took.Stops why l → TookAs P ws s (state .choices) o r → took-goal ≡ o → turns-to (Stops why l)
+  pub turn-stops : (o : Outcome Taken) {y : Way} {why : Stop} {l : ℕ} (st : State) (w c : ℕ) → y ≡ way.Stops why l → TookAs P ws s (state .choices) o y st → took-goal ≡ o → turns-to (Stops why l) st w c
   unfolding TookAs NextAs
-  turn-stops (stop y m) {why = why} {l = l} e b q =
-      let c : (stop-of why ≡ y) × (l ≡ m) = rw e at b in
-      turn-is (stop y m) q ∙ rw (sym (c .0), sym (c .1)) refl
-  turn-stops (done leaves m) e b q = absurd (rw e at b)
-  turn-stops (done cut m) e b q = absurd (rw e at b)
-  turn-stops (done (goes x y) m) e b q = absurd (rw e at b)
+  turn-stops (stop y m) {why = why} {l = l} st w c e b q =
+      let d : (stop-of why ≡ y) × (l ≡ m) = rw e at b in
+      turn-is (stop y m) q ∙ rw (sym (d .0), sym (d .1)) refl
+  turn-stops (done leaves m) st w c e b q = absurd (rw e at b)
+  turn-stops (done cut m) st w c e b q = absurd (rw e at b)
+  turn-stops (done (goes x y) m) st w c e b q = absurd (rw e at b)
 
   -- and what comes of it
   module _ (st : State) (said : Turned) where
     abbrev Leaves-as : ℕ → Type 0
-    Leaves-as c = (Q : Program) (m j : ℕ) (q : Path) (ds : List ChoicePoint) (u : Tally) (o : Outcome Taken) → Holds Q ws s st q ds → NextAs Q m j ws s′ u o (back ds (tallied u (st .left) c)) said
+    Leaves-as c = (Q : Program) (m j : ℕ) (q : Path) (ds : List ChoicePoint) (u : Tally) (o : Outcome Taken) → Holds Q ws s st q ds → NextAs Q m j ws s′ u o (back ds (tallied u (st .left) c)) (said .lead) (said .state) (said .goal) (said .cuts)
 
-    pub turn-leaves : (o : Outcome Taken) {r : Took} → r ≡ took.Leaves st → TookAs P ws s (state .choices) o r → took-goal ≡ o → Leaves-as 0 → turns-to said
+    pub turn-leaves : (o : Outcome Taken) {y : Way} → y ≡ way.Leaves → TookAs P ws s (state .choices) o y st → took-goal ≡ o → Leaves-as 0 → turns-to (said .lead) (said .state) (said .goal) (said .cuts)
     unfolding TookAs
     turn-leaves (done leaves m) e b q f =
         let c : (st .left ≡ m) × ((p : Path) × Holds P ws s st p (state .choices)) = rw e at b in
-        subst (λ x. NextAs P n k ws s′ (state .tally) took-goal x said) (sym (turn-is (done leaves m) q ∙ ap (λ l. back (state .choices) (spend (state .tally) l)) (sym (c .0)))) (f P n k (c .1 .0) (state .choices) (state .tally) took-goal (c .1 .1))
+        subst (λ x. NextAs P n k ws s′ (state .tally) took-goal x (said .lead) (said .state) (said .goal) (said .cuts)) (sym (turn-is (done leaves m) q ∙ ap (λ l. back (state .choices) (spend (state .tally) l)) (sym (c .0)))) (f P n k (c .1 .0) (state .choices) (state .tally) took-goal (c .1 .1))
     turn-leaves (done cut m) e b q f = absurd (rw e at b)
     turn-leaves (done (goes x y) m) e b q f = absurd (rw e at b)
     turn-leaves (stop y m) e b q f = absurd (rw e at b)
 
-    pub turn-cuts : (o : Outcome Taken) {r : Took} → r ≡ took.Cut st → TookAs P ws s (state .choices) o r → took-goal ≡ o → Leaves-as 1 → turns-to said
+    pub turn-cuts : (o : Outcome Taken) {y : Way} → y ≡ way.Cut → TookAs P ws s (state .choices) o y st → took-goal ≡ o → Leaves-as 1 → turns-to (said .lead) (said .state) (said .goal) (said .cuts)
     unfolding TookAs
     turn-cuts (done cut m) e b q f =
         let c : (st .left ≡ m) × ((p : Path) × Holds P ws s st p (state .choices)) = rw e at b in
-        subst (λ x. NextAs P n k ws s′ (state .tally) took-goal x said) (sym (turn-is (done cut m) q ∙ ap (λ l. back (state .choices) (count-cut (state .tally) l)) (sym (c .0)))) (f P n k (c .1 .0) (state .choices) (state .tally) took-goal (c .1 .1))
+        subst (λ x. NextAs P n k ws s′ (state .tally) took-goal x (said .lead) (said .state) (said .goal) (said .cuts)) (sym (turn-is (done cut m) q ∙ ap (λ l. back (state .choices) (count-cut (state .tally) l)) (sym (c .0)))) (f P n k (c .1 .0) (state .choices) (state .tally) took-goal (c .1 .1))
     turn-cuts (done leaves m) e b q f = absurd (rw e at b)
     turn-cuts (done (goes x y) m) e b q f = absurd (rw e at b)
     turn-cuts (stop y m) e b q f = absurd (rw e at b)
 
-    pub turn-onward : (o : Outcome Taken) {r : Took} → r ≡ took.Goes st → TookAs P ws s (state .choices) o r → took-goal ≡ o
-        → ((Q : Program) (m : ℕ) (q : Path) (ds : List ChoicePoint) (u : Tally) → Holds Q ws s st q ds → NextAs Q m k ws s′ u (done (goes q ds) (st .left)) (go-on Q m k q (q .stack) ds (spend u (st .left))) said)
-        → turns-to said
+    pub turn-onward : (o : Outcome Taken) {y : Way} → y ≡ way.Goes → TookAs P ws s (state .choices) o y st → took-goal ≡ o
+        → ((Q : Program) (m : ℕ) (q : Path) (ds : List ChoicePoint) (u : Tally) → Holds Q ws s st q ds → NextAs Q m k ws s′ u (done (goes q ds) (st .left)) (go-on Q m k q (q .stack) ds (spend u (st .left))) (said .lead) (said .state) (said .goal) (said .cuts))
+        → turns-to (said .lead) (said .state) (said .goal) (said .cuts)
     unfolding TookAs
     turn-onward (done (goes x y) m) e b q f =
         let c : (st .left ≡ m) × Holds P ws s st x y = rw e at b in
         let is : took-goal ≡ done (goes x y) (st .left) = q ∙ ap (done (goes x y)) (sym (c .0)) in
-        subst (λ z. NextAs P n k ws s′ (state .tally) took-goal z said) (sym (turn-is (done (goes x y) (st .left)) is)) (subst (λ z. NextAs P n k ws s′ (state .tally) z (go-on P n k x (x .stack) y (spend (state .tally) (st .left))) said) (sym is) (f P n x y (state .tally) (c .1)))
+        subst (λ z. NextAs P n k ws s′ (state .tally) took-goal z (said .lead) (said .state) (said .goal) (said .cuts)) (sym (turn-is (done (goes x y) (st .left)) is)) (subst (λ z. NextAs P n k ws s′ (state .tally) z (go-on P n k x (x .stack) y (spend (state .tally) (st .left))) (said .lead) (said .state) (said .goal) (said .cuts)) (sym is) (f P n x y (state .tally) (c .1)))
     turn-onward (done leaves m) e b q f = absurd (rw e at b)
     turn-onward (done cut m) e b q f = absurd (rw e at b)
     turn-onward (stop y m) e b q f = absurd (rw e at b)

@@ -19,8 +19,9 @@ use Rattle.engine.specs.declared.Bound.{Bound}
 use Rattle.engine.specs.declared.Bound.the-variants.{Variables, Goals, Disjunctions, Constraints, Waiting}
 use Rattle.engine.specs.declared.state.Stop.{Stop}
 use Rattle.engine.specs.declared.state.Stop.the-variants.{Steps, Path as PathLimit}
+use Rattle.engine.specs.declared.state.Way.{Way}
+use Rattle.engine.specs.declared.state.Way.the-variants.{Goes, Leaves, Cut, Stops}
 use Rattle.engine.specs.declared.state.Took.{Took}
-use Rattle.engine.specs.declared.state.Took.the-variants.{Goes, Leaves, Cut, Stops}
 use Rattle.engine.specs.declared.review.Reviewed.{Reviewed}
 use Rattle.engine.specs.declared.review.Reviewed.the-variants as reviewed
 use Rattle.engine.specs.declared.state.Resumed.{Resumed}
@@ -69,24 +70,24 @@ abbrev pub stop-of : Stop → steps.Stop
 stop-of Steps = steps.no-steps
 stop-of (PathLimit b) = steps.at-bound (bound-of b)
 
--- A goal has been taken. Where the path is left or cut, some path is there with the same choice points: one that fails in the middle has more bindings than the definition's.
-unfoldable pub TookAs : Program → List ℕ → List ℕ → List ChoicePoint → Outcome Taken → Took → Type 0
-TookAs P ws s cs (done leaves l) (Leaves st) = (st .left ≡ l) × ((p : Path) × Holds P ws s st p cs)
-TookAs P ws s cs (done leaves l) (Cut st) = ⊥
-TookAs P ws s cs (done leaves l) (Goes st) = ⊥
-TookAs P ws s cs (done leaves l) (Stops why m) = ⊥
-TookAs P ws s cs (done cut l) (Leaves st) = ⊥
-TookAs P ws s cs (done cut l) (Cut st) = (st .left ≡ l) × ((p : Path) × Holds P ws s st p cs)
-TookAs P ws s cs (done cut l) (Goes st) = ⊥
-TookAs P ws s cs (done cut l) (Stops why m) = ⊥
-TookAs P ws s cs (done (goes p cs′) l) (Leaves st) = ⊥
-TookAs P ws s cs (done (goes p cs′) l) (Cut st) = ⊥
-TookAs P ws s cs (done (goes p cs′) l) (Goes st) = (st .left ≡ l) × Holds P ws s st p cs′
-TookAs P ws s cs (done (goes p cs′) l) (Stops why m) = ⊥
-TookAs P ws s cs (stop why l) (Leaves st) = ⊥
-TookAs P ws s cs (stop why l) (Cut st) = ⊥
-TookAs P ws s cs (stop why l) (Goes st) = ⊥
-TookAs P ws s cs (stop why l) (Stops y m) = (stop-of y ≡ why) × (m ≡ l)
+-- A goal has been taken, with this state then. Where the path is left or cut, some path is there with the same choice points: one that fails in the middle has more bindings than the definition's.
+unfoldable pub TookAs : Program → List ℕ → List ℕ → List ChoicePoint → Outcome Taken → Way → State → Type 0
+TookAs P ws s cs (done leaves l) Leaves st = (st .left ≡ l) × ((p : Path) × Holds P ws s st p cs)
+TookAs P ws s cs (done leaves l) Cut st = ⊥
+TookAs P ws s cs (done leaves l) Goes st = ⊥
+TookAs P ws s cs (done leaves l) (Stops why m) st = ⊥
+TookAs P ws s cs (done cut l) Leaves st = ⊥
+TookAs P ws s cs (done cut l) Cut st = (st .left ≡ l) × ((p : Path) × Holds P ws s st p cs)
+TookAs P ws s cs (done cut l) Goes st = ⊥
+TookAs P ws s cs (done cut l) (Stops why m) st = ⊥
+TookAs P ws s cs (done (goes p cs′) l) Leaves st = ⊥
+TookAs P ws s cs (done (goes p cs′) l) Cut st = ⊥
+TookAs P ws s cs (done (goes p cs′) l) Goes st = (st .left ≡ l) × Holds P ws s st p cs′
+TookAs P ws s cs (done (goes p cs′) l) (Stops why m) st = ⊥
+TookAs P ws s cs (stop why l) Leaves st = ⊥
+TookAs P ws s cs (stop why l) Cut st = ⊥
+TookAs P ws s cs (stop why l) Goes st = ⊥
+TookAs P ws s cs (stop why l) (Stops y m) st = (stop-of y ≡ why) × (m ≡ l)
 
 -- one goal more waits, in the next cell
 abbrev pub one-waits : State → State
@@ -121,9 +122,13 @@ pub record RelationIs (ws : List ℕ) (params vars body : ℕ) (R : Relation) : 
 abbrev pub narrow : State → ℕ → ℕ → ℕ → State
 narrow st n k l = record { head = st .head; trail = n; made = st .made; put = st .put; kept = k; calls = st .calls; choices = st .choices; left = l }
 
+-- the case and the state beside it
+abbrev pub took-as : Way → State → Took
+took-as y st = record { way = y; state = st }
+
 -- what a review comes to for its path
 abbrev pub review-took : State → Reviewed → Took
-review-took st (reviewed.Fails l) = Leaves (narrow st (st .trail) (st .kept) l)
-review-took st (reviewed.Holds l) = Goes (narrow st (st .trail) (st .kept) l)
-review-took st reviewed.StepsOut = Stops Steps 0
-review-took st (reviewed.PathOut l) = Stops (PathLimit Waiting) l
+review-took st (reviewed.Fails l) = took-as Leaves (narrow st (st .trail) (st .kept) l)
+review-took st (reviewed.Holds l) = took-as Goes (narrow st (st .trail) (st .kept) l)
+review-took st reviewed.StepsOut = took-as (Stops Steps 0) st
+review-took st (reviewed.PathOut l) = took-as (Stops (PathLimit Waiting) l) st

@@ -7,6 +7,7 @@ use crate::layout::MOST_VARIABLES;
 use crate::state::State;
 use crate::state::Stop;
 use crate::state::Took;
+use crate::state::Way;
 use crate::table::relation;
 use crate::trail::bind;
 use crate::walk::node_at;
@@ -83,17 +84,26 @@ pub(crate) fn take_call(
 ) -> Took
     requires { ⌜ ((P : Program) × (p : Path) × (cs : List ChoicePoint) × (base : ℕ) × (n : ℕ) × (ts : List Term) × Ready P (now program) (now scratch) st goal p cs (base, call n ts)) ⌝ }
     ensures { λ r. ⌜ ((P : Program) (p : Path) (cs : List ChoicePoint) (base n : ℕ) (ts : List Term) → Ready P (now (program .entry)) (now (scratch .entry)) st goal p cs (base, call n ts)
-        → TookAs P (now (program .entry)) (now (scratch .exit)) cs (take-call round P p cs base n ts (st .left)) r) ⌝ }
+        → TookAs P (now (program .entry)) (now (scratch .exit)) cs (take-call round P p cs base n ts (st .left)) (r .way) (r .state)) ⌝ }
 {
     if round <= st.calls {
-        return Took::Cut(st);
+        return Took {
+            way: Way::Cut,
+            state: st,
+        };
     }
     let called = relation(program, scratch, node_at(program, goal + 1).payload);
     if MOST_VARIABLES < st.made + called.vars {
-        return Took::Stops(Stop::Path(Bound::Variables), st.left + 1);
+        return Took {
+            way: Way::Stops(Stop::Path(Bound::Variables), st.left + 1),
+            state: st,
+        };
     }
     if MOST_GOALS <= st.put {
-        return Took::Stops(Stop::Path(Bound::Goals), st.left + 1);
+        return Took {
+            way: Way::Stops(Stop::Path(Bound::Goals), st.left + 1),
+            state: st,
+        };
     }
     let trail = pass(program, scratch, goal + 2, st.made, called.params, st.trail);
     let made = State {
@@ -106,5 +116,8 @@ pub(crate) fn take_call(
         choices: st.choices,
         left: st.left,
     };
-    Took::Goes(wait(scratch, made, called.body + ENVIRONMENT * st.made))
+    Took {
+        way: Way::Goes,
+        state: wait(scratch, made, called.body + ENVIRONMENT * st.made),
+    }
 }

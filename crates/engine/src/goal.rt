@@ -9,6 +9,7 @@ use crate::layout::MOST_GOALS;
 use crate::state::State;
 use crate::state::Stop;
 use crate::state::Took;
+use crate::state::Way;
 use crate::walk::node_at;
 ghost use mathlib.Core.Path.{_≡_};
 ghost use mathlib.Core.List.{List};
@@ -23,30 +24,36 @@ ghost use Rattle.engine.specs.Taking.{Taking, TookAs, one-waits};
 pub(crate) fn take_conj(program: &[u32], scratch: &mut [u32], st: State, conjunction: u32) -> Took
     requires { ⌜ ((P : Program) × (p : Path) × (cs : List ChoicePoint) × (base : ℕ) × (gs : Goals) × Taking P (now program) (now scratch) st conjunction p cs (base, conj gs)) ⌝ }
     ensures { λ r. ⌜ ((P : Program) (p : Path) (cs : List ChoicePoint) (base : ℕ) (gs : Goals) → Taking P (now (program .entry)) (now (scratch .entry)) st conjunction p cs (base, conj gs)
-        → TookAs P (now (program .entry)) (now (scratch .exit)) cs (take-conj p cs base gs (st .left)) r) ⌝ }
+        → TookAs P (now (program .entry)) (now (scratch .exit)) cs (take-conj p cs base gs (st .left)) (r .way) (r .state)) ⌝ }
 {
     let end = conjunction % ENVIRONMENT + 1 + node_at(program, conjunction).payload;
     let mut goal = conjunction + 1;
     let mut filled = st.put;
     loop {
         if MOST_GOALS <= filled {
-            return Took::Stops(Stop::Path(Bound::Goals), st.left + 1);
+            return Took {
+                way: Way::Stops(Stop::Path(Bound::Goals), st.left + 1),
+                state: st,
+            };
         }
         let size = node_at(program, goal).payload;
         let at = (CELL_GOAL + 2 * (filled + 1)) as usize;
         scratch[at] = goal;
         if goal % ENVIRONMENT + 1 + size == end {
             scratch[at + 1] = st.head;
-            return Took::Goes(State {
-                head: st.put + 1,
-                trail: st.trail,
-                made: st.made,
-                put: filled + 1,
-                kept: st.kept,
-                calls: st.calls,
-                choices: st.choices,
-                left: st.left,
-            });
+            return Took {
+                way: Way::Goes,
+                state: State {
+                    head: st.put + 1,
+                    trail: st.trail,
+                    made: st.made,
+                    put: filled + 1,
+                    kept: st.kept,
+                    calls: st.calls,
+                    choices: st.choices,
+                    left: st.left,
+                },
+            };
         }
         scratch[at + 1] = filled + 2;
         goal = goal + 1 + size;
@@ -79,20 +86,32 @@ pub(crate) fn wait(scratch: &mut [u32], st: State, goal: u32) -> State
 pub(crate) fn take_disj(program: &[u32], scratch: &mut [u32], st: State, disjunction: u32) -> Took
     requires { ⌜ ((P : Program) × (p : Path) × (cs : List ChoicePoint) × (base : ℕ) × (gs : Goals) × Taking P (now program) (now scratch) st disjunction p cs (base, disj gs)) ⌝ }
     ensures { λ r. ⌜ ((P : Program) (p : Path) (cs : List ChoicePoint) (base : ℕ) (gs : Goals) → Taking P (now (program .entry)) (now (scratch .entry)) st disjunction p cs (base, disj gs)
-        → TookAs P (now (program .entry)) (now (scratch .exit)) cs (take-disj p cs base gs (st .left)) r) ⌝ }
+        → TookAs P (now (program .entry)) (now (scratch .exit)) cs (take-disj p cs base gs (st .left)) (r .way) (r .state)) ⌝ }
 {
     if MOST_GOALS <= st.put {
-        return Took::Stops(Stop::Path(Bound::Goals), st.left + 1);
+        return Took {
+            way: Way::Stops(Stop::Path(Bound::Goals), st.left + 1),
+            state: st,
+        };
     }
     let end = disjunction % ENVIRONMENT + 1 + node_at(program, disjunction).payload;
     let first = disjunction + 1;
     let size = node_at(program, first).payload;
     if first % ENVIRONMENT + 1 + size == end {
-        return Took::Goes(wait(scratch, st, first));
+        return Took {
+            way: Way::Goes,
+            state: wait(scratch, st, first),
+        };
     }
     if MOST_DISJUNCTIONS <= st.choices {
-        return Took::Stops(Stop::Path(Bound::Disjunctions), st.left + 1);
+        return Took {
+            way: Way::Stops(Stop::Path(Bound::Disjunctions), st.left + 1),
+            state: st,
+        };
     }
     let pushed = push(scratch, st, first + 1 + size, end);
-    Took::Goes(wait(scratch, pushed, first))
+    Took {
+        way: Way::Goes,
+        state: wait(scratch, pushed, first),
+    }
 }

@@ -8,6 +8,7 @@ use crate::review::review_all;
 use crate::state::State;
 use crate::state::Stop;
 use crate::state::Took;
+use crate::state::Way;
 use crate::unify::Unified;
 use crate::unify::unify;
 use crate::walk::skip;
@@ -40,10 +41,22 @@ fn after_review(st: State, reviewed: Reviewed) -> Took
     ensures { λ r. ⌜ r ≡ review-took st reviewed ⌝ }
 {
     match reviewed {
-        Reviewed::Fails(left) => Took::Leaves(narrowed(st, st.trail, st.kept, left)),
-        Reviewed::Holds(left) => Took::Goes(narrowed(st, st.trail, st.kept, left)),
-        Reviewed::StepsOut => Took::Stops(Stop::Steps, 0),
-        Reviewed::PathOut(left) => Took::Stops(Stop::Path(Bound::Waiting), left),
+        Reviewed::Fails(left) => Took {
+            way: Way::Leaves,
+            state: narrowed(st, st.trail, st.kept, left),
+        },
+        Reviewed::Holds(left) => Took {
+            way: Way::Goes,
+            state: narrowed(st, st.trail, st.kept, left),
+        },
+        Reviewed::StepsOut => Took {
+            way: Way::Stops(Stop::Steps, 0),
+            state: st,
+        },
+        Reviewed::PathOut(left) => Took {
+            way: Way::Stops(Stop::Path(Bound::Waiting), left),
+            state: st,
+        },
     }
 }
 
@@ -51,21 +64,33 @@ fn after_review(st: State, reviewed: Reviewed) -> Took
 pub(crate) fn take_equal(program: &[u32], scratch: &mut [u32], st: State, goal: u32) -> Took
     requires { ⌜ ((P : Program) × (p : Path) × (cs : List ChoicePoint) × (base : ℕ) × (s : Term) × (t : Term) × Ready P (now program) (now scratch) st goal p cs (base, equal s t)) ⌝ }
     ensures { λ r. ⌜ ((P : Program) (p : Path) (cs : List ChoicePoint) (base : ℕ) (s t : Term) → Ready P (now (program .entry)) (now (scratch .entry)) st goal p cs (base, equal s t)
-        → TookAs P (now (program .entry)) (now (scratch .exit)) cs (take-equal p cs (shift base s) (shift base t) (st .left)) r) ⌝ }
+        → TookAs P (now (program .entry)) (now (scratch .exit)) cs (take-equal p cs (shift base s) (shift base t) (st .left)) (r .way) (r .state)) ⌝ }
 {
     let second = skip(program, goal + 1);
     match unify(&*program, scratch, goal + 1, second, st.trail, st.left) {
         Unified::Joined(trail, left) => {
             let joined = narrowed(st, trail, st.kept, left);
             if trail == st.trail {
-                return Took::Goes(joined);
+                return Took {
+                    way: Way::Goes,
+                    state: joined,
+                };
             }
             let reviewed = review_all(&*program, scratch, trail, st.kept, left);
             after_review(joined, reviewed)
         }
-        Unified::Failed(trail, left) => Took::Leaves(narrowed(st, trail, st.kept, left)),
-        Unified::StepsOut(trail) => Took::Stops(Stop::Steps, 0),
-        Unified::PathOut(trail, left) => Took::Stops(Stop::Path(Bound::Waiting), left),
+        Unified::Failed(trail, left) => Took {
+            way: Way::Leaves,
+            state: narrowed(st, trail, st.kept, left),
+        },
+        Unified::StepsOut(trail) => Took {
+            way: Way::Stops(Stop::Steps, 0),
+            state: st,
+        },
+        Unified::PathOut(trail, left) => Took {
+            way: Way::Stops(Stop::Path(Bound::Waiting), left),
+            state: st,
+        },
     }
 }
 
@@ -73,10 +98,13 @@ pub(crate) fn take_equal(program: &[u32], scratch: &mut [u32], st: State, goal: 
 pub(crate) fn take_constraint(program: &[u32], scratch: &mut [u32], st: State, goal: u32) -> Took
     requires { ⌜ ((P : Program) × (p : Path) × (cs : List ChoicePoint) × (base : ℕ) × (c : Constraint) × Ready P (now program) (now scratch) st goal p cs (base, constrain c)) ⌝ }
     ensures { λ r. ⌜ ((P : Program) (p : Path) (cs : List ChoicePoint) (base : ℕ) (c : Constraint) → Ready P (now (program .entry)) (now (scratch .entry)) st goal p cs (base, constrain c)
-        → TookAs P (now (program .entry)) (now (scratch .exit)) cs (take-constraint p cs (shift-constraint base c) (st .left)) r) ⌝ }
+        → TookAs P (now (program .entry)) (now (scratch .exit)) cs (take-constraint p cs (shift-constraint base c) (st .left)) (r .way) (r .state)) ⌝ }
 {
     if MOST_CONSTRAINTS <= st.kept {
-        return Took::Stops(Stop::Path(Bound::Constraints), st.left + 1);
+        return Took {
+            way: Way::Stops(Stop::Path(Bound::Constraints), st.left + 1),
+            state: st,
+        };
     }
     scratch[CONSTRAINTS + st.kept as usize] = goal;
     let reviewed = review(&*program, scratch, goal, st.trail, st.kept + 1, st.left);

@@ -1,7 +1,7 @@
 // Turn after turn, until a path gives an answer or the round ends.
+use crate::state::Lead;
 use crate::state::Searched;
 use crate::state::State;
-use crate::state::Turned;
 use crate::turn::turn;
 ghost use mathlib.Core.Path.{_≡_};
 ghost use Prim.Native.Nat.{ℕ, _<_};
@@ -37,19 +37,22 @@ pub(crate) fn search(
     let mut goal = task;
     let mut cuts = before;
     loop {
-        match turn(program, scratch, st, goal, round) {
-            Turned::Goal(next, found, cut) => {
+        let turned = turn(program, scratch, st, goal, round);
+        let lead = turned.lead;
+        let next = turned.state;
+        match lead {
+            Lead::Goal => {
                 st = next;
-                goal = found;
-                cuts = counted(cuts, cut);
+                goal = turned.goal;
+                cuts = counted(cuts, turned.cuts);
             }
-            Turned::Over(next, cut) => {
-                return Searched::Over(next, counted(cuts, cut));
+            Lead::Over => {
+                return Searched::Over(next, counted(cuts, turned.cuts));
             }
-            Turned::Answer(next) => {
+            Lead::Answer => {
                 return Searched::Answer(next, cuts);
             }
-            Turned::Stops(why, left) => {
+            Lead::Stops(why, left) => {
                 return Searched::Stops(why, left);
             }
         }

@@ -8,6 +8,7 @@ use crate::narrow::take_equal;
 use crate::state::State;
 use crate::state::Stop;
 use crate::state::Took;
+use crate::state::Way;
 use crate::walk::node_at;
 use word::Word;
 ghost use mathlib.Core.List.{List};
@@ -19,10 +20,13 @@ ghost use Rattle.engine.specs.Taking.{Due, TookAs};
 pub(crate) fn take(program: &[u32], scratch: &mut [u32], st: State, goal: u32, round: u32) -> Took
     requires { ⌜ ((P : Program) × (p : Path) × (cs : List ChoicePoint) × (task : Task) × Due P (now program) (now scratch) st goal p cs task) ⌝ }
     ensures { λ r. ⌜ ((P : Program) (p : Path) (cs : List ChoicePoint) (task : Task) → Due P (now (program .entry)) (now (scratch .entry)) st goal p cs task
-        → TookAs P (now (program .entry)) (now (scratch .exit)) cs (take-goal round P p cs (task .0) (task .1) (st .left)) r) ⌝ }
+        → TookAs P (now (program .entry)) (now (scratch .exit)) cs (take-goal round P p cs (task .0) (task .1) (st .left)) (r .way) (r .state)) ⌝ }
 {
     if st.left == 0 {
-        return Took::Stops(Stop::Steps, 0);
+        return Took {
+            way: Way::Stops(Stop::Steps, 0),
+            state: st,
+        };
     }
     let taking = narrowed(st, st.trail, st.kept, st.left - 1);
     let kind = node_at(program, goal).kind;

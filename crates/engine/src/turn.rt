@@ -2,10 +2,11 @@
 use crate::choice::back;
 use crate::layout::CELL_GOAL;
 use crate::layout::CELL_NEXT;
+use crate::state::Lead;
 use crate::state::Resumed;
 use crate::state::State;
-use crate::state::Took;
 use crate::state::Turned;
+use crate::state::Way;
 use crate::take::take;
 ghost use mathlib.Core.Path.{_≡_};
 ghost use mathlib.Core.List.{List};
@@ -21,11 +22,21 @@ ghost use Rattle.engine.specs.Turning.{tallied, NextAs};
 fn leave(program: &[u32], scratch: &mut [u32], st: State, cuts: u32) -> Turned
     requires { ⌜ ((P : Program) × (p : Path) × (cs : List ChoicePoint) × Holds P (now program) (now scratch) st p cs) ⌝ }
     ensures { λ r. ⌜ ((P : Program) (n k : ℕ) (p : Path) (cs : List ChoicePoint) (t : definition.Tally) (o : Outcome Taken) → Holds P (now (program .entry)) (now (scratch .entry)) st p cs
-        → NextAs P n k (now (program .entry)) (now (scratch .exit)) t o (definition.back cs (tallied t (st .left) cuts)) r) ⌝ }
+        → NextAs P n k (now (program .entry)) (now (scratch .exit)) t o (definition.back cs (tallied t (st .left) cuts)) (r .lead) (r .state) (r .goal) (r .cuts)) ⌝ }
 {
     match back(program, scratch, st) {
-        Resumed::Over => Turned::Over(st, cuts),
-        Resumed::Goal(next, goal) => Turned::Goal(next, goal, cuts),
+        Resumed::Over => Turned {
+            lead: Lead::Over,
+            state: st,
+            goal: 0,
+            cuts,
+        },
+        Resumed::Goal(next, goal) => Turned {
+            lead: Lead::Goal,
+            state: next,
+            goal,
+            cuts,
+        },
     }
 }
 
@@ -33,11 +44,16 @@ fn leave(program: &[u32], scratch: &mut [u32], st: State, cuts: u32) -> Turned
 fn go_on(program: &[u32], scratch: &mut [u32], st: State, round: u32) -> Turned
     requires { ⌜ ((P : Program) × (p : Path) × (cs : List ChoicePoint) × Holds P (now program) (now scratch) st p cs) ⌝ }
     ensures { λ r. ⌜ ((P : Program) (n : ℕ) (p : Path) (cs : List ChoicePoint) (t : definition.Tally) → Holds P (now (program .entry)) (now (scratch .entry)) st p cs
-        → NextAs P n round (now (program .entry)) (now (scratch .exit)) t (done (goes p cs) (st .left)) (definition.go-on P n round p (p .stack) cs (definition.spend t (st .left))) r) ⌝ }
+        → NextAs P n round (now (program .entry)) (now (scratch .exit)) t (done (goes p cs) (st .left)) (definition.go-on P n round p (p .stack) cs (definition.spend t (st .left))) (r .lead) (r .state) (r .goal) (r .cuts)) ⌝ }
 {
     if st.head == 0 {
         if st.calls == round {
-            return Turned::Answer(st);
+            return Turned {
+                lead: Lead::Answer,
+                state: st,
+                goal: 0,
+                cuts: 0,
+            };
         }
         return leave(program, scratch, st, 0);
     }
@@ -53,18 +69,31 @@ fn go_on(program: &[u32], scratch: &mut [u32], st: State, round: u32) -> Turned
         choices: st.choices,
         left: st.left,
     };
-    Turned::Goal(popped, scratch[goal], 0)
+    Turned {
+        lead: Lead::Goal,
+        state: popped,
+        goal: scratch[goal],
+        cuts: 0,
+    }
 }
 
 pub(crate) fn turn(program: &[u32], scratch: &mut [u32], st: State, goal: u32, round: u32) -> Turned
     requires { ⌜ ((P : Program) × (state : definition.State) × Due P (now program) (now scratch) st goal (state .path) (state .choices) (state .task)) ⌝ }
     ensures { λ r. ⌜ ((P : Program) (n : ℕ) (state : definition.State) → Due P (now (program .entry)) (now (scratch .entry)) st goal (state .path) (state .choices) (state .task) → state .tally .left ≡ st .left
-        → NextAs P n round (now (program .entry)) (now (scratch .exit)) (state .tally) (take-goal round P (state .path) (state .choices) (state .task .0) (state .task .1) (st .left)) (definition.turn P n round state) r) ⌝ }
+        → NextAs P n round (now (program .entry)) (now (scratch .exit)) (state .tally) (take-goal round P (state .path) (state .choices) (state .task .0) (state .task .1) (st .left)) (definition.turn P n round state) (r .lead) (r .state) (r .goal) (r .cuts)) ⌝ }
 {
-    match take(program, scratch, st, goal, round) {
-        Took::Goes(next) => go_on(program, scratch, next, round),
-        Took::Leaves(next) => leave(program, scratch, next, 0),
-        Took::Cut(next) => leave(program, scratch, next, 1),
-        Took::Stops(why, left) => Turned::Stops(why, left),
+    let took = take(program, scratch, st, goal, round);
+    let way = took.way;
+    let next = took.state;
+    match way {
+        Way::Goes => go_on(program, scratch, next, round),
+        Way::Leaves => leave(program, scratch, next, 0),
+        Way::Cut => leave(program, scratch, next, 1),
+        Way::Stops(why, left) => Turned {
+            lead: Lead::Stops(why, left),
+            state: next,
+            goal,
+            cuts: 0,
+        },
     }
 }

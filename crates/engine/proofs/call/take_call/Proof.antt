@@ -26,8 +26,8 @@ relation-requires c κs = call-listed (c .before .before .before .before .before
 add-if2 : tie.Need-add-if2
 add-if2 c = omega (arith, (call-found (c .before .before .before .before .before .before .before .before .before .pre .6) (c .before .before .before .node-at .ensures) (c .before .before .relation .ensures)) .vars-is, callee-few (c .before .before .before .before .before .before .before .before .before .pre .6) .0, (c .before .before .before .before .before .before .before .before .before .pre .6) .taking .stored .roomy .made)
 
-add-t16 : tie.Need-add-t16
-add-t16 c = search needs
+add-t17 : tie.Need-add-t17
+add-t17 c = search needs
 
 same-length : tie.Need-same-length
 same-length c = search needs
@@ -35,8 +35,8 @@ same-length c = search needs
 returns-2 : tie.Need-returns-2
 returns-2 c = λ P p cs base n ts k. call-variables k (call-found k (c .before .before .before .before .before .node-at .ensures) (c .before .before .before .before .relation .ensures)) _ (c .before .before .before .before .before .before .before .if1 .left) (c .before .if2 .taken)
 
-add-t19 : tie.Need-add-t19
-add-t19 c = omega (arith, (c .before .before .before .before .before .before .before .before .before .before .before .before .before .pre .6) .taking .step-taken)
+add-t21 : tie.Need-add-t21
+add-t21 c = omega (arith, (c .before .before .before .before .before .before .before .before .before .before .before .before .before .pre .6) .taking .step-taken)
 
 same-length-2 : tie.Need-same-length-2
 same-length-2 c = search needs
@@ -81,10 +81,10 @@ take-call-spec =
     node-at-requires
     relation-requires
     add-if2
-    add-t16
+    add-t17
     same-length
     returns-2
-    add-t19
+    add-t21
     same-length-2
     returns-3
     add-pass

@@ -45,8 +45,8 @@ same-length c = search needs
 returns-2 : tie.Need-returns-2
 returns-2 c = λ P p cs base gs t. disj-last gs t (c .before .before .before .before .before .before .before .node-at .ensures) (c .before .before .before .before .before .before .before .before .if1 .left) (c .before .before .before .before .before .node-at2 .ensures) (c .before .before .before .before .if2 .taken) (c .before .before .wait .ensures .0) (c .before .before .wait .ensures .1)
 
-add-t22 : tie.Need-add-t22
-add-t22 c = search needs
+add-t24 : tie.Need-add-t24
+add-t24 c = search needs
 
 returns-3 : tie.Need-returns-3
 returns-3 c = λ P p cs base gs t. disj-many gs _ t (c .before .before .before .before .before .before .node-at .ensures) (c .before .before .before .before .before .before .before .if1 .left) (c .before .before .before .before .node-at2 .ensures) (c .before .before .before .if2 .left) (c .before .if3 .taken)
@@ -85,7 +85,7 @@ take-disj-spec =
     wait-requires
     same-length
     returns-2
-    add-t22
+    add-t24
     returns-3
     add-push
     add-push-2

@@ -15,7 +15,7 @@ use Rattle.engine.proofs.narrow.take_equal.Reads as take-equal-reads
 use Rattle.engine.proofs.walk.node_at.Reads as node-at-reads
 
 returns : tie.Need-returns
-returns c = λ P p cs task d. take-none P _ _ p cs _ _ task (c .if1 .taken)
+returns c = λ P p cs task d. take-none P _ _ p cs _ _ task _ (c .if1 .taken)
 
 sub-narrowed : tie.Need-sub-narrowed
 sub-narrowed c = search needs

@@ -38,17 +38,17 @@ add-next c = omega (arith, cell-there (c .before .before .before .before .before
 cast-next : tie.Need-cast-next
 cast-next c = search needs
 
-mul-t14 : tie.Need-mul-t14
-mul-t14 c = search needs
-
-slice-read-t12 : tie.Need-slice-read-t12
-slice-read-t12 c = omega (arith, cell-there (c .before .before .before .before .before .before .before .args .st) (c .before .before .before .before .before .before .before .pre .3) (c .before .before .before .if1 .left), c .before .before .before .before .before .before .before .pre .3 .roomy .long)
-
-mul-t14-2 : tie.Need-mul-t14-2
-mul-t14-2 c = search needs
+mul-t15 : tie.Need-mul-t15
+mul-t15 c = search needs
 
 slice-read-t13 : tie.Need-slice-read-t13
-slice-read-t13 c = omega (arith, cell-there (c .before .before .before .before .before .before .before .before .args .st) (c .before .before .before .before .before .before .before .before .pre .3) (c .before .before .before .before .if1 .left), c .before .before .before .before .before .before .before .before .pre .3 .roomy .long)
+slice-read-t13 c = omega (arith, cell-there (c .before .before .before .before .before .before .before .args .st) (c .before .before .before .before .before .before .before .pre .3) (c .before .before .before .if1 .left), c .before .before .before .before .before .before .before .pre .3 .roomy .long)
+
+mul-t15-2 : tie.Need-mul-t15-2
+mul-t15-2 c = search needs
+
+slice-read-t14 : tie.Need-slice-read-t14
+slice-read-t14 c = omega (arith, cell-there (c .before .before .before .before .before .before .before .before .args .st) (c .before .before .before .before .before .before .before .before .pre .3) (c .before .before .before .before .if1 .left), c .before .before .before .before .before .before .before .before .pre .3 .roomy .long)
 
 returns-3 : tie.Need-returns-3
 returns-3 c = λ P n p cs t h. goes-goal P n _ _ _ (c .before .before .before .before .before .before .before .before .args .st) p cs t h (c .before .before .before .before .if1 .left)
@@ -67,8 +67,8 @@ go-on-spec =
     mul-next
     add-next
     cast-next
-    mul-t14
-    slice-read-t12
-    mul-t14-2
+    mul-t15
     slice-read-t13
+    mul-t15-2
+    slice-read-t14
     returns-3)

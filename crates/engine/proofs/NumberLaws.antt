@@ -60,7 +60,7 @@ module _ (words : List ℕ) (round-limit step-limit : ℕ) (output scratch lent 
   pub place-fits : (r : Report) (output′ scratch′ : List ℕ) (n : EndNumbers) → Kept words round-limit step-limit output scratch r output′ scratch′
       → end-numbers (ended (r .end)) ≡ n .end ∷ n .which ∷ n .place ∷ [] → n .place ≤ 16384
   place-fits r output′ scratch′ n k h =
-      let z : getD (end-numbers (report-ended (run words round-limit step-limit output scratch .report))) 2 0 ≡ n .place = ap (λ (ns : List ℕ). getD ns 2 0) (sym (ap end-numbers (k .is-end)) ∙ h) in
+      let z : getD (end-numbers (report-ended (run words round-limit step-limit output scratch .report))) 2 0 ≡ n .place = ap (λ (ns : List ℕ). getD ns 2 0) (sym (ap end-numbers (k .says .is-end)) ∙ h) in
       omega (arith, z, place-of (returns words round-limit step-limit (length output) (length scratch)) refl)
 
   -- too few words are lent
@@ -72,7 +72,7 @@ module _ (words : List ℕ) (round-limit step-limit : ℕ) (output scratch lent 
       → Called words round-limit step-limit output scratch lent 0 output′ scratch′ (set (set (set (set (set (set (set lent 0 (n .end)) 1 (n .which)) 2 (n .place)) 3 (r .round)) 4 (r .steps)) 5 (r .answers)) 6 (r .words))
   called-run r output′ scratch′ n h k e =
       record {
-        is-call = answered (run words round-limit step-limit output scratch) output′ scratch′ _ (k .is-output) (k .is-scratch) (seven lent (n .end) (n .which) (n .place) (r .round) (r .steps) (r .answers) (r .words) h ∙ told);
+        is-call = answered (run words round-limit step-limit output scratch) output′ scratch′ _ (k .says .is-output) (k .says .is-scratch) (seven lent (n .end) (n .which) (n .place) (r .round) (r .steps) (r .answers) (r .words) h ∙ told);
         demand = λ z. k .demand;
       }
     where
@@ -89,8 +89,8 @@ module _ (words : List ℕ) (round-limit step-limit : ℕ) (output scratch lent 
       told : n .end ∷ n .which ∷ n .place ∷ r .round ∷ r .steps ∷ r .answers ∷ r .words ∷ drop 7 lent ≡ numbers (run words round-limit step-limit output scratch .report) ++ drop 7 lent
       told =
           let x : definition.Report = run words round-limit step-limit output scratch .report in
-          let q : n .end ∷ n .which ∷ n .place ∷ [] ≡ end-numbers (report-ended x) = sym e ∙ ap end-numbers (k .is-end) in
-          rw (k .is-round, k .is-steps, k .is-answers, k .is-words) (ap (λ (ns : List ℕ). (ns ++ (counts x .round ∷ counts x .steps ∷ counts x .answers ∷ counts x .words ∷ [])) ++ drop 7 lent) q)
+          let q : n .end ∷ n .which ∷ n .place ∷ [] ≡ end-numbers (report-ended x) = sym e ∙ ap end-numbers (k .says .is-end) in
+          rw (k .says .is-round, k .says .is-steps, k .says .is-answers, k .says .is-words) (ap (λ (ns : List ℕ). (ns ++ (counts x .round ∷ counts x .steps ∷ counts x .answers ∷ counts x .words ∷ [])) ++ drop 7 lent) q)
 
       answered : (x : Run) (o s l : List ℕ) → o ≡ x .output → s ≡ x .scratch → l ≡ numbers (x .report) ++ drop 7 lent → call x output scratch lent ≡ record { result = 0; output = o; scratch = s; numbers = l }
       answered x o s l p q u = rw (p, q, u) (simp (le-leb 7 (length lent) h))

@@ -45,13 +45,15 @@ module _ (words : List ℕ) (round-limit step-limit : ℕ) (output scratch : Lis
   kept-refusal c p r t e =
       let z : run words round-limit step-limit output scratch ≡ leave (refusal c p) output scratch = ap (λ x. leave x output scratch) e in
       record {
-        is-end = ap ended (t .is-end) ∙ rw z refl;
-        is-round = t .is-round ∙ rw z refl;
-        is-steps = t .is-steps ∙ rw z refl;
-        is-answers = t .is-answers ∙ rw z refl;
-        is-words = t .is-words ∙ rw z refl;
-        is-output = rw z refl;
-        is-scratch = rw z refl;
+        says = rw z (record {
+          is-end = ap ended (t .is-end);
+          is-round = t .is-round;
+          is-steps = t .is-steps;
+          is-answers = t .is-answers;
+          is-words = t .is-words;
+          is-output = refl;
+          is-scratch = refl;
+        });
         demand = λ x q. absurd (let y : refusal c p ≡ ran x = sym (ap (λ (w : _). w .report) z) ∙ q in let n : _≡_ {A = ℕ} 0 1 = cc in omega arith);
       }
 
@@ -118,12 +120,14 @@ module _ (words : List ℕ) (round-limit step-limit : ℕ) (output scratch : Lis
         let y : length s′ - 0 ≡ length scratch = omega (arith, h .lengths .scratch-length) in
         let after : run words round-limit step-limit output scratch .output ≡ cleared output′ (r .words) = rw z (sym o) in
         record {
-          is-end = h .is-end ∙ rw z refl;
-          is-round = h .is-round ∙ rw z refl;
-          is-steps = h .is-steps ∙ rw z refl;
-          is-answers = h .is-answers ∙ rw z refl;
-          is-words = h .is-words ∙ rw z refl;
-          is-output = sym after;
-          is-scratch = ap (λ m. replicate m 0) y ∙ rw z refl;
+          says = rw z (record {
+            is-end = h .is-end;
+            is-round = h .is-round;
+            is-steps = h .is-steps;
+            is-answers = h .is-answers;
+            is-words = h .is-words;
+            is-output = o;
+            is-scratch = ap (λ m. replicate m 0) y;
+          });
           demand = λ v q. rw (← after) (demand3-run words round-limit step-limit output scratch v q);
         }

@@ -33,15 +33,19 @@ abbrev pub report-ended : run.Report → Ended
 report-ended (run.refusal number place) = turned-away number place
 report-ended (run.ran r) = ran (r .end)
 
--- The promise of `run`: result and lent words are those of the definition, and demand 3 holds of this very result and page.
+-- result and lent words are those of the definition's run
+pub record Says (x : run.Run) (r : Report) (output-after scratch-after : List ℕ) : Type 0 where
+  pub is-end : ended (r .end) ≡ report-ended (x .report)
+  pub is-round : r .round ≡ run.counts (x .report) .round
+  pub is-steps : r .steps ≡ run.counts (x .report) .steps
+  pub is-answers : r .answers ≡ run.counts (x .report) .answers
+  pub is-words : r .words ≡ run.counts (x .report) .words
+  pub is-output : output-after ≡ x .output
+  pub is-scratch : scratch-after ≡ x .scratch
+
+-- The promise of `run`: it says what the definition says, and demand 3 holds of this very result and page.
 pub record Kept (words : List ℕ) (round-limit step-limit : ℕ) (output scratch : List ℕ) (r : Report) (output-after scratch-after : List ℕ) : Type 0 where
-  pub is-end : ended (r .end) ≡ report-ended (run.run words round-limit step-limit output scratch .report)
-  pub is-round : r .round ≡ run.counts (run.run words round-limit step-limit output scratch .report) .round
-  pub is-steps : r .steps ≡ run.counts (run.run words round-limit step-limit output scratch .report) .steps
-  pub is-answers : r .answers ≡ run.counts (run.run words round-limit step-limit output scratch .report) .answers
-  pub is-words : r .words ≡ run.counts (run.run words round-limit step-limit output scratch .report) .words
-  pub is-output : output-after ≡ run.run words round-limit step-limit output scratch .output
-  pub is-scratch : scratch-after ≡ run.run words round-limit step-limit output scratch .scratch
+  pub says : Says (run.run words round-limit step-limit output scratch) r output-after scratch-after
   pub demand : (x : round.Result) → run.run words round-limit step-limit output scratch .report ≡ run.ran x → Promised words round-limit step-limit output output-after x
 
 -- For callers in other languages a report is seven numbers: how the call ended (0 to 4 in the order of document 01, "How a run ends", 5 if refused), which bound of a path (1 to 5

@@ -4,16 +4,6 @@ use libc::STDIN_FILENO;
 ghost use Prim.Native.Nat.{_≤_};
 ghost use lib.ListN.{length};
 
-fn at_most(n: u32, most: usize) -> usize
-    ensures { λ r. ⌜ r ≤ most ⌝ }
-{
-    let wanted = n as usize;
-    if wanted < most {
-        return wanted;
-    }
-    most
-}
-
 fn read_part(bytes: &mut [u8], size: usize)
     requires { ⌜ size ≤ length (now bytes) ⌝ }
 {
@@ -36,8 +26,8 @@ fn setting(settings: &[u8; 16], at: usize) -> u32
 fn list_with(settings: &[u8; 16], bytes: &mut [u8]) {
     let rounds = setting(settings, 0);
     let steps = setting(settings, 4);
-    let room = at_most(setting(settings, 8), 4096);
-    let size = at_most(setting(settings, 12), bytes.len());
+    let room = setting(settings, 8) as usize;
+    let size = show::at_most(setting(settings, 12) as usize, bytes.len());
     read_part(bytes, size);
     show::list(&bytes[..size], rounds, steps, room);
 }

@@ -15,5 +15,5 @@ left-fits (run.ran r) output scratch = simp length-append (omega arith)
 pub fits : {words : List ℕ} {rounds steps : ℕ} {output scratch : List ℕ} {r : Report} {output-after scratch-after : List ℕ} → Kept words rounds steps output scratch r output-after scratch-after → r .words ≤ length output-after
 fits {words} {rounds} {steps} {output} {scratch} {r} {output-after} kept =
     let room : run.counts (run.run words rounds steps output scratch .report) .words ≤ length (run.run words rounds steps output scratch .output) = left-fits (run.returns words rounds steps (length output) (length scratch)) output scratch in
-    let long : length output-after ≡ length (run.run words rounds steps output scratch .output) = ap length (kept .is-output) in
-    omega (arith, kept .is-words, long, room)
+    let long : length output-after ≡ length (run.run words rounds steps output scratch .output) = ap length (kept .says .is-output) in
+    omega (arith, kept .says .is-words, long, room)

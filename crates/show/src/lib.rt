@@ -4,7 +4,7 @@ use engine::Report;
 use libc::STDOUT_FILENO;
 use word::Word;
 ghost use mathlib.Core.Path.{_≡_};
-ghost use Prim.Native.Nat.{_≤_, _+_, _*_};
+ghost use Prim.Native.Nat.{_≤_, _+_, _*_, min};
 ghost use lib.ListN.{length};
 
 fn print_number(n: u32) {
@@ -128,13 +128,22 @@ fn list_program(program: &[u32], rounds: u32, steps: u32, output: &mut [u32]) {
     print_words(output, report.words as usize);
 }
 
-// Runs the program in these bytes with so many output words, and prints how it ended and its answers.
-pub fn list(bytes: &[u8], rounds: u32, steps: u32, room: usize)
-    requires { ⌜ room ≤ 4096 ⌝ }
+// The smaller number.
+pub fn at_most(n: usize, most: usize) -> usize
+    ensures { λ r. ⌜ r ≡ min n most ⌝ }
 {
+    if n < most {
+        return n;
+    }
+    most
+}
+
+// Runs the program in these bytes with so many output words, at most 4,096, and prints how it ended and its answers.
+pub fn list(bytes: &[u8], rounds: u32, steps: u32, room: usize) {
     let mut words = [0u32; 16385];
     let count = word_count(bytes.len());
     read_words(bytes, &mut words, count);
     let mut output = [0u32; 4096];
-    list_program(&words[..count], rounds, steps, &mut output[..room]);
+    let lent = at_most(room, 4096);
+    list_program(&words[..count], rounds, steps, &mut output[..lent]);
 }

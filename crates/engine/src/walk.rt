@@ -37,6 +37,14 @@ pub(crate) fn variable_at(reference: u32, payload: u32) -> u32
     reference / ENVIRONMENT + payload
 }
 
+// The position past the part at a reference: its own word, and as many after it as its size.
+pub(crate) fn part_end(reference: u32, size: u32) -> u32
+    requires { ⌜ pos-of reference + 1 + size < 4294967296 ⌝ }
+    ensures { λ r. ⌜ r ≡ pos-of reference + 1 + size ⌝ }
+{
+    reference % ENVIRONMENT + 1 + size
+}
+
 // The term, followed through the bindings: up to an atom, a pair or an open variable.
 pub(crate) fn walk(program: &[u32], scratch: &[u32], term: u32) -> u32
     requires { ⌜ ((bs : Substitution) × (t : Term) × Follows (now program) (now scratch) bs term t) ⌝ }

@@ -91,10 +91,10 @@ module _ {P : Program} {ws s s′ : List ℕ} {st : State} {cs : List ChoicePoin
       (simp length-set (back-room .0), let e : at (set s′ i v) (i + 5) ≡ at s′ (i + 5) = getD-set-other s′ i (i + 5) v 0 (omega arith) in omega (arith, back-room .1))
 
   -- the last alternative
-  pub back-last : {b l z : ℕ} {r : State} (t : Tally) → NodeAt ws (at s (point-at (st .choices - 1))) b l z → pos-of (at s (point-at (st .choices - 1))) + 1 + z ≡ at s (point-at (st .choices - 1) + 1)
+  pub back-last : {b l z here : ℕ} {r : State} (t : Tally) → NodeAt ws (at s (point-at (st .choices - 1))) b l z → here ≡ pos-of (at s (point-at (st .choices - 1))) + 1 + z → here ≡ at s (point-at (st .choices - 1) + 1)
       → r ≡ resumed s′ st (st .choices - 1) → BackAs P ws s′ st t (back cs t) (Goal r (at s (point-at (st .choices - 1))))
   unfolding BackAs
-  back-last {b} {l} {z} {r} t i e q = subst (λ ds. BackAs P ws s′ st t (back ds t) (Goal r w)) (sym (k .are)) (subst (λ x. BackAs P ws s′ st t (back (k .point ∷ k .others) t) (Goal x w)) (sym q) (go (k .point) (k .restored)))
+  back-last {r = r} t i is-here e q = subst (λ ds. BackAs P ws s′ st t (back ds t) (Goal r w)) (sym (k .are)) (subst (λ x. BackAs P ws s′ st t (back (k .point ∷ k .others) t) (Goal x w)) (sym q) (go (k .point) (k .restored)))
     where
       w : ℕ
       w = at s (point-at (st .choices - 1))
@@ -107,14 +107,14 @@ module _ {P : Program} {ws s s′ : List ℕ} {st : State} {cs : List ChoicePoin
           inside (one g) j =
               let o = resume-last (st .choices - 1) j in
               (o .1, subst (λ y. Stored P ws s′ (counted y) (st .choices - 1) (waiting-on (c .path) (c .path .stack) (suc (c .path .put))) (k .others)) (sym same-saved) (o .2), refl, refl)
-          inside (more g gs) j = absurd (omega (arith, e, i .is-payload, resume-next (st .choices - 1) (k .few) j .0))
+          inside (more g gs) j = absurd (omega (arith, e, is-here, i .is-payload, resume-next (st .choices - 1) (k .few) j .0))
 
   -- another one is left
-  pub back-more : {b l z : ℕ} {r : State} (t : Tally) → (st .choices ≡ 0 → ⊥) → NodeAt ws (at s (point-at (st .choices - 1))) b l z → (pos-of (at s (point-at (st .choices - 1))) + 1 + z ≡ at s (point-at (st .choices - 1) + 1) → ⊥)
+  pub back-more : {b l z here : ℕ} {r : State} (t : Tally) → (st .choices ≡ 0 → ⊥) → NodeAt ws (at s (point-at (st .choices - 1))) b l z → here ≡ pos-of (at s (point-at (st .choices - 1))) + 1 + z → (here ≡ at s (point-at (st .choices - 1) + 1) → ⊥)
       → r ≡ resumed (set s′ (point-at (st .choices - 1)) (at s (point-at (st .choices - 1)) + 1 + z)) st (st .choices)
       → BackAs P ws (set s′ (point-at (st .choices - 1)) (at s (point-at (st .choices - 1)) + 1 + z)) st t (back cs t) (Goal r (at s (point-at (st .choices - 1))))
   unfolding BackAs
-  back-more {b} {l} {z} {r} t some-left i e q = subst (λ ds. BackAs P ws s″ st t (back ds t) (Goal r w)) (sym (k .are)) (subst (λ x. BackAs P ws s″ st t (back (k .point ∷ k .others) t) (Goal x w)) (sym q) (go (k .point) (k .restored)))
+  back-more {z = z} {r = r} t some-left i is-here e q = subst (λ ds. BackAs P ws s″ st t (back ds t) (Goal r w)) (sym (k .are)) (subst (λ x. BackAs P ws s″ st t (back (k .point ∷ k .others) t) (Goal x w)) (sym q) (go (k .point) (k .restored)))
     where
       w : ℕ
       w = at s (point-at (st .choices - 1))
@@ -130,7 +130,7 @@ module _ {P : Program} {ws s s′ : List ℕ} {st : State} {cs : List ChoicePoin
         where
           inside : (gs : Goals) → Restored P ws s s′ (st .choices - 1) (record { path = c .path; base = c .base; rest = gs }) (k .others)
               → BackAs P ws s″ st t (back (record { path = c .path; base = c .base; rest = gs } ∷ k .others) t) (Goal (resumed s″ st (st .choices)) w)
-          inside (one g) j = absurd (e (ap (λ y. pos-of w + 1 + y) (i .is-payload) ∙ resume-last (st .choices - 1) j .0))
+          inside (one g) j = absurd (e (is-here ∙ ap (λ y. pos-of w + 1 + y) (i .is-payload) ∙ resume-last (st .choices - 1) j .0))
           inside (more g gs) j =
               let o = resume-next (st .choices - 1) (k .few) j in
               let ds : List ChoicePoint = record { path = c .path; base = c .base; rest = gs } ∷ k .others in

@@ -33,11 +33,11 @@ pub task-end : (ws : List ℕ) (w b k n : ℕ) (task : Task) → TaskAt ws w tas
 task-end ws w b k n task h i = (omega (arith, h .small, i .is-payload), omega (arith, h .inside, i .is-payload), omega (arith, h .below))
 
 module _ {P : Program} {ws s₀ : List ℕ} {st : State} {w : ℕ} {p : Path} {cs : List ChoicePoint} {base : ℕ} {gs : Goals} (t : Taking P ws s₀ st w p cs (base, conj gs)) where
-  conj-goals : {b k n : ℕ} → NodeAt ws w b k n → RestAt ws (w + 1) (pos-of w + 1 + n) base gs
-  conj-goals {n = n} i = subst (λ z. RestAt ws (w + 1) (pos-of w + 1 + z) base gs) (sym (i .is-payload)) (conj-rest ws w base gs (t .task-at) .1)
+  conj-goals : {b k n to : ℕ} → NodeAt ws w b k n → to ≡ pos-of w + 1 + n → RestAt ws (w + 1) to base gs
+  conj-goals i is-to = subst (λ z. RestAt ws (w + 1) z base gs) (sym (is-to ∙ ap (λ z. pos-of w + 1 + z) (i .is-payload))) (conj-rest ws w base gs (t .task-at) .1)
 
-  pub conj-starts : {b k n : ℕ} → NodeAt ws w b k n → Lining ws s₀ s₀ (st .put) (st .head) (w + 1) (pos-of w + 1 + n) base gs (w + 1) (st .put)
-  conj-starts i = lining-start ws s₀ (st .put) (st .head) (w + 1) _ base gs (conj-goals i) (t .stored .roomy .put) (t .stored .roomy .long)
+  pub conj-starts : {b k n to : ℕ} → NodeAt ws w b k n → to ≡ pos-of w + 1 + n → Lining ws s₀ s₀ (st .put) (st .head) (w + 1) to base gs (w + 1) (st .put)
+  conj-starts i is-to = lining-start ws s₀ (st .put) (st .head) (w + 1) _ base gs (conj-goals i is-to) (t .stored .roomy .put) (t .stored .roomy .long)
 
   pub conj-stops : {s : List ℕ} {to goal filled : ℕ} (s′ : List ℕ) → Lining ws s₀ s (st .put) (st .head) (w + 1) to base gs goal filled → 1024 ≤ filled
       → TookAs P ws s′ cs (take-conj p cs base gs (st .left)) (Stops (PathLimit GoalsBound) (st .left + 1)) st
@@ -47,25 +47,25 @@ module _ {P : Program} {ws s₀ : List ℕ} {st : State} {w : ℕ} {p : Path} {c
       let f : leb (p .put + goals-count gs) 1024 ≡ false = lt-leb (p .put + goals-count gs) 1024 (omega (arith, lining-full ws s₀ s (st .put) (st .head) (w + 1) to base gs goal filled l full)) in
       rw f (refl, omega arith)
 
-  pub conj-goes : {s : List ℕ} {b k n goal filled c l m : ℕ} → NodeAt ws w b k n → Lining ws s₀ s (st .put) (st .head) (w + 1) (pos-of w + 1 + n) base gs goal filled → filled < 1024
-      → NodeAt ws goal c l m → pos-of goal + 1 + m ≡ pos-of w + 1 + n
+  pub conj-goes : {s : List ℕ} {b k n to goal filled c l m here : ℕ} → NodeAt ws w b k n → to ≡ pos-of w + 1 + n → Lining ws s₀ s (st .put) (st .head) (w + 1) to base gs goal filled → filled < 1024
+      → NodeAt ws goal c l m → here ≡ pos-of goal + 1 + m → here ≡ to
       → TookAs P ws (set (set s (goal-at (filled + 1)) goal) (goal-at (filled + 1) + 1) (st .head)) cs (take-conj p cs base gs (st .left))
       Goes (record { head = st .put + 1; trail = st .trail; made = st .made; put = filled + 1; kept = st .kept; calls = st .calls; choices = st .choices; left = st .left })
   unfolding TookAs
-  conj-goes {s} {b} {k} {n} {goal} {filled} {c} {l} {m} i li lt j e =
+  conj-goes {s} {to = to} {goal = goal} {filled = filled} i is-to li lt j is-here e =
       let put-is : st .put ≡ p .put = t .stored .path-in .put in
-      let r = lining-last ws s₀ s (st .put) (st .head) (w + 1) (pos-of w + 1 + n) base gs goal filled li lt (omega (arith, e, j .is-payload)) in
+      let r = lining-last ws s₀ s (st .put) (st .head) (w + 1) to base gs goal filled li lt (omega (arith, e, is-here, j .is-payload)) in
       let few : st .put + goals-count gs ≤ 1024 = omega (arith, r .1) in
       let f : leb (p .put + goals-count gs) 1024 ≡ true = le-leb (p .put + goals-count gs) 1024 (omega arith) in
       let rowed : Rowed ws s₀ (cell s (filled + 1) goal (st .head)) (st .put) (w + 1) (st .head) gs = r .0 in
-      let h = conj-all base gs (w + 1) (pos-of w + 1 + n) (cell s (filled + 1) goal (st .head)) few (conj-goals i) rowed (t .stored) in
+      let h = conj-all base gs (w + 1) to (cell s (filled + 1) goal (st .head)) few (conj-goals i is-to) rowed (t .stored) in
       let g : Stored P ws (cell s (filled + 1) goal (st .head)) (record { head = st .put + 1; trail = st .trail; made = st .made; put = filled + 1; kept = st .kept; calls = st .calls }) (st .choices) (waiting-on p (wait-all base gs (p .stack)) (p .put + goals-count gs)) cs
       = subst (λ q. Stored P ws (cell s (filled + 1) goal (st .head)) (record { head = st .put + 1; trail = st .trail; made = st .made; put = q; kept = st .kept; calls = st .calls }) (st .choices) (waiting-on p (wait-all base gs (p .stack)) (p .put + goals-count gs)) cs) (sym (r .1)) h in
       rw (f, cell-stores s (filled + 1) goal (st .head)) (refl, g)
 
-  pub conj-on : {s : List ℕ} {to goal filled c l m : ℕ} → Lining ws s₀ s (st .put) (st .head) (w + 1) to base gs goal filled → filled < 1024 → NodeAt ws goal c l m → (pos-of goal + 1 + m ≡ to → ⊥)
+  pub conj-on : {s : List ℕ} {to goal filled c l m here : ℕ} → Lining ws s₀ s (st .put) (st .head) (w + 1) to base gs goal filled → filled < 1024 → NodeAt ws goal c l m → here ≡ pos-of goal + 1 + m → (here ≡ to → ⊥)
       → Lining ws s₀ (set (set s (goal-at (filled + 1)) goal) (goal-at (filled + 1) + 1) (filled + 2)) (st .put) (st .head) (w + 1) to base gs (goal + 1 + m) (filled + 1)
-  conj-on {s} {to} {goal} {filled} {c} {l} {m} li lt j n =
+  conj-on {s} {to} {goal} {filled} {m = m} li lt j is-here n =
       let size : m ≡ _ = j .is-payload in
       subst (λ z. Lining ws s₀ (set (set s (goal-at (filled + 1)) goal) (goal-at (filled + 1) + 1) (filled + 2)) (st .put) (st .head) (w + 1) to base gs (goal + 1 + z) (filled + 1)) (sym size)
-      (rw (cell-stores s (filled + 1) goal (filled + 2)) (lining-more ws s₀ s (st .put) (st .head) (w + 1) to base gs goal filled li lt (λ q. n (subst (λ z. pos-of goal + 1 + z ≡ to) (sym size) q))))
+      (rw (cell-stores s (filled + 1) goal (filled + 2)) (lining-more ws s₀ s (st .put) (st .head) (w + 1) to base gs goal filled li lt (λ q. n (is-here ∙ ap (λ z. pos-of goal + 1 + z) size ∙ q))))

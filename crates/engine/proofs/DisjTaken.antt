@@ -43,8 +43,8 @@ module _ {P : Program} {ws s₀ : List ℕ} {st : State} {w : ℕ} {p : Path} {c
   put-is : st .put ≡ p .put
   put-is = t .stored .path-in .put
 
-  first-goals : {b k n : ℕ} → NodeAt ws w b k n → RestAt ws (w + 1) (pos-of w + 1 + n) base gs
-  first-goals {n = n} i = subst (λ z. RestAt ws (w + 1) (pos-of w + 1 + z) base gs) (sym (i .is-payload)) (disj-rest ws w base gs (t .task-at) .1)
+  first-goals : {b k n to : ℕ} → NodeAt ws w b k n → to ≡ pos-of w + 1 + n → RestAt ws (w + 1) to base gs
+  first-goals i is-to = subst (λ z. RestAt ws (w + 1) z base gs) (sym (is-to ∙ ap (λ z. pos-of w + 1 + z) (i .is-payload))) (disj-rest ws w base gs (t .task-at) .1)
 
   -- no goal fits any more
   pub disj-full : (s′ : List ℕ) → 1024 ≤ st .put → TookAs P ws s′ cs (take-disj p cs base gs (st .left)) (Stops (PathLimit GoalsBound) (st .left + 1)) st
@@ -61,7 +61,7 @@ module _ {P : Program} {ws s₀ : List ℕ} {st : State} {w : ℕ} {p : Path} {c
 module _ {P : Program} {ws s₀ : List ℕ} {st : State} {w : ℕ} {p : Path} {cs : List ChoicePoint} {base : ℕ} where
   -- the first alternative is there
   pub disj-inside : {gs : Goals} {b k n : ℕ} → Taking P ws s₀ st w p cs (base, disj gs) → NodeAt ws w b k n → pos-of (w + 1) < length ws
-  disj-inside {gs} t i = next-goal ws (w + 1) _ base gs (first-goals t i) .inside
+  disj-inside {gs} t i = next-goal ws (w + 1) _ base gs (first-goals t i refl) .inside
 
   -- and the cell for it is
   pub disj-room : {gs : Goals} {pushed : State} {s₁ : List ℕ} (v to : ℕ) → Taking P ws s₀ st w p cs (base, disj gs) → st .put < 1024
@@ -69,35 +69,35 @@ module _ {P : Program} {ws s₀ : List ℕ} {st : State} {w : ℕ} {p : Path} {c
   disj-room v to t fits q z = rw (q, z) (simp length-set (t .stored .roomy .long), omega (arith, fits))
 
   -- one alternative only
-  pub disj-last : (gs : Goals) {b k n c l m : ℕ} {r : State} {s′ : List ℕ} → Taking P ws s₀ st w p cs (base, disj gs) → NodeAt ws w b k n → st .put < 1024
-      → NodeAt ws (w + 1) c l m → pos-of (w + 1) + 1 + m ≡ pos-of w + 1 + n → r ≡ one-waits st → s′ ≡ cell s₀ (st .put + 1) (w + 1) (st .head) → TookAs P ws s′ cs (take-disj p cs base gs (st .left)) Goes r
+  pub disj-last : (gs : Goals) {b k n to c l m here : ℕ} {r : State} {s′ : List ℕ} → Taking P ws s₀ st w p cs (base, disj gs) → NodeAt ws w b k n → to ≡ pos-of w + 1 + n → st .put < 1024
+      → NodeAt ws (w + 1) c l m → here ≡ pos-of (w + 1) + 1 + m → here ≡ to → r ≡ one-waits st → s′ ≡ cell s₀ (st .put + 1) (w + 1) (st .head) → TookAs P ws s′ cs (take-disj p cs base gs (st .left)) Goes r
   unfolding TookAs
-  disj-last (one g) {n = n} t i fits j e q z =
+  disj-last (one g) {to = to} t i is-to fits j is-here e q z =
       let f : leb (suc (p .put)) 1024 ≡ true = le-leb (suc (p .put)) 1024 (omega (arith, fits, put-is t)) in
-      rw (f, q, z) (refl, disj-one base g (w + 1) (pos-of w + 1 + n) (omega (arith, fits)) (first-goals t i) (t .stored))
-  disj-last (more g us) {n = n} t i fits j e q z =
-      absurd (omega (arith, e, j .is-payload, task-more ws (w + 1) (pos-of w + 1 + n) base g us (first-goals t i) .not-last))
+      rw (f, q, z) (refl, disj-one base g (w + 1) to (omega (arith, fits)) (first-goals t i is-to) (t .stored))
+  disj-last (more g us) {to = to} t i is-to fits j is-here e q z =
+      absurd (omega (arith, e, is-here, j .is-payload, task-more ws (w + 1) to base g us (first-goals t i is-to) .not-last))
 
   -- no choice point fits any more
-  pub disj-many : (gs : Goals) {b k n c l m : ℕ} (s′ : List ℕ) → Taking P ws s₀ st w p cs (base, disj gs) → NodeAt ws w b k n → st .put < 1024
-      → NodeAt ws (w + 1) c l m → (pos-of (w + 1) + 1 + m ≡ pos-of w + 1 + n → ⊥) → 256 ≤ st .choices → TookAs P ws s′ cs (take-disj p cs base gs (st .left)) (Stops (PathLimit Disjunctions) (st .left + 1)) st
+  pub disj-many : (gs : Goals) {b k n to c l m here : ℕ} (s′ : List ℕ) → Taking P ws s₀ st w p cs (base, disj gs) → NodeAt ws w b k n → to ≡ pos-of w + 1 + n → st .put < 1024
+      → NodeAt ws (w + 1) c l m → here ≡ pos-of (w + 1) + 1 + m → (here ≡ to → ⊥) → 256 ≤ st .choices → TookAs P ws s′ cs (take-disj p cs base gs (st .left)) (Stops (PathLimit Disjunctions) (st .left + 1)) st
   unfolding TookAs
-  disj-many (one g) {n = n} s′ t i fits j e full =
-      absurd (e (subst (λ z. pos-of (w + 1) + 1 + z ≡ pos-of w + 1 + n) (sym (j .is-payload)) (task-one ws (w + 1) (pos-of w + 1 + n) base g (first-goals t i) .0)))
-  disj-many (more g us) s′ t i fits j e full =
+  disj-many (one g) {to = to} s′ t i is-to fits j is-here e full =
+      absurd (e (is-here ∙ ap (λ z. pos-of (w + 1) + 1 + z) (j .is-payload) ∙ task-one ws (w + 1) to base g (first-goals t i is-to) .0))
+  disj-many (more g us) s′ t i is-to fits j is-here e full =
       let f : leb (suc (p .put)) 1024 ≡ true = le-leb (suc (p .put)) 1024 (omega (arith, fits, put-is t)) in
       let h : leb (suc (length cs)) 256 ≡ false = lt-leb (suc (length cs)) 256 (omega (arith, t .stored .choices-are)) in
       rw (f, h) (refl, omega arith)
 
   -- more than one, and room for a choice point
-  pub disj-goes : (gs : Goals) {b k n c l m : ℕ} {pushed r : State} {s₁ s₂ : List ℕ} → Taking P ws s₀ st w p cs (base, disj gs) → NodeAt ws w b k n → st .put < 1024
-      → NodeAt ws (w + 1) c l m → (pos-of (w + 1) + 1 + m ≡ pos-of w + 1 + n → ⊥) → st .choices < 256
-      → pushed ≡ one-choice-more st → s₁ ≡ point s₀ (st .choices) (w + 1 + 1 + m) (pos-of w + 1 + n) (registers st)
+  pub disj-goes : (gs : Goals) {b k n to c l m here : ℕ} {pushed r : State} {s₁ s₂ : List ℕ} → Taking P ws s₀ st w p cs (base, disj gs) → NodeAt ws w b k n → to ≡ pos-of w + 1 + n → st .put < 1024
+      → NodeAt ws (w + 1) c l m → here ≡ pos-of (w + 1) + 1 + m → (here ≡ to → ⊥) → st .choices < 256
+      → pushed ≡ one-choice-more st → s₁ ≡ point s₀ (st .choices) (w + 1 + 1 + m) to (registers st)
       → r ≡ one-waits pushed → s₂ ≡ cell s₁ (pushed .put + 1) (w + 1) (pushed .head) → TookAs P ws s₂ cs (take-disj p cs base gs (st .left)) Goes r
   unfolding TookAs
-  disj-goes (one g) {n = n} t i fits j e few q z a b =
-      absurd (e (subst (λ z. pos-of (w + 1) + 1 + z ≡ pos-of w + 1 + n) (sym (j .is-payload)) (task-one ws (w + 1) (pos-of w + 1 + n) base g (first-goals t i) .0)))
-  disj-goes (more g us) {n = n} t i fits j e few q z a b =
+  disj-goes (one g) {to = to} t i is-to fits j is-here e few q z a b =
+      absurd (e (is-here ∙ ap (λ z. pos-of (w + 1) + 1 + z) (j .is-payload) ∙ task-one ws (w + 1) to base g (first-goals t i is-to) .0))
+  disj-goes (more g us) {to = to} t i is-to fits j is-here e few q z a b =
       let f : leb (suc (p .put)) 1024 ≡ true = le-leb (suc (p .put)) 1024 (omega (arith, fits, put-is t)) in
       let h : leb (suc (length cs)) 256 ≡ true = le-leb (suc (length cs)) 256 (omega (arith, few, t .stored .choices-are)) in
-      rw (f, h, b, a, z, q, j .is-payload) (refl, disj-more base g us (w + 1) (pos-of w + 1 + n) (omega (arith, fits)) (omega (arith, few)) (first-goals t i) (t .stored))
+      rw (f, h, b, a, z, q, j .is-payload) (refl, disj-more base g us (w + 1) to (omega (arith, fits)) (omega (arith, few)) (first-goals t i is-to) (t .stored))

@@ -41,14 +41,14 @@ module _ {ws s : List ℕ} {w v : ℕ} {r : Term} (h : Resolves ws s w r) (told 
   seen = subst (λ q. Seen (h .bindings) q (walk (h .bindings) (h .term))) (h .is) (walk-seen (h .bindings) (h .follows .binds .good) (h .term))
 
   module _ {bits k p : ℕ} (node : NodeAt ws v bits k p) where
-    follow-open : k ≡ 0 → (u : Term) → Stands ws v u → Seen (h .bindings) r u → Shaped ws s (Open (base-of v + p)) r
+    follow-open : (y : ℕ) → y ≡ base-of v + p → k ≡ 0 → (u : Term) → Stands ws v u → Seen (h .bindings) r u → Shaped ws s (Open y) r
     unfolding Shaped
-    follow-open e (var x) st q = let z : base-of v + p ≡ x = ap (λ y. base-of v + y) (node .is-payload) ∙ st .reads .1 in (q .1 ∙ ap var (sym z), rw z (st .in-range))
-    follow-open e (atom a) st q = absurd (omega (arith, node .is-kind, atom-low _ a (st .reads .0) .0))
-    follow-open e (pair a b) st q = absurd (omega (arith, node .is-kind, st .reads .0))
+    follow-open y i e (var x) st q = let z : y ≡ x = i ∙ ap (λ n. base-of v + n) (node .is-payload) ∙ st .reads .1 in (q .1 ∙ ap var (sym z), rw z (st .in-range))
+    follow-open y i e (atom a) st q = absurd (omega (arith, node .is-kind, atom-low _ a (st .reads .0) .0))
+    follow-open y i e (pair a b) st q = absurd (omega (arith, node .is-kind, st .reads .0))
 
-    pub shaped-open : k ≡ 0 → Shaped ws s (Open (base-of v + p)) r
-    shaped-open e = follow-open e _ there seen
+    pub shaped-open : {y : ℕ} → y ≡ base-of v + p → k ≡ 0 → Shaped ws s (Open y) r
+    shaped-open i e = follow-open _ i e _ there seen
 
     follow-pair : k ≡ 4 → (u : Term) → Stands ws v u → Seen (h .bindings) r u → Shaped ws s (Pair (v + 1) (v + 1 + p)) r
     unfolding Shaped

@@ -218,11 +218,11 @@ module _ {ws : List ℕ} {w bits kind p sought : ℕ} (node : NodeAt ws w bits k
         go (atom a) s = refl
         go (pair a b) s = refl
 
-    pub reaches-another : kind′ ≡ 0 → ¬ (base-of q + p′ ≡ x) → false ≡ reaches bs k x c
-    reaches-another z n = let o = open-at here (walk bs (reached e .term)) at-q z in sym (reached-is e ∙ ap (is-var x) (o .is) ∙ ne-eqb x (o .number) (λ y. n (o .number-is ∙ sym y)))
+    pub reaches-another : {y : ℕ} → y ≡ base-of q + p′ → kind′ ≡ 0 → ¬ (y ≡ x) → false ≡ reaches bs k x c
+    reaches-another i z n = let o = open-at here (walk bs (reached e .term)) at-q z in sym (reached-is e ∙ ap (is-var x) (o .is) ∙ ne-eqb x (o .number) (λ y. n (i ∙ o .number-is ∙ sym y)))
 
-    pub reaches-it : kind′ ≡ 0 → base-of q + p′ ≡ x → true ≡ reaches bs k x c
-    reaches-it z y = let o = open-at here (walk bs (reached e .term)) at-q z in sym (reached-is e ∙ ap (is-var x) (o .is) ∙ eq-eqb x (o .number) (sym y ∙ o .number-is))
+    pub reaches-it : {y : ℕ} → y ≡ base-of q + p′ → kind′ ≡ 0 → y ≡ x → true ≡ reaches bs k x c
+    reaches-it i z y = let o = open-at here (walk bs (reached e .term)) at-q z in sym (reached-is e ∙ ap (is-var x) (o .is) ∙ eq-eqb x (o .number) (sym y ∙ i ∙ o .number-is))
 
 -- the loop over the constraints kept
 pub record Clashing (ws s : List ℕ) (bs : Substitution) (cs : List Constraint) (k : Sort) (x kept i : ℕ) : Type 0 where
@@ -265,8 +265,8 @@ clash-none {bs = bs} {cs = cs} {k = k} {x = x} {kept = kept} {i = i} g le = sym 
 -- A type's review
 
 module _ {ws : List ℕ} {q bits kind p : ℕ} (node : NodeAt ws q bits kind p) (bs : Substitution) (cs : List Constraint) (k : Sort) (f : Term) (at-q : Stands ws q f) (left : ℕ) where
-  pub type-open : kind ≡ 0 → {r : Bool} → r ≡ clashes bs k (base-of q + p) cs → sort-fails bs cs k f ≡ r
-  type-open e c = let o = open-at node f at-q e in ap (sort-fails bs cs k) (o .is) ∙ ap (λ y. clashes bs k y cs) (sym (o .number-is)) ∙ sym c
+  pub type-open : {x : ℕ} → x ≡ base-of q + p → kind ≡ 0 → {r : Bool} → r ≡ clashes bs k x cs → sort-fails bs cs k f ≡ r
+  type-open i e c = let o = open-at node f at-q e in ap (sort-fails bs cs k) (o .is) ∙ ap (λ y. clashes bs k y cs) (sym (i ∙ o .number-is)) ∙ sym c
 
   pub says-fails : sort-fails bs cs k f ≡ true → done (sort-fails bs cs k f) left ≡ review-says (Fails left)
   unfolding review-says

@@ -45,36 +45,36 @@ module _ {ws : List ℕ} {a bits k p b bits′ k′ p′ : ℕ} (left : NodeAt w
   right-bound y (atom c) h n = refl
   right-bound y (pair c d) h n = refl
 
-  pub compare-left : k ≡ 0 → ¬ (k′ ≡ 0) → ComparedAs ws (look u v) (compared.Binds (base-of a + p) b)
+  pub compare-left : {x : ℕ} → x ≡ base-of a + p → k ≡ 0 → ¬ (k′ ≡ 0) → ComparedAs ws (look u v) (compared.Binds x b)
   unfolding ComparedAs
-  compare-left e n = let o = open-at left u su e in record {
+  compare-left i e n = let o = open-at left u su e in record {
     term = v;
-    is = ap (λ z. look z v) (o .is) ∙ left-bound (o .number) v sv n ∙ ap (λ z. binds z v) (sym (o .number-is));
-    low = rw (o .number-is) (o .low);
+    is = ap (λ z. look z v) (o .is) ∙ left-bound (o .number) v sv n ∙ ap (λ z. binds z v) (sym (i ∙ o .number-is));
+    low = rw (i, o .number-is) (o .low);
     stands = sv;
   }
 
-  pub compare-right : ¬ (k ≡ 0) → k′ ≡ 0 → ComparedAs ws (look u v) (compared.Binds (base-of b + p′) a)
+  pub compare-right : {y : ℕ} → y ≡ base-of b + p′ → ¬ (k ≡ 0) → k′ ≡ 0 → ComparedAs ws (look u v) (compared.Binds y a)
   unfolding ComparedAs
-  compare-right n e = let o = open-at right v sv e in record {
+  compare-right j n e = let o = open-at right v sv e in record {
     term = u;
-    is = ap (look u) (o .is) ∙ right-bound (o .number) u su n ∙ ap (λ z. binds z u) (sym (o .number-is));
-    low = rw (o .number-is) (o .low);
+    is = ap (look u) (o .is) ∙ right-bound (o .number) u su n ∙ ap (λ z. binds z u) (sym (j ∙ o .number-is));
+    low = rw (j, o .number-is) (o .low);
     stands = su;
   }
 
-  pub compare-same : k ≡ 0 → k′ ≡ 0 → base-of b + p′ ≡ base-of a + p → ComparedAs ws (look u v) compared.Agrees
+  pub compare-same : {x y : ℕ} → x ≡ base-of a + p → y ≡ base-of b + p′ → k ≡ 0 → k′ ≡ 0 → y ≡ x → ComparedAs ws (look u v) compared.Agrees
   unfolding ComparedAs
-  compare-same e f z =
+  compare-same i j e f z =
       let o = open-at left u su e in let q = open-at right v sv f in
-      ap₂ look (o .is) (q .is) ∙ rw (eq-eqb (o .number) (q .number) (sym (o .number-is) ∙ sym z ∙ q .number-is))
+      ap₂ look (o .is) (q .is) ∙ rw (eq-eqb (o .number) (q .number) (sym (i ∙ o .number-is) ∙ sym z ∙ j ∙ q .number-is))
 
-  pub compare-other : k ≡ 0 → k′ ≡ 0 → ¬ (base-of b + p′ ≡ base-of a + p) → ComparedAs ws (look u v) (compared.Binds (base-of a + p) b)
+  pub compare-other : {x y : ℕ} → x ≡ base-of a + p → y ≡ base-of b + p′ → k ≡ 0 → k′ ≡ 0 → ¬ (y ≡ x) → ComparedAs ws (look u v) (compared.Binds x b)
   unfolding ComparedAs
-  compare-other e f z = let o = open-at left u su e in let q = open-at right v sv f in record {
+  compare-other i j e f z = let o = open-at left u su e in let q = open-at right v sv f in record {
     term = v;
-    is = ap₂ look (o .is) (q .is) ∙ rw (ne-eqb (o .number) (q .number) (λ y. z (q .number-is ∙ sym y ∙ sym (o .number-is)))) (ap₂ binds (sym (o .number-is)) (sym (q .is)));
-    low = rw (o .number-is) (o .low);
+    is = ap₂ look (o .is) (q .is) ∙ rw (ne-eqb (o .number) (q .number) (λ y. z (j ∙ q .number-is ∙ sym y ∙ sym (i ∙ o .number-is)))) (ap₂ binds (sym (i ∙ o .number-is)) (sym (q .is)));
+    low = rw (i, o .number-is) (o .low);
     stands = sv;
   }
 

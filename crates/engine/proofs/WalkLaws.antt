@@ -174,10 +174,10 @@ module _ {ws s : List ℕ} {bs : Substitution} {w : ℕ} {t : Term} {bits k p : 
       go (free k′ kb zb z v g h) = low v
       go (hop u k′ kb zb z v q st) = low v
 
-  pub walk-free : k ≡ 0 → at s (base-of w + p) ≡ 0 → Stands ws w (walk bs t)
-  walk-free e z = subst (Stands ws w) (sym (arrived-free ws s bs w t (f .binds .bindings-in) (f .stands) (sym (here .is-kind) ∙ e) (subst (λ y. at s (base-of w + y) ≡ 0) (here .is-payload) z) .2)) (f .stands)
+  pub walk-free : {x : ℕ} → x ≡ base-of w + p → k ≡ 0 → at s x ≡ 0 → Stands ws w (walk bs t)
+  walk-free i e z = subst (Stands ws w) (sym (arrived-free ws s bs w t (f .binds .bindings-in) (f .stands) (sym (here .is-kind) ∙ e) (subst (λ y. at s y ≡ 0) (i ∙ ap (λ y. base-of w + y) (here .is-payload)) z) .2)) (f .stands)
 
-  pub walk-hop : k ≡ 0 → ¬ (at s (base-of w + p) ≡ 0) → Hop ws s bs w t (at s (base-of w + p) - 1)
-  walk-hop e z =
-      let h = hopped ws s bs w t (f .binds .good) (f .binds .bindings-in) (f .stands) (sym (here .is-kind) ∙ e) (subst (λ y. ¬ (at s (base-of w + y) ≡ 0)) (here .is-payload) z) in
-      rw (here .is-payload) (record { next = h .next; follows = record { binds = f .binds; stands = h .stands }; same-walk = h .same-walk; falls = h .falls })
+  pub walk-hop : {x : ℕ} → x ≡ base-of w + p → k ≡ 0 → ¬ (at s x ≡ 0) → Hop ws s bs w t (at s x - 1)
+  walk-hop i e z =
+      let h = hopped ws s bs w t (f .binds .good) (f .binds .bindings-in) (f .stands) (sym (here .is-kind) ∙ e) (subst (λ y. ¬ (at s y ≡ 0)) (i ∙ ap (λ y. base-of w + y) (here .is-payload)) z) in
+      rw (i, here .is-payload) (record { next = h .next; follows = record { binds = f .binds; stands = h .stands }; same-walk = h .same-walk; falls = h .falls })

@@ -12,6 +12,7 @@ use crate::table::relation;
 use crate::trail::bind;
 use crate::walk::node_at;
 use crate::walk::skip;
+use crate::walk::variable_at;
 use word::Word;
 ghost use mathlib.Core.Path.{_≡_};
 ghost use mathlib.Core.List.{List};
@@ -36,7 +37,7 @@ fn last(program: &[u32], scratch: &[u32], term: u32) -> u32
         if node.kind != Word::VARIABLE {
             return at;
         }
-        let entry = scratch[(at / ENVIRONMENT + node.payload) as usize];
+        let entry = scratch[variable_at(at, node.payload) as usize];
         if entry == 0 {
             return at;
         }

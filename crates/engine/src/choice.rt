@@ -1,10 +1,10 @@
 // Choice points: eight words each.
-use crate::layout::ENVIRONMENT;
 use crate::layout::POINTS;
 use crate::state::Resumed;
 use crate::state::State;
 use crate::trail::undo;
 use crate::walk::node_at;
+use crate::walk::part_end;
 ghost use mathlib.Core.Path.{_≡_};
 ghost use mathlib.Core.List.{List};
 ghost use Prim.Native.Nat.{_-_, _<_, _≤_};
@@ -74,7 +74,7 @@ pub(crate) fn back(program: &[u32], scratch: &mut [u32], st: State) -> Resumed
     let mark = scratch[at + 3];
     undo(scratch, mark, st.trail);
     let size = node_at(program, goal).payload;
-    if goal % ENVIRONMENT + 1 + size == end {
+    if part_end(goal, size) == end {
         return Resumed::Goal(saved_state(scratch, st, st.choices - 1), goal);
     }
     scratch[at] = goal + 1 + size;

@@ -1,6 +1,6 @@
 // What a reference is when its bindings are followed.
-use crate::layout::ENVIRONMENT;
 use crate::walk::node_at;
+use crate::walk::variable_at;
 use crate::walk::walk;
 use word::Word;
 ghost use Rattle.rules.specs.Syntax.{Term};
@@ -24,7 +24,7 @@ pub(crate) fn follow(program: &[u32], scratch: &[u32], term: u32) -> Shape
     let kind = node.kind;
     let payload = node.payload;
     if kind == Word::VARIABLE {
-        return Shape::Open(at / ENVIRONMENT + payload);
+        return Shape::Open(variable_at(at, payload));
     }
     if kind == Word::PAIR {
         return Shape::Pair(at + 1, at + 1 + payload);

@@ -3,7 +3,6 @@ use crate::Bound;
 use crate::choice::push;
 use crate::layout::CELL_GOAL;
 use crate::layout::CELL_NEXT;
-use crate::layout::ENVIRONMENT;
 use crate::layout::MOST_DISJUNCTIONS;
 use crate::layout::MOST_GOALS;
 use crate::state::State;
@@ -11,6 +10,7 @@ use crate::state::Stop;
 use crate::state::Took;
 use crate::state::Way;
 use crate::walk::node_at;
+use crate::walk::part_end;
 ghost use mathlib.Core.Path.{_≡_};
 ghost use mathlib.Core.List.{List};
 ghost use Prim.Native.Nat.{ℕ, _+_, _<_, _≤_};
@@ -26,7 +26,7 @@ pub(crate) fn take_conj(program: &[u32], scratch: &mut [u32], st: State, conjunc
     ensures { λ r. ⌜ ((P : Program) (p : Path) (cs : List ChoicePoint) (base : ℕ) (gs : Goals) → Taking P (now (program .entry)) (now (scratch .entry)) st conjunction p cs (base, conj gs)
         → TookAs P (now (program .entry)) (now (scratch .exit)) cs (take-conj p cs base gs (st .left)) (r .way) (r .state)) ⌝ }
 {
-    let end = conjunction % ENVIRONMENT + 1 + node_at(program, conjunction).payload;
+    let end = part_end(conjunction, node_at(program, conjunction).payload);
     let mut goal = conjunction + 1;
     let mut filled = st.put;
     loop {
@@ -39,7 +39,7 @@ pub(crate) fn take_conj(program: &[u32], scratch: &mut [u32], st: State, conjunc
         let size = node_at(program, goal).payload;
         let at = (CELL_GOAL + 2 * (filled + 1)) as usize;
         scratch[at] = goal;
-        if goal % ENVIRONMENT + 1 + size == end {
+        if part_end(goal, size) == end {
             scratch[at + 1] = st.head;
             return Took {
                 way: Way::Goes,
@@ -94,10 +94,10 @@ pub(crate) fn take_disj(program: &[u32], scratch: &mut [u32], st: State, disjunc
             state: st,
         };
     }
-    let end = disjunction % ENVIRONMENT + 1 + node_at(program, disjunction).payload;
+    let end = part_end(disjunction, node_at(program, disjunction).payload);
     let first = disjunction + 1;
     let size = node_at(program, first).payload;
-    if first % ENVIRONMENT + 1 + size == end {
+    if part_end(first, size) == end {
         return Took {
             way: Way::Goes,
             state: wait(scratch, st, first),

@@ -1,6 +1,5 @@
 // Reviews of constraints: does one fail?
 use crate::layout::CONSTRAINTS;
-use crate::layout::ENVIRONMENT;
 use crate::scan::Scanned;
 use crate::scan::scan;
 use crate::trail::undo;
@@ -8,6 +7,7 @@ use crate::unify::Unified;
 use crate::unify::unify;
 use crate::walk::node_at;
 use crate::walk::skip;
+use crate::walk::variable_at;
 use crate::walk::walk;
 use word::Word;
 ghost use mathlib.Core.Path.{_≡_};
@@ -43,7 +43,7 @@ fn reaches(program: &[u32], scratch: &[u32], constraint: u32, kind: u32, variabl
     if node.kind != Word::VARIABLE {
         return false;
     }
-    if found / ENVIRONMENT + node.payload != variable {
+    if variable_at(found, node.payload) != variable {
         return false;
     }
     true
@@ -100,7 +100,7 @@ fn review_type(
             &*program,
             &*scratch,
             other,
-            found / ENVIRONMENT + node.payload,
+            variable_at(found, node.payload),
             trail,
             kept,
         ) {

@@ -4,6 +4,7 @@ use crate::End;
 use crate::answer::Answered;
 use crate::answer::write_answer;
 use crate::choice::back;
+use crate::narrow::narrowed;
 use crate::search::search;
 use crate::state::Resumed;
 use crate::state::Searched;
@@ -20,7 +21,7 @@ ghost use Rattle.rules.specs.Syntax.{Program, Relation};
 ghost use Rattle.semantics.specs.Path.{Path, ChoicePoint};
 ghost use Rattle.semantics.specs.Round as definition;
 ghost use Rattle.engine.specs.Report.{ran, ended};
-ghost use Rattle.engine.specs.Taking.{Holds, stop-of, narrow};
+ghost use Rattle.engine.specs.Taking.{Holds, stop-of};
 ghost use Rattle.engine.specs.Rounds.{Clean, Starting, RoundedAs};
 ghost use Rattle.engine.specs.declared.tally.Rounded.the-variants.{Completed, Broken};
 
@@ -30,21 +31,6 @@ fn end_of(stop: Stop) -> End
     match stop {
         Stop::Steps => End::Steps,
         Stop::Path(bound) => End::Path(bound),
-    }
-}
-
-fn with_left(state: State, left: u32) -> State
-    ensures { λ r. ⌜ r ≡ narrow state (state .trail) (state .kept) left ⌝ }
-{
-    State {
-        head: state.head,
-        trail: state.trail,
-        made: state.made,
-        put: state.put,
-        kept: state.kept,
-        calls: state.calls,
-        choices: state.choices,
-        left,
     }
 }
 
@@ -125,7 +111,7 @@ pub(crate) fn round(
                         return broken(End::Path(Bound::Waiting), left, used, answers);
                     }
                     Answered::Written(words, left) => {
-                        let after = with_left(ended, left);
+                        let after = narrowed(ended, ended.trail, ended.kept, left);
                         used = words;
                         answers += 1;
                         cuts = cut;

@@ -1,8 +1,8 @@
 // The nodes of a followed term, first part before second, up to the first find: the one traversal of the occurs check, of an absento review and of the writer.
-use crate::layout::ENVIRONMENT;
 use crate::layout::MOST_NODES;
 use crate::walk::Node;
 use crate::walk::node_at;
+use crate::walk::variable_at;
 use crate::walk::walk;
 use word::Word;
 ghost use Prim.Native.Nat.{_+_, _<_};
@@ -26,7 +26,7 @@ fn leaf_word(reference: u32, node: Node) -> u32
     ensures { λ r. ⌜ LeafWord reference (node .bits) (node .kind) (node .payload) r ⌝ }
 {
     if node.kind == Word::VARIABLE {
-        return reference / ENVIRONMENT + node.payload;
+        return variable_at(reference, node.payload);
     }
     node.bits
 }

@@ -1,11 +1,11 @@
 // Unification: a pair of terms is looked at, and pairs of second parts wait in the scratch.
-use crate::layout::ENVIRONMENT;
 use crate::layout::MOST_PAIRS;
 use crate::layout::PAIRS;
 use crate::scan::Scanned;
 use crate::scan::scan;
 use crate::trail::bind;
 use crate::walk::node_at;
+use crate::walk::variable_at;
 use crate::walk::walk;
 use word::Word;
 ghost use Prim.Native.Nat.{_<_};
@@ -52,17 +52,17 @@ fn compare(program: &[u32], left: u32, right: u32) -> Compared
     let a_payload = a.payload;
     let b_payload = b.payload;
     if a_kind == Word::VARIABLE {
-        let x = left / ENVIRONMENT + a_payload;
+        let x = variable_at(left, a_payload);
         if b_kind != Word::VARIABLE {
             return Compared::Binds(x, right);
         }
-        if right / ENVIRONMENT + b_payload == x {
+        if variable_at(right, b_payload) == x {
             return Compared::Agrees;
         }
         return Compared::Binds(x, right);
     }
     if b_kind == Word::VARIABLE {
-        return Compared::Binds(right / ENVIRONMENT + b_payload, left);
+        return Compared::Binds(variable_at(right, b_payload), left);
     }
     if a_kind == Word::PAIR {
         if b_kind != Word::PAIR {

@@ -6,7 +6,7 @@ ghost use Prim.Native.Nat.{_+_, _<_};
 ghost use lib.ListN.{length};
 ghost use Rattle.rules.specs.Syntax.{Term};
 ghost use Rattle.semantics.specs.Substitution.{Substitution, walk};
-ghost use Rattle.engine.specs.Reference.{pos-of, Stands};
+ghost use Rattle.engine.specs.Reference.{base-of, pos-of, Stands};
 ghost use Rattle.engine.specs.Walk.{NodeAt, Follows};
 
 // The word at a reference.
@@ -29,6 +29,22 @@ pub(crate) fn node_at(program: &[u32], reference: u32) -> Node
     }
 }
 
+// The path's variable that a variable's word stands for, by the environment of its reference.
+pub(crate) fn variable_at(reference: u32, payload: u32) -> u32
+    requires { ⌜ base-of reference + payload < 4294967296 ⌝ }
+    ensures { λ r. ⌜ r ≡ base-of reference + payload ⌝ }
+{
+    reference / ENVIRONMENT + payload
+}
+
+// The position past the part at a reference: its own word, and as many after it as its size.
+pub(crate) fn part_end(reference: u32, size: u32) -> u32
+    requires { ⌜ pos-of reference + 1 + size < 4294967296 ⌝ }
+    ensures { λ r. ⌜ r ≡ pos-of reference + 1 + size ⌝ }
+{
+    reference % ENVIRONMENT + 1 + size
+}
+
 // The term, followed through the bindings: up to an atom, a pair or an open variable.
 pub(crate) fn walk(program: &[u32], scratch: &[u32], term: u32) -> u32
     requires { ⌜ ((bs : Substitution) × (t : Term) × Follows (now program) (now scratch) bs term t) ⌝ }
@@ -40,7 +56,7 @@ pub(crate) fn walk(program: &[u32], scratch: &[u32], term: u32) -> u32
         if node.kind != Word::VARIABLE {
             return at;
         }
-        let entry = scratch[(at / ENVIRONMENT + node.payload) as usize];
+        let entry = scratch[variable_at(at, node.payload) as usize];
         if entry == 0 {
             return at;
         }

@@ -9,6 +9,7 @@ use Rattle.engine.proofs.choice.back.Lts as lts
 use Rattle.engine.proofs.choice.saved_state.Reads as saved-state-reads
 use Rattle.engine.proofs.trail.undo.Reads as undo-reads
 use Rattle.engine.proofs.walk.node_at.Reads as node-at-reads
+use Rattle.engine.proofs.walk.part_end.Reads as part-end-reads
 
 returns : tie.Need-returns
 returns c = λ P p cs t h. back-none _ t h (c .if1 .taken)
@@ -55,29 +56,26 @@ undo-requires c κs = back-undoes (c .before .before .before .before .before .be
 node-at-requires : tie.Need-node-at-requires
 node-at-requires c κs = back-next (back-came (c .before .before .before .before .before .before .before .before .before .before .before .before .args .st) (c .before .before .before .before .before .before .before .before .before .before .before .before .pre .3) (c .before .before .before .before .before .before .before .before .if1 .left) (c .before .before .undo .ensures)) .inside
 
-add-if2 : tie.Need-add-if2
-add-if2 c = search needs
-
-add-if2-2 : tie.Need-add-if2-2
-add-if2-2 c = search needs
+part-end-requires : tie.Need-part-end-requires
+part-end-requires c κs = search needs
 
 sub-saved-state : tie.Need-sub-saved-state
 sub-saved-state c = search needs
 
 saved-state-requires : tie.Need-saved-state-requires
-saved-state-requires c κs = let k = (back-came (c .before .before .before .before .before .before .before .before .before .before .before .before .before .before .before .before .args .st) (c .before .before .before .before .before .before .before .before .before .before .before .before .before .before .before .before .pre .3) (c .before .before .before .before .before .before .before .before .before .before .before .before .if1 .left) (c .before .before .before .before .before .before .undo .ensures)) in (back-room k .0, omega (arith, c .before .before .before .before .before .before .before .before .before .before .before .before .if1 .left), c .before .before .before .before .before .before .before .before .before .before .before .before .before .before .before .before .pre .3 .roomy .choices, back-room k .1)
+saved-state-requires c κs = let k = (back-came (c .before .before .before .before .before .before .before .before .before .before .before .before .before .before .before .before .before .args .st) (c .before .before .before .before .before .before .before .before .before .before .before .before .before .before .before .before .before .pre .3) (c .before .before .before .before .before .before .before .before .before .before .before .before .before .if1 .left) (c .before .before .before .before .before .before .before .undo .ensures)) in (back-room k .0, omega (arith, c .before .before .before .before .before .before .before .before .before .before .before .before .before .if1 .left), c .before .before .before .before .before .before .before .before .before .before .before .before .before .before .before .before .before .pre .3 .roomy .choices, back-room k .1)
 
 same-length : tie.Need-same-length
 same-length c = search needs
 
 returns-2 : tie.Need-returns-2
-returns-2 c = λ P p cs t h. back-last (back-came _ h (c .before .before .before .before .before .before .before .before .before .before .before .before .before .if1 .left) (c .before .before .before .before .before .before .before .undo .ensures)) t (c .before .before .before .before .node-at .ensures) (c .before .before .before .if2 .taken) (c .saved-state .ensures)
+returns-2 c = λ P p cs t h. back-last (back-came _ h (c .before .before .before .before .before .before .before .before .before .before .before .before .before .before .if1 .left) (c .before .before .before .before .before .before .before .before .undo .ensures)) t (c .before .before .before .before .before .node-at .ensures) (c .before .before .before .before .part-end .ensures) (c .before .before .before .if2 .taken) (c .saved-state .ensures)
 
 add-scratch : tie.Need-add-scratch
-add-scratch c = omega (arith, back-next (back-came (c .before .before .before .before .before .before .before .before .before .before .before .before .before .before .args .st) (c .before .before .before .before .before .before .before .before .before .before .before .before .before .before .pre .3) (c .before .before .before .before .before .before .before .before .before .before .if1 .left) (c .before .before .before .before .undo .ensures)) .below)
+add-scratch c = omega (arith, back-next (back-came (c .before .before .before .before .before .before .before .before .before .before .before .before .before .before .before .args .st) (c .before .before .before .before .before .before .before .before .before .before .before .before .before .before .before .pre .3) (c .before .before .before .before .before .before .before .before .before .before .before .if1 .left) (c .before .before .before .before .before .undo .ensures)) .below)
 
 add-scratch-2 : tie.Need-add-scratch-2
-add-scratch-2 c = let x = back-next (back-came (c .before .before .before .before .before .before .before .before .before .before .before .before .before .before .args .st) (c .before .before .before .before .before .before .before .before .before .before .before .before .before .before .pre .3) (c .before .before .before .before .before .before .before .before .before .before .if1 .left) (c .before .before .before .before .undo .ensures)) in omega (arith, x .below, x .within, x .small, c .before .node-at .ensures .is-payload)
+add-scratch-2 c = let x = back-next (back-came (c .before .before .before .before .before .before .before .before .before .before .before .before .before .before .before .args .st) (c .before .before .before .before .before .before .before .before .before .before .before .before .before .before .before .pre .3) (c .before .before .before .before .before .before .before .before .before .before .before .if1 .left) (c .before .before .before .before .before .undo .ensures)) in omega (arith, x .below, x .within, x .small, c .before .before .node-at .ensures .is-payload)
 
 mul-scratch : tie.Need-mul-scratch
 mul-scratch c = search needs
@@ -86,13 +84,13 @@ slice-write-scratch : tie.Need-slice-write-scratch
 slice-write-scratch c = search needs
 
 saved-state-requires-2 : tie.Need-saved-state-requires-2
-saved-state-requires-2 c κs = let k = (back-came (c .before .before .before .before .before .before .before .before .before .before .before .before .before .before .before .args .st) (c .before .before .before .before .before .before .before .before .before .before .before .before .before .before .before .pre .3) (c .before .before .before .before .before .before .before .before .before .before .before .if1 .left) (c .before .before .before .before .before .undo .ensures)) in (moved-room k _ .0, omega (arith, c .before .before .before .before .before .before .before .before .before .before .before .if1 .left), c .before .before .before .before .before .before .before .before .before .before .before .before .before .before .before .pre .3 .roomy .choices, moved-room k _ .1)
+saved-state-requires-2 c κs = let k = (back-came (c .before .before .before .before .before .before .before .before .before .before .before .before .before .before .before .before .args .st) (c .before .before .before .before .before .before .before .before .before .before .before .before .before .before .before .before .pre .3) (c .before .before .before .before .before .before .before .before .before .before .before .before .if1 .left) (c .before .before .before .before .before .before .undo .ensures)) in (moved-room k _ .0, omega (arith, c .before .before .before .before .before .before .before .before .before .before .before .before .if1 .left), c .before .before .before .before .before .before .before .before .before .before .before .before .before .before .before .before .pre .3 .roomy .choices, moved-room k _ .1)
 
 same-length-2 : tie.Need-same-length-2
 same-length-2 c = search needs
 
 returns-3 : tie.Need-returns-3
-returns-3 c = λ P p cs t h. back-more (back-came _ h (c .before .before .before .before .before .before .before .before .before .before .before .before .if1 .left) (c .before .before .before .before .before .before .undo .ensures)) t (c .before .before .before .before .before .before .before .before .before .before .before .before .if1 .left) (c .before .before .before .node-at .ensures) (c .before .before .if2 .left) (c .saved-state2 .ensures)
+returns-3 c = λ P p cs t h. back-more (back-came _ h (c .before .before .before .before .before .before .before .before .before .before .before .before .before .if1 .left) (c .before .before .before .before .before .before .before .undo .ensures)) t (c .before .before .before .before .before .before .before .before .before .before .before .before .before .if1 .left) (c .before .before .before .before .node-at .ensures) (c .before .before .before .part-end .ensures) (c .before .before .if2 .left) (c .saved-state2 .ensures)
 
 pub back-spec : {M : Type 1} → statement M
 back-spec =
@@ -113,8 +111,7 @@ back-spec =
     slice-read-mark
     undo-requires
     node-at-requires
-    add-if2
-    add-if2-2
+    part-end-requires
     sub-saved-state
     saved-state-requires
     same-length

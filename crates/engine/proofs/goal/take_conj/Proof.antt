@@ -13,6 +13,7 @@ use Rattle.engine.proofs.goal.take_conj.Tie as tie
 use Rattle.engine.proofs.goal.take_conj.Reads as reads
 use Rattle.engine.proofs.goal.take_conj.Lts as lts
 use Rattle.engine.proofs.walk.node_at.Reads as node-at-reads
+use Rattle.engine.proofs.walk.part_end.Reads as part-end-reads
 
 abbrev Inv-loop : tie.InvT-loop
 Inv-loop program scratch₀ st conjunction end goal₀ filled₀ scratch goal filled = (P : Program) (p : Path) (cs : List ChoicePoint) (base : ℕ) (gs : Goals) → Taking P program scratch₀ st conjunction p cs (base, conj gs)
@@ -21,23 +22,20 @@ Inv-loop program scratch₀ st conjunction end goal₀ filled₀ scratch goal fi
 abbrev μ-loop : tie.MeasureT-loop
 μ-loop program scratch₀ st conjunction end goal₀ filled₀ scratch goal filled = 1024 - filled
 
-add-end : tie.Need-add-end Inv-loop μ-loop
-add-end c = omega arith
-
 node-at-requires : tie.Need-node-at-requires Inv-loop μ-loop
 node-at-requires c κs = task-inside _ _ _ (c .before .before .pre .5 .task-at)
 
-add-end-2 : tie.Need-add-end-2 Inv-loop μ-loop
-add-end-2 c = omega (arith, task-end _ _ _ _ _ _ (c .before .before .before .before .pre .5 .task-at) (c .before .node-at .ensures) .0)
+part-end-requires : tie.Need-part-end-requires Inv-loop μ-loop
+part-end-requires c κs = omega (arith, task-end _ _ _ _ _ _ (c .before .before .before .pre .5 .task-at) (c .node-at .ensures) .0)
 
 add-goal : tie.Need-add-goal Inv-loop μ-loop
 add-goal c = omega (arith, task-end _ _ _ _ _ _ (c .before .before .before .before .pre .5 .task-at) (c .before .node-at .ensures) .2)
 
 loop-holds : tie.Need-loop-holds Inv-loop μ-loop
-loop-holds c = λ P p cs base gs t. conj-starts t (c .before .node-at .ensures)
+loop-holds c = λ P p cs base gs t. conj-starts t (c .before .node-at .ensures) (c .part-end .ensures)
 
-add-t16 : tie.Need-add-t16 Inv-loop μ-loop
-add-t16 c = omega (arith, c .before .before .before .before .before .before .before .pre .5 .step-taken)
+add-t14 : tie.Need-add-t14 Inv-loop μ-loop
+add-t14 c = omega (arith, c .before .before .before .before .before .before .before .pre .5 .step-taken)
 
 same-length : tie.Need-same-length Inv-loop μ-loop
 same-length c = (c .before .before .loop .inv (c .before .before .before .before .before .before .before .pre .0) (c .before .before .before .before .before .before .before .pre .1) (c .before .before .before .before .before .before .before .pre .2) (c .before .before .before .before .before .before .before .pre .3) (c .before .before .before .before .before .before .before .pre .4) (c .before .before .before .before .before .before .before .pre .5)) .long
@@ -66,59 +64,56 @@ mul-scratch c = omega (arith, c .before .if1 .left)
 slice-write-scratch : tie.Need-slice-write-scratch Inv-loop μ-loop
 slice-write-scratch c = omega (arith, c .before .if1 .left, (c .before .before .loop .inv (c .before .before .before .before .before .before .before .pre .0) (c .before .before .before .before .before .before .before .pre .1) (c .before .before .before .before .before .before .before .pre .2) (c .before .before .before .before .before .before .before .pre .3) (c .before .before .before .before .before .before .before .pre .4) (c .before .before .before .before .before .before .before .pre .5)) .long, (c .before .before .loop .inv (c .before .before .before .before .before .before .before .pre .0) (c .before .before .before .before .before .before .before .pre .1) (c .before .before .before .before .before .before .before .pre .2) (c .before .before .before .before .before .before .before .pre .3) (c .before .before .before .before .before .before .before .pre .4) (c .before .before .before .before .before .before .before .pre .5)) .long-enough)
 
-add-if2 : tie.Need-add-if2 Inv-loop μ-loop
-add-if2 c = omega arith
-
-add-if2-2 : tie.Need-add-if2-2 Inv-loop μ-loop
-add-if2-2 c = omega (arith, (lining-next _ _ _ _ _ _ _ _ _ _ _ (c .before .before .loop .inv (c .before .before .before .before .before .before .before .pre .0) (c .before .before .before .before .before .before .before .pre .1) (c .before .before .before .before .before .before .before .pre .2) (c .before .before .before .before .before .before .before .pre .3) (c .before .before .before .before .before .before .before .pre .4) (c .before .before .before .before .before .before .before .pre .5))) .within, (lining-next _ _ _ _ _ _ _ _ _ _ _ (c .before .before .loop .inv (c .before .before .before .before .before .before .before .pre .0) (c .before .before .before .before .before .before .before .pre .1) (c .before .before .before .before .before .before .before .pre .2) (c .before .before .before .before .before .before .before .pre .3) (c .before .before .before .before .before .before .before .pre .4) (c .before .before .before .before .before .before .before .pre .5))) .small, c .node-at2 .ensures .is-payload)
+part-end-requires-2 : tie.Need-part-end-requires-2 Inv-loop μ-loop
+part-end-requires-2 c κs = omega (arith, (lining-next _ _ _ _ _ _ _ _ _ _ _ (c .before .before .loop .inv (c .before .before .before .before .before .before .before .pre .0) (c .before .before .before .before .before .before .before .pre .1) (c .before .before .before .before .before .before .before .pre .2) (c .before .before .before .before .before .before .before .pre .3) (c .before .before .before .before .before .before .before .pre .4) (c .before .before .before .before .before .before .before .pre .5))) .within, (lining-next _ _ _ _ _ _ _ _ _ _ _ (c .before .before .loop .inv (c .before .before .before .before .before .before .before .pre .0) (c .before .before .before .before .before .before .before .pre .1) (c .before .before .before .before .before .before .before .pre .2) (c .before .before .before .before .before .before .before .pre .3) (c .before .before .before .before .before .before .before .pre .4) (c .before .before .before .before .before .before .before .pre .5))) .small, c .node-at2 .ensures .is-payload)
 
 add-scratch : tie.Need-add-scratch Inv-loop μ-loop
-add-scratch c = omega (arith, c .before .before .if1 .left)
+add-scratch c = omega (arith, c .before .before .before .if1 .left)
 
 mul-scratch-2 : tie.Need-mul-scratch-2 Inv-loop μ-loop
-mul-scratch-2 c = omega (arith, c .before .before .if1 .left)
+mul-scratch-2 c = omega (arith, c .before .before .before .if1 .left)
 
 slice-write-scratch-2 : tie.Need-slice-write-scratch-2 Inv-loop μ-loop
-slice-write-scratch-2 c = simp length-set (omega (arith, c .before .before .if1 .left, (c .before .before .before .loop .inv (c .before .before .before .before .before .before .before .before .pre .0) (c .before .before .before .before .before .before .before .before .pre .1) (c .before .before .before .before .before .before .before .before .pre .2) (c .before .before .before .before .before .before .before .before .pre .3) (c .before .before .before .before .before .before .before .before .pre .4) (c .before .before .before .before .before .before .before .before .pre .5)) .long, (c .before .before .before .loop .inv (c .before .before .before .before .before .before .before .before .pre .0) (c .before .before .before .before .before .before .before .before .pre .1) (c .before .before .before .before .before .before .before .before .pre .2) (c .before .before .before .before .before .before .before .before .pre .3) (c .before .before .before .before .before .before .before .before .pre .4) (c .before .before .before .before .before .before .before .before .pre .5)) .long-enough))
+slice-write-scratch-2 c = simp length-set (omega (arith, c .before .before .before .if1 .left, (c .before .before .before .before .loop .inv (c .before .before .before .before .before .before .before .before .before .pre .0) (c .before .before .before .before .before .before .before .before .before .pre .1) (c .before .before .before .before .before .before .before .before .before .pre .2) (c .before .before .before .before .before .before .before .before .before .pre .3) (c .before .before .before .before .before .before .before .before .before .pre .4) (c .before .before .before .before .before .before .before .before .before .pre .5)) .long, (c .before .before .before .before .loop .inv (c .before .before .before .before .before .before .before .before .before .pre .0) (c .before .before .before .before .before .before .before .before .before .pre .1) (c .before .before .before .before .before .before .before .before .before .pre .2) (c .before .before .before .before .before .before .before .before .before .pre .3) (c .before .before .before .before .before .before .before .before .before .pre .4) (c .before .before .before .before .before .before .before .before .before .pre .5)) .long-enough))
 
-add-t28 : tie.Need-add-t28 Inv-loop μ-loop
-add-t28 c = omega (arith, c .before .before .before .before .before .before .before .before .before .pre .5 .stored .roomy .put)
+add-t26 : tie.Need-add-t26 Inv-loop μ-loop
+add-t26 c = omega (arith, c .before .before .before .before .before .before .before .before .before .before .pre .5 .stored .roomy .put)
 
-add-t29 : tie.Need-add-t29 Inv-loop μ-loop
-add-t29 c = omega (arith, c .before .before .before .if1 .left)
+add-t27 : tie.Need-add-t27 Inv-loop μ-loop
+add-t27 c = omega (arith, c .before .before .before .before .if1 .left)
 
 same-length-2 : tie.Need-same-length-2 Inv-loop μ-loop
-same-length-2 c = simp length-set ((c .before .before .before .before .loop .inv (c .before .before .before .before .before .before .before .before .before .pre .0) (c .before .before .before .before .before .before .before .before .before .pre .1) (c .before .before .before .before .before .before .before .before .before .pre .2) (c .before .before .before .before .before .before .before .before .before .pre .3) (c .before .before .before .before .before .before .before .before .before .pre .4) (c .before .before .before .before .before .before .before .before .before .pre .5)) .long)
+same-length-2 c = simp length-set ((c .before .before .before .before .before .loop .inv (c .before .before .before .before .before .before .before .before .before .before .pre .0) (c .before .before .before .before .before .before .before .before .before .before .pre .1) (c .before .before .before .before .before .before .before .before .before .before .pre .2) (c .before .before .before .before .before .before .before .before .before .before .pre .3) (c .before .before .before .before .before .before .before .before .before .before .pre .4) (c .before .before .before .before .before .before .before .before .before .before .pre .5)) .long)
 
 returns-2 : tie.Need-returns-2 Inv-loop μ-loop
-returns-2 c = λ P p cs base gs t. conj-goes t (c .before .before .before .before .before .before .node-at .ensures) (c .before .before .before .before .loop .inv P p cs base gs t) (omega (arith, c .before .before .before .if1 .left)) (c .before .before .node-at2 .ensures) (c .before .if2 .taken)
+returns-2 c = λ P p cs base gs t. conj-goes t (c .before .before .before .before .before .before .before .node-at .ensures) (c .before .before .before .before .before .before .part-end .ensures) (c .before .before .before .before .before .loop .inv P p cs base gs t) (omega (arith, c .before .before .before .before .if1 .left)) (c .before .before .before .node-at2 .ensures) (c .before .before .part-end2 .ensures) (c .before .if2 .taken)
 
 add-scratch-2 : tie.Need-add-scratch-2 Inv-loop μ-loop
-add-scratch-2 c = omega (arith, c .before .before .if1 .left)
+add-scratch-2 c = omega (arith, c .before .before .before .if1 .left)
 
 add-scratch-3 : tie.Need-add-scratch-3 Inv-loop μ-loop
-add-scratch-3 c = omega (arith, c .before .before .if1 .left)
+add-scratch-3 c = omega (arith, c .before .before .before .if1 .left)
 
 mul-scratch-3 : tie.Need-mul-scratch-3 Inv-loop μ-loop
-mul-scratch-3 c = omega (arith, c .before .before .if1 .left)
+mul-scratch-3 c = omega (arith, c .before .before .before .if1 .left)
 
 slice-write-scratch-3 : tie.Need-slice-write-scratch-3 Inv-loop μ-loop
-slice-write-scratch-3 c = simp length-set (omega (arith, c .before .before .if1 .left, (c .before .before .before .loop .inv (c .before .before .before .before .before .before .before .before .pre .0) (c .before .before .before .before .before .before .before .before .pre .1) (c .before .before .before .before .before .before .before .before .pre .2) (c .before .before .before .before .before .before .before .before .pre .3) (c .before .before .before .before .before .before .before .before .pre .4) (c .before .before .before .before .before .before .before .before .pre .5)) .long, (c .before .before .before .loop .inv (c .before .before .before .before .before .before .before .before .pre .0) (c .before .before .before .before .before .before .before .before .pre .1) (c .before .before .before .before .before .before .before .before .pre .2) (c .before .before .before .before .before .before .before .before .pre .3) (c .before .before .before .before .before .before .before .before .pre .4) (c .before .before .before .before .before .before .before .before .pre .5)) .long-enough))
+slice-write-scratch-3 c = simp length-set (omega (arith, c .before .before .before .if1 .left, (c .before .before .before .before .loop .inv (c .before .before .before .before .before .before .before .before .before .pre .0) (c .before .before .before .before .before .before .before .before .before .pre .1) (c .before .before .before .before .before .before .before .before .before .pre .2) (c .before .before .before .before .before .before .before .before .before .pre .3) (c .before .before .before .before .before .before .before .before .before .pre .4) (c .before .before .before .before .before .before .before .before .before .pre .5)) .long, (c .before .before .before .before .loop .inv (c .before .before .before .before .before .before .before .before .before .pre .0) (c .before .before .before .before .before .before .before .before .before .pre .1) (c .before .before .before .before .before .before .before .before .before .pre .2) (c .before .before .before .before .before .before .before .before .before .pre .3) (c .before .before .before .before .before .before .before .before .before .pre .4) (c .before .before .before .before .before .before .before .before .before .pre .5)) .long-enough))
 
 add-goal-2 : tie.Need-add-goal-2 Inv-loop μ-loop
-add-goal-2 c = omega (arith, (lining-next _ _ _ _ _ _ _ _ _ _ _ (c .before .before .before .loop .inv (c .before .before .before .before .before .before .before .before .pre .0) (c .before .before .before .before .before .before .before .before .pre .1) (c .before .before .before .before .before .before .before .before .pre .2) (c .before .before .before .before .before .before .before .before .pre .3) (c .before .before .before .before .before .before .before .before .pre .4) (c .before .before .before .before .before .before .before .before .pre .5))) .below)
+add-goal-2 c = omega (arith, (lining-next _ _ _ _ _ _ _ _ _ _ _ (c .before .before .before .before .loop .inv (c .before .before .before .before .before .before .before .before .before .pre .0) (c .before .before .before .before .before .before .before .before .before .pre .1) (c .before .before .before .before .before .before .before .before .before .pre .2) (c .before .before .before .before .before .before .before .before .before .pre .3) (c .before .before .before .before .before .before .before .before .before .pre .4) (c .before .before .before .before .before .before .before .before .before .pre .5))) .below)
 
 add-goal-3 : tie.Need-add-goal-3 Inv-loop μ-loop
-add-goal-3 c = omega (arith, (lining-next _ _ _ _ _ _ _ _ _ _ _ (c .before .before .before .loop .inv (c .before .before .before .before .before .before .before .before .pre .0) (c .before .before .before .before .before .before .before .before .pre .1) (c .before .before .before .before .before .before .before .before .pre .2) (c .before .before .before .before .before .before .before .before .pre .3) (c .before .before .before .before .before .before .before .before .pre .4) (c .before .before .before .before .before .before .before .before .pre .5))) .below, (lining-next _ _ _ _ _ _ _ _ _ _ _ (c .before .before .before .loop .inv (c .before .before .before .before .before .before .before .before .pre .0) (c .before .before .before .before .before .before .before .before .pre .1) (c .before .before .before .before .before .before .before .before .pre .2) (c .before .before .before .before .before .before .before .before .pre .3) (c .before .before .before .before .before .before .before .before .pre .4) (c .before .before .before .before .before .before .before .before .pre .5))) .within, (lining-next _ _ _ _ _ _ _ _ _ _ _ (c .before .before .before .loop .inv (c .before .before .before .before .before .before .before .before .pre .0) (c .before .before .before .before .before .before .before .before .pre .1) (c .before .before .before .before .before .before .before .before .pre .2) (c .before .before .before .before .before .before .before .before .pre .3) (c .before .before .before .before .before .before .before .before .pre .4) (c .before .before .before .before .before .before .before .before .pre .5))) .small, c .before .node-at2 .ensures .is-payload)
+add-goal-3 c = omega (arith, (lining-next _ _ _ _ _ _ _ _ _ _ _ (c .before .before .before .before .loop .inv (c .before .before .before .before .before .before .before .before .before .pre .0) (c .before .before .before .before .before .before .before .before .before .pre .1) (c .before .before .before .before .before .before .before .before .before .pre .2) (c .before .before .before .before .before .before .before .before .before .pre .3) (c .before .before .before .before .before .before .before .before .before .pre .4) (c .before .before .before .before .before .before .before .before .before .pre .5))) .below, (lining-next _ _ _ _ _ _ _ _ _ _ _ (c .before .before .before .before .loop .inv (c .before .before .before .before .before .before .before .before .before .pre .0) (c .before .before .before .before .before .before .before .before .before .pre .1) (c .before .before .before .before .before .before .before .before .before .pre .2) (c .before .before .before .before .before .before .before .before .before .pre .3) (c .before .before .before .before .before .before .before .before .before .pre .4) (c .before .before .before .before .before .before .before .before .before .pre .5))) .within, (lining-next _ _ _ _ _ _ _ _ _ _ _ (c .before .before .before .before .loop .inv (c .before .before .before .before .before .before .before .before .before .pre .0) (c .before .before .before .before .before .before .before .before .before .pre .1) (c .before .before .before .before .before .before .before .before .before .pre .2) (c .before .before .before .before .before .before .before .before .before .pre .3) (c .before .before .before .before .before .before .before .before .before .pre .4) (c .before .before .before .before .before .before .before .before .before .pre .5))) .small, c .before .before .node-at2 .ensures .is-payload)
 
 add-filled : tie.Need-add-filled Inv-loop μ-loop
-add-filled c = omega (arith, c .before .before .if1 .left)
+add-filled c = omega (arith, c .before .before .before .if1 .left)
 
 loop-less : tie.Need-loop-less Inv-loop μ-loop
-loop-less c = omega (arith, c .before .before .if1 .left)
+loop-less c = omega (arith, c .before .before .before .if1 .left)
 
 loop-again : tie.Need-loop-again Inv-loop μ-loop
-loop-again c = λ P p cs base gs t. conj-on t (c .before .before .before .loop .inv P p cs base gs t) (omega (arith, c .before .before .if1 .left)) (c .before .node-at2 .ensures) (c .if2 .left)
+loop-again c = λ P p cs base gs t. conj-on t (c .before .before .before .before .loop .inv P p cs base gs t) (omega (arith, c .before .before .before .if1 .left)) (c .before .before .node-at2 .ensures) (c .before .part-end2 .ensures) (c .if2 .left)
 
 pub take-conj-spec : {M : Type 1} → statement M
 take-conj-spec =
@@ -126,12 +121,11 @@ take-conj-spec =
     (tie.spec
     Inv-loop
     μ-loop
-    add-end
     node-at-requires
-    add-end-2
+    part-end-requires
     add-goal
     loop-holds
-    add-t16
+    add-t14
     same-length
     returns
     node-at-requires-2
@@ -141,13 +135,12 @@ take-conj-spec =
     cast-at
     mul-scratch
     slice-write-scratch
-    add-if2
-    add-if2-2
+    part-end-requires-2
     add-scratch
     mul-scratch-2
     slice-write-scratch-2
-    add-t28
-    add-t29
+    add-t26
+    add-t27
     same-length-2
     returns-2
     add-scratch-2

@@ -8,6 +8,7 @@ use Rattle.engine.proofs.goal.take_disj.Lts as lts
 use Rattle.engine.proofs.choice.push.Reads as push-reads
 use Rattle.engine.proofs.goal.wait.Reads as wait-reads
 use Rattle.engine.proofs.walk.node_at.Reads as node-at-reads
+use Rattle.engine.proofs.walk.part_end.Reads as part-end-reads
 
 add-t12 : tie.Need-add-t12
 add-t12 c = search needs
@@ -15,14 +16,11 @@ add-t12 c = search needs
 returns : tie.Need-returns
 returns c = λ P p cs base gs t. disj-full t _ (c .before .if1 .taken)
 
-add-end : tie.Need-add-end
-add-end c = search needs
-
 node-at-requires : tie.Need-node-at-requires
 node-at-requires c κs = search needs
 
-add-end-2 : tie.Need-add-end-2
-add-end-2 c = search needs
+part-end-requires : tie.Need-part-end-requires
+part-end-requires c κs = search needs
 
 add-first : tie.Need-add-first
 add-first c = search needs
@@ -30,11 +28,8 @@ add-first c = search needs
 node-at-requires-2 : tie.Need-node-at-requires-2
 node-at-requires-2 c κs = disj-inside (c .before .before .before .before .before .before .pre .5) (c .before .node-at .ensures)
 
-add-if2 : tie.Need-add-if2
-add-if2 c = search needs
-
-add-if2-2 : tie.Need-add-if2-2
-add-if2-2 c = search needs
+part-end-requires-2 : tie.Need-part-end-requires-2
+part-end-requires-2 c κs = search needs
 
 wait-requires : tie.Need-wait-requires
 wait-requires c κs = search needs
@@ -43,13 +38,13 @@ same-length : tie.Need-same-length
 same-length c = search needs
 
 returns-2 : tie.Need-returns-2
-returns-2 c = λ P p cs base gs t. disj-last gs t (c .before .before .before .before .before .before .before .node-at .ensures) (c .before .before .before .before .before .before .before .before .if1 .left) (c .before .before .before .before .before .node-at2 .ensures) (c .before .before .before .before .if2 .taken) (c .before .before .wait .ensures .0) (c .before .before .wait .ensures .1)
+returns-2 c = λ P p cs base gs t. disj-last gs t (c .before .before .before .before .before .before .before .before .node-at .ensures) (c .before .before .before .before .before .before .before .part-end .ensures) (c .before .before .before .before .before .before .before .before .before .if1 .left) (c .before .before .before .before .before .before .node-at2 .ensures) (c .before .before .before .before .before .part-end2 .ensures) (c .before .before .before .before .if2 .taken) (c .before .before .wait .ensures .0) (c .before .before .wait .ensures .1)
 
-add-t24 : tie.Need-add-t24
-add-t24 c = search needs
+add-t22 : tie.Need-add-t22
+add-t22 c = search needs
 
 returns-3 : tie.Need-returns-3
-returns-3 c = λ P p cs base gs t. disj-many gs _ t (c .before .before .before .before .before .before .node-at .ensures) (c .before .before .before .before .before .before .before .if1 .left) (c .before .before .before .before .node-at2 .ensures) (c .before .before .before .if2 .left) (c .before .if3 .taken)
+returns-3 c = λ P p cs base gs t. disj-many gs _ t (c .before .before .before .before .before .before .before .node-at .ensures) (c .before .before .before .before .before .before .part-end .ensures) (c .before .before .before .before .before .before .before .before .if1 .left) (c .before .before .before .before .before .node-at2 .ensures) (c .before .before .before .before .part-end2 .ensures) (c .before .before .before .if2 .left) (c .before .if3 .taken)
 
 add-push : tie.Need-add-push
 add-push c = search needs
@@ -61,13 +56,13 @@ push-requires : tie.Need-push-requires
 push-requires c κs = search needs
 
 wait-requires-2 : tie.Need-wait-requires-2
-wait-requires-2 c κs = disj-room _ _ (c .before .before .before .before .before .before .before .before .before .before .before .before .before .before .before .pre .5) (c .before .before .before .before .before .before .before .before .before .before .before .if1 .left) (c .before .before .before .push .ensures .0) (c .before .before .before .push .ensures .1)
+wait-requires-2 c κs = disj-room _ _ (c .before .before .before .before .before .before .before .before .before .before .before .before .before .before .before .before .pre .5) (c .before .before .before .before .before .before .before .before .before .before .before .before .if1 .left) (c .before .before .before .push .ensures .0) (c .before .before .before .push .ensures .1)
 
 same-length-2 : tie.Need-same-length-2
 same-length-2 c = search needs
 
 returns-4 : tie.Need-returns-4
-returns-4 c = λ P p cs base gs t. disj-goes gs t (c .before .before .before .before .before .before .before .before .before .before .before .before .before .node-at .ensures) (c .before .before .before .before .before .before .before .before .before .before .before .before .before .before .if1 .left) (c .before .before .before .before .before .before .before .before .before .before .before .node-at2 .ensures) (c .before .before .before .before .before .before .before .before .before .before .if2 .left) (c .before .before .before .before .before .before .before .before .if3 .left) (c .before .before .before .before .before .before .push .ensures .0) (c .before .before .before .before .before .before .push .ensures .1) (c .before .before .wait2 .ensures .0) (c .before .before .wait2 .ensures .1)
+returns-4 c = λ P p cs base gs t. disj-goes gs t (c .before .before .before .before .before .before .before .before .before .before .before .before .before .before .node-at .ensures) (c .before .before .before .before .before .before .before .before .before .before .before .before .before .part-end .ensures) (c .before .before .before .before .before .before .before .before .before .before .before .before .before .before .before .if1 .left) (c .before .before .before .before .before .before .before .before .before .before .before .before .node-at2 .ensures) (c .before .before .before .before .before .before .before .before .before .before .before .part-end2 .ensures) (c .before .before .before .before .before .before .before .before .before .before .if2 .left) (c .before .before .before .before .before .before .before .before .if3 .left) (c .before .before .before .before .before .before .push .ensures .0) (c .before .before .before .before .before .before .push .ensures .1) (c .before .before .wait2 .ensures .0) (c .before .before .wait2 .ensures .1)
 
 pub take-disj-spec : {M : Type 1} → statement M
 take-disj-spec =
@@ -75,17 +70,15 @@ take-disj-spec =
     (tie.spec
     add-t12
     returns
-    add-end
     node-at-requires
-    add-end-2
+    part-end-requires
     add-first
     node-at-requires-2
-    add-if2
-    add-if2-2
+    part-end-requires-2
     wait-requires
     same-length
     returns-2
-    add-t24
+    add-t22
     returns-3
     add-push
     add-push-2

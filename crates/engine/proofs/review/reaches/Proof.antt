@@ -23,14 +23,14 @@ node-at-requires-2 c κs = let p = c .before .before .before .before .before .be
 returns-2 : tie.Need-returns-2
 returns-2 c = λ bs d k b h e. let q = reached (c .before .before .before .before .before .before .node-at .ensures) bs d k (c .before .before .before .before .before .before .before .before .before .args .variable) h e (c .before .before .before .before .if1 .left) in reaches-no-variable (c .before .before .before .before .before .before .node-at .ensures) bs d k _ h e (c .before .before .before .before .if1 .left) (c .before .before .before .walk .ensures bs (q .term) (record { binds = b; stands = q .stands })) (c .before .before .node-at2 .ensures) (c .if2 .taken)
 
-add-if3 : tie.Need-add-if3
-add-if3 c = search needs
+variable-at-requires : tie.Need-variable-at-requires
+variable-at-requires c κs = search needs
 
 returns-3 : tie.Need-returns-3
-returns-3 c = λ bs d k b h e. let q = reached (c .before .before .before .before .before .before .before .before .node-at .ensures) bs d k (c .before .before .before .before .before .before .before .before .before .before .before .args .variable) h e (c .before .before .before .before .before .before .if1 .left) in reaches-another (c .before .before .before .before .before .before .before .before .node-at .ensures) bs d k _ h e (c .before .before .before .before .before .before .if1 .left) (c .before .before .before .before .before .walk .ensures bs (q .term) (record { binds = b; stands = q .stands })) (c .before .before .before .before .node-at2 .ensures) (c .before .before .if2 .left) (c .if3 .taken)
+returns-3 c = λ bs d k b h e. let q = reached (c .before .before .before .before .before .before .before .before .node-at .ensures) bs d k (c .before .before .before .before .before .before .before .before .before .before .before .args .variable) h e (c .before .before .before .before .before .before .if1 .left) in reaches-another (c .before .before .before .before .before .before .before .before .node-at .ensures) bs d k _ h e (c .before .before .before .before .before .before .if1 .left) (c .before .before .before .before .before .walk .ensures bs (q .term) (record { binds = b; stands = q .stands })) (c .before .before .before .before .node-at2 .ensures) (c .before .variable-at .ensures) (c .before .before .if2 .left) (c .if3 .taken)
 
 returns-4 : tie.Need-returns-4
-returns-4 c = λ bs d k b h e. let q = reached (c .before .before .before .before .before .before .before .before .node-at .ensures) bs d k (c .before .before .before .before .before .before .before .before .before .before .before .args .variable) h e (c .before .before .before .before .before .before .if1 .left) in reaches-it (c .before .before .before .before .before .before .before .before .node-at .ensures) bs d k _ h e (c .before .before .before .before .before .before .if1 .left) (c .before .before .before .before .before .walk .ensures bs (q .term) (record { binds = b; stands = q .stands })) (c .before .before .before .before .node-at2 .ensures) (c .before .before .if2 .left) (c .if3 .left)
+returns-4 c = λ bs d k b h e. let q = reached (c .before .before .before .before .before .before .before .before .node-at .ensures) bs d k (c .before .before .before .before .before .before .before .before .before .before .before .args .variable) h e (c .before .before .before .before .before .before .if1 .left) in reaches-it (c .before .before .before .before .before .before .before .before .node-at .ensures) bs d k _ h e (c .before .before .before .before .before .before .if1 .left) (c .before .before .before .before .before .walk .ensures bs (q .term) (record { binds = b; stands = q .stands })) (c .before .before .before .before .node-at2 .ensures) (c .before .variable-at .ensures) (c .before .before .if2 .left) (c .if3 .left)
 
 pub reaches-spec : {M : Type 1} → statement M
 reaches-spec =
@@ -42,6 +42,6 @@ reaches-spec =
     walk-requires
     node-at-requires-2
     returns-2
-    add-if3
+    variable-at-requires
     returns-3
     returns-4)

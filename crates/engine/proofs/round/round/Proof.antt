@@ -13,10 +13,10 @@ use Rattle.engine.proofs.round.round.Reads as reads
 use Rattle.engine.proofs.round.round.Lts as lts
 use Rattle.engine.proofs.answer.write_answer.Reads as write-answer-reads
 use Rattle.engine.proofs.choice.back.Reads as back-reads
+use Rattle.engine.proofs.narrow.narrowed.Reads as narrowed-reads
 use Rattle.engine.proofs.round.broken.Reads as broken-reads
 use Rattle.engine.proofs.round.completed.Reads as completed-reads
 use Rattle.engine.proofs.round.end_of.Reads as end-of-reads
-use Rattle.engine.proofs.round.with_left.Reads as with-left-reads
 use Rattle.engine.proofs.search.search.Reads as search-reads
 use Rattle.engine.proofs.table.relation.Reads as relation-reads
 
@@ -191,8 +191,8 @@ returns-5 c = λ P R a i.
 enum-known-words : tie.Need-enum-known-words Inv-loop μ-loop
 enum-known-words c = search needs
 
-with-left-requires : tie.Need-with-left-requires Inv-loop μ-loop
-with-left-requires c κs = search needs
+narrowed-requires : tie.Need-narrowed-requires Inv-loop μ-loop
+narrowed-requires c κs = search needs
 
 add-answers : tie.Need-add-answers Inv-loop μ-loop
 add-answers c =
@@ -214,7 +214,7 @@ back-requires c κs =
     let x = round-answers h _ _ told (writer .before .before .before .before .ended .given .1) in
     let said = writer .write-answer .ensures (q .0) (x .path) (x .choices) (round-answering h x) in
     let y = wrote h x (searched .search .kept .1 .0) said (c .before .before .before .words .given .1) in
-    let is = c .before .with-left .ensures in
+    let is = c .before .narrowed .ensures in
     (q .0, x .path, x .choices, wrote-held h x (searched .search .kept .1 .0) said y _ is)
 
 enum-told-2 : tie.Need-enum-told-2 Inv-loop μ-loop
@@ -231,7 +231,7 @@ completed-requires-2 c κs =
     let x = round-answers h _ _ told (writer .before .before .before .before .ended .given .1) in
     let said = writer .write-answer .ensures (q .0) (x .path) (x .choices) (round-answering h x) in
     let y = wrote h x (searched .search .kept .1 .0) said (retreat .before .before .before .before .words .given .1) in
-    let is = retreat .before .before .with-left .ensures in
+    let is = retreat .before .before .narrowed .ensures in
     let led = retreat .back .ensures (q .0) (x .path) (x .choices) (y .tally) (wrote-held h x (searched .search .kept .1 .0) said y _ is) in
     let o = last-held h x (searched .search .kept .1 .0) said y _ is _ _ led (c .before .enum-told2 .given .1) in
     (q .0, _, o .0, [], o .1)
@@ -260,7 +260,7 @@ returns-6 c = λ P R a i.
     let x = round-answers h _ _ told (writer .before .before .before .before .ended .given .1) in
     let said = writer .write-answer .ensures P (x .path) (x .choices) (round-answering h x) in
     let y = wrote h x (searched .search .kept .1 .0) said (retreat .before .before .before .before .words .given .1) in
-    let is = retreat .before .before .with-left .ensures in
+    let is = retreat .before .before .narrowed .ensures in
     let led = retreat .back .ensures P (x .path) (x .choices) (y .tally) (wrote-held h x (searched .search .kept .1 .0) said y _ is) in
     let over = ending .before .before .enum-told2 .given .1 in
     let o = last-held h x (searched .search .kept .1 .0) said y _ is _ _ led over in
@@ -280,7 +280,7 @@ loop-less c =
     let x = round-answers h _ _ told (writer .before .before .before .before .ended .given .1) in
     let said = writer .write-answer .ensures (q .0) (x .path) (x .choices) (round-answering h x) in
     let y = wrote h x (searched .search .kept .1 .0) said (retreat .before .before .before .before .words .given .1) in
-    let is = retreat .before .before .with-left .ensures in
+    let is = retreat .before .before .narrowed .ensures in
     let led = retreat .back .ensures (q .0) (x .path) (x .choices) (y .tally) (wrote-held h x (searched .search .kept .1 .0) said y _ is) in
     next-round h x (searched .search .kept .1 .0) said y _ is _ _ led (c .before .next .given .1) (retreat .back .kept .1 .0) .1
 
@@ -296,7 +296,7 @@ loop-again c =
           let x = round-answers h _ _ told (writer .before .before .before .before .ended .given .1) in
           let said = writer .write-answer .ensures P (x .path) (x .choices) (round-answering h x) in
           let y = wrote h x (searched .search .kept .1 .0) said (retreat .before .before .before .before .words .given .1) in
-          let is = retreat .before .before .with-left .ensures in
+          let is = retreat .before .before .narrowed .ensures in
           let led = retreat .back .ensures P (x .path) (x .choices) (y .tally) (wrote-held h x (searched .search .kept .1 .0) said y _ is) in
           next-round h x (searched .search .kept .1 .0) said y _ is _ _ led (c .before .next .given .1) (retreat .back .kept .1 .0) .0,
     )
@@ -339,7 +339,7 @@ round-spec =
     same-length-10
     returns-5
     enum-known-words
-    with-left-requires
+    narrowed-requires
     add-answers
     back-requires
     enum-told-2

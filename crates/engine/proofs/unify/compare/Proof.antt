@@ -11,29 +11,35 @@ node-at-requires c κs = stands-inside (c .before .pre .2)
 node-at-requires-2 : tie.Need-node-at-requires-2
 node-at-requires-2 c κs = stands-inside (c .before .before .pre .3)
 
-add-x : tie.Need-add-x
-add-x c = search needs
+variable-at-requires : tie.Need-variable-at-requires
+variable-at-requires c κs = search needs
 
 returns : tie.Need-returns
-returns c = λ u v h k. compare-left (c .before .before .before .node-at .ensures) (c .before .before .node-at2 .ensures) u v h k (c .before .if1 .taken) (c .if2 .taken)
+returns c = λ u v h k. compare-left (c .before .before .before .before .node-at .ensures) (c .before .before .before .node-at2 .ensures) u v h k (c .before .variable-at .ensures) (c .before .before .if1 .taken) (c .if2 .taken)
 
-add-if3 : tie.Need-add-if3
-add-if3 c = search needs
+variable-at-requires-2 : tie.Need-variable-at-requires-2
+variable-at-requires-2 c κs = search needs
 
 returns-2 : tie.Need-returns-2
-returns-2 c = λ u v h k. compare-same (c .before .before .before .before .node-at .ensures) (c .before .before .before .node-at2 .ensures) u v h k (c .before .before .if1 .taken) (c .before .if2 .left) (c .if3 .taken)
+returns-2 c = λ u v h k. compare-same (c .before .before .before .before .before .before .node-at .ensures) (c .before .before .before .before .before .node-at2 .ensures) u v h k (c .before .before .before .variable-at .ensures) (c .before .variable-at2 .ensures) (c .before .before .before .before .if1 .taken) (c .before .before .if2 .left) (c .if3 .taken)
 
 returns-3 : tie.Need-returns-3
-returns-3 c = λ u v h k. compare-other (c .before .before .before .before .node-at .ensures) (c .before .before .before .node-at2 .ensures) u v h k (c .before .before .if1 .taken) (c .before .if2 .left) (c .if3 .left)
+returns-3 c = λ u v h k. compare-other (c .before .before .before .before .before .before .node-at .ensures) (c .before .before .before .before .before .node-at2 .ensures) u v h k (c .before .before .before .variable-at .ensures) (c .before .variable-at2 .ensures) (c .before .before .before .before .if1 .taken) (c .before .before .if2 .left) (c .if3 .left)
+
+variable-at-requires-3 : tie.Need-variable-at-requires-3
+variable-at-requires-3 c κs = search needs
+
+returns-4 : tie.Need-returns-4
+returns-4 c = λ u v h k. compare-right (c .before .before .before .before .node-at .ensures) (c .before .before .before .node-at2 .ensures) u v h k (c .variable-at3 .ensures) (c .before .before .if1 .left) (c .before .if4 .taken)
+
+returns-5 : tie.Need-returns-5
+returns-5 c = λ u v h k. compare-pair (c .before .before .before .before .before .node-at .ensures) (c .before .before .before .before .node-at2 .ensures) u v h k (c .before .if5 .taken) (c .before .before .if4 .left) (c .if6 .taken)
 
 add-t16 : tie.Need-add-t16
 add-t16 c = search needs
 
-returns-4 : tie.Need-returns-4
-returns-4 c = λ u v h k. compare-right (c .before .before .before .node-at .ensures) (c .before .before .node-at2 .ensures) u v h k (c .before .if1 .left) (c .if4 .taken)
-
-returns-5 : tie.Need-returns-5
-returns-5 c = λ u v h k. compare-pair (c .before .before .before .before .before .node-at .ensures) (c .before .before .before .before .node-at2 .ensures) u v h k (c .before .if5 .taken) (c .before .before .if4 .left) (c .if6 .taken)
+add-t17 : tie.Need-add-t17
+add-t17 c = search needs
 
 add-t18 : tie.Need-add-t18
 add-t18 c = search needs
@@ -46,12 +52,6 @@ add-t20 c = search needs
 
 add-t21 : tie.Need-add-t21
 add-t21 c = search needs
-
-add-t22 : tie.Need-add-t22
-add-t22 c = search needs
-
-add-t23 : tie.Need-add-t23
-add-t23 c = search needs
 
 returns-6 : tie.Need-returns-6
 returns-6 c = λ u v h k. compare-parts (c .before .before .before .before .before .node-at .ensures) (c .before .before .before .before .node-at2 .ensures) u v h k (c .before .if5 .taken) (c .if6 .left)
@@ -68,20 +68,20 @@ compare-spec =
     (tie.spec
     node-at-requires
     node-at-requires-2
-    add-x
+    variable-at-requires
     returns
-    add-if3
+    variable-at-requires-2
     returns-2
     returns-3
-    add-t16
+    variable-at-requires-3
     returns-4
     returns-5
+    add-t16
+    add-t17
     add-t18
     add-t19
     add-t20
     add-t21
-    add-t22
-    add-t23
     returns-6
     returns-7
     returns-8)

@@ -218,7 +218,24 @@ fn first_table(rows: &[Row]) -> String {
     text
 }
 
-fn second_table() -> String {
+/// Which of the rows miss a goal, in a sentence.
+fn missed(names: &[&str]) -> String {
+    match names {
+        [] => "Met in each row.".to_string(),
+        _ => format!("Missed: {}.", names.join(", ")),
+    }
+}
+
+fn first_goals(rows: &[Row]) -> String {
+    let misses = rows
+        .iter()
+        .filter(|row| row.over_plain > 1.3 || row.swi.is_some_and(|[body, _]| body <= 1.0));
+    missed(&misses.map(|row| row.name).collect::<Vec<_>>())
+}
+
+/// The second table, and whether its goal is met.
+fn second_table() -> (String, String) {
+    let mut misses = Vec::new();
     let mut text = String::new();
     text += "| program | proved: 10^5 steps | 10^7 | 10^9 | plain: 10^5 steps | 10^7 | 10^9 | proved: 10^9 / 10^5 | plain: 10^9 / 10^5 |\n";
     text += "|---|--:|--:|--:|--:|--:|--:|--:|--:|\n";
@@ -226,6 +243,9 @@ fn second_table() -> String {
         let times = [100_000, 10_000_000, 1_000_000_000].map(|steps| at_steps(&program, steps));
         let [proved, plain] = [0, 1].map(|engine| times.map(|time| time[engine]));
         let growths = [proved, plain].map(|time| time[2] / time[0]);
+        if growths[0] > 1.1 {
+            misses.push(program.name);
+        }
         let cells: Vec<String> = [&proved[..], &plain, &growths]
             .concat()
             .iter()
@@ -233,7 +253,7 @@ fn second_table() -> String {
             .collect();
         writeln!(text, "| {} | {} |", program.name, cells.join(" | ")).unwrap();
     }
-    text
+    (text, missed(&misses))
 }
 
 fn processor() -> String {
@@ -273,12 +293,15 @@ fn main() {
         fs::remove_dir_all(folder).expect("the temporary folder can be removed");
     }
     let version = swi.map_or("SWI-Prolog is not installed".to_string(), |swi| swi.1);
+    let (second, second_goal) = second_table();
     let text = include_str!("benchmark.md")
         .replace("{date}", date)
         .replace("{processor}", &processor())
         .replace("{swi}", &version)
         .replace("{first}", first_table(&rows).trim_end())
-        .replace("{second}", second_table().trim_end());
+        .replace("{first goals}", &first_goals(&rows))
+        .replace("{second}", second.trim_end())
+        .replace("{second goal}", &second_goal);
     print!("{text}");
     fs::write(file, text).unwrap_or_else(|error| {
         eprintln!("{file}: {error}");

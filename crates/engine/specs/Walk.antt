@@ -9,12 +9,17 @@ use Rattle.semantics.specs.Substitution.{Substitution}
 use Rattle.semantics.proofs.SubstitutionLaws.{Good}
 use Rattle.engine.specs.Reference.{at, pos-of, Stands}
 use Rattle.engine.specs.Memory.{BindingsIn}
+use Rattle.engine.specs.declared.walk.Walked.{Walked}
 
 -- the word at a reference, with its kind and payload
 pub record NodeAt (ws : List ℕ) (w bits k p : ℕ) : Type 0 where
   pub is-bits : bits ≡ at ws (pos-of w)
   pub is-kind : k ≡ kind-at ws (pos-of w)
   pub is-payload : p ≡ payload-at ws (pos-of w)
+
+-- a followed term has the word at its reference
+abbrev pub IsNode : List ℕ → Walked → Type 0
+IsNode ws n = NodeAt ws (n .at) (n .bits) (n .kind) (n .payload)
 
 -- the scratch holds a path's bindings, and they are acyclic
 pub record Binds (ws s : List ℕ) (bs : Substitution) : Type 0 where

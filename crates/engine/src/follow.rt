@@ -1,5 +1,4 @@
 // What a reference is when its bindings are followed.
-use crate::walk::node_at;
 use crate::walk::variable_at;
 use crate::walk::walk;
 use word::Word;
@@ -19,8 +18,8 @@ pub(crate) fn follow(program: &[u32], scratch: &[u32], term: u32) -> Shape
     requires { ⌜ ((t : Term) × Resolves (now program) (now scratch) term t) ⌝ }
     ensures { λ r. ⌜ ((t : Term) → Resolves (now (program .entry)) (now (scratch .entry)) term t → Shaped (now (program .entry)) (now (scratch .entry)) r t) ⌝ }
 {
-    let at = walk(program, scratch, term);
-    let node = node_at(program, at);
+    let node = walk(program, scratch, term);
+    let at = node.at;
     let kind = node.kind;
     let payload = node.payload;
     if kind == Word::VARIABLE {

@@ -38,12 +38,11 @@ fn reaches(program: &[u32], scratch: &[u32], constraint: u32, kind: u32, variabl
     if node_at(&*program, constraint).kind != kind {
         return false;
     }
-    let found = walk(&*program, &*scratch, constraint + 1);
-    let node = node_at(&*program, found);
+    let node = walk(&*program, &*scratch, constraint + 1);
     if node.kind != Word::VARIABLE {
         return false;
     }
-    if variable_at(found, node.payload) != variable {
+    if variable_at(node.at, node.payload) != variable {
         return false;
     }
     true
@@ -92,15 +91,14 @@ fn review_type(
     ensures { λ r. ⌜ ((bs : Substitution) (cs : List Constraint) (k : Sort) (t : Term) → Kept (now (program .entry)) (now (scratch .entry)) bs cs trail kept → Stands (now (program .entry)) term t → atom ≡ atom-kind k → other ≡ other-kind k
         → done (definition.sort-fails bs cs k (walk bs t)) left ≡ review-says r) ⌝ }
 {
-    let found = walk(&*program, &*scratch, term);
-    let node = node_at(&*program, found);
+    let node = walk(&*program, &*scratch, term);
     let kind = node.kind;
     if kind == Word::VARIABLE {
         if clashes(
             &*program,
             &*scratch,
             other,
-            variable_at(found, node.payload),
+            variable_at(node.at, node.payload),
             trail,
             kept,
         ) {
@@ -189,24 +187,18 @@ pub(crate) fn review(
     if kind == Word::ABSENTO {
         return review_absento(&*program, scratch, constraint, left);
     }
+    let mut atom = Word::NUMBER;
+    let mut other = Word::SYMBOLO;
     if kind == Word::SYMBOLO {
-        return review_type(
-            &*program,
-            scratch,
-            constraint + 1,
-            Word::SYMBOL,
-            Word::NUMBERO,
-            trail,
-            kept,
-            left,
-        );
+        atom = Word::SYMBOL;
+        other = Word::NUMBERO;
     }
     review_type(
         &*program,
         scratch,
         constraint + 1,
-        Word::NUMBER,
-        Word::SYMBOLO,
+        atom,
+        other,
         trail,
         kept,
         left,

@@ -1,7 +1,6 @@
 // The nodes of a followed term, first part before second, up to the first find: the one traversal of the occurs check, of an absento review and of the writer.
 use crate::layout::MOST_NODES;
-use crate::walk::Node;
-use crate::walk::node_at;
+use crate::walk::Walked;
 use crate::walk::variable_at;
 use crate::walk::walk;
 use word::Word;
@@ -21,12 +20,12 @@ pub enum Scanned {
 }
 
 // The word by which a leaf is sought: an open variable has its number for a word, an atom its own.
-fn leaf_word(reference: u32, node: Node) -> u32
-    requires { ⌜ base-of reference + node .payload < 4294967296 ⌝ }
-    ensures { λ r. ⌜ LeafWord reference (node .bits) (node .kind) (node .payload) r ⌝ }
+fn leaf_word(node: Walked) -> u32
+    requires { ⌜ base-of (node .at) + node .payload < 4294967296 ⌝ }
+    ensures { λ r. ⌜ LeafWord (node .at) (node .bits) (node .kind) (node .payload) r ⌝ }
 {
     if node.kind == Word::VARIABLE {
-        return variable_at(reference, node.payload);
+        return variable_at(node.at, node.payload);
     }
     node.bits
 }
@@ -50,10 +49,9 @@ pub(crate) fn scan(
         if left == 0 {
             return Scanned::StepsOut;
         }
-        let found = walk(program, scratch, at);
-        let node = node_at(program, found);
+        let node = walk(program, scratch, at);
         if node.kind != Word::PAIR {
-            if leaf_word(found, node) == sought {
+            if leaf_word(node) == sought {
                 return Scanned::Found(left - 1);
             }
             return Scanned::Clear(left - 1);
@@ -65,17 +63,16 @@ pub(crate) fn scan(
         if left == 0 {
             return Scanned::StepsOut;
         }
-        at = found + 1 + node.payload;
-        let first = walk(program, scratch, found + 1);
-        let part = node_at(program, first);
-        if part.kind != Word::PAIR {
-            if leaf_word(first, part) == sought {
+        at = node.at + 1 + node.payload;
+        let first = walk(program, scratch, node.at + 1);
+        if first.kind != Word::PAIR {
+            if leaf_word(first) == sought {
                 return Scanned::Found(left - 1);
             }
             left = left - 1;
             continue;
         }
-        match scan(&*program, &*scratch, sought, first, waiting + 1, left) {
+        match scan(&*program, &*scratch, sought, first.at, waiting + 1, left) {
             Scanned::Clear(rest) => {
                 left = rest;
             }

@@ -4,15 +4,17 @@ use crate::layout::PAIRS;
 use crate::scan::Scanned;
 use crate::scan::scan;
 use crate::trail::bind;
-use crate::walk::node_at;
+use crate::walk::Walked;
 use crate::walk::variable_at;
 use crate::walk::walk;
 use word::Word;
-ghost use Prim.Native.Nat.{_<_};
+ghost use mathlib.Core.List.{List};
+ghost use Prim.Native.Nat.{ℕ, _<_};
 ghost use Rattle.rules.specs.Syntax.{Term};
 ghost use Rattle.semantics.specs.Substitution.{Substitution};
 ghost use Rattle.semantics.specs.Unify.{look, unify-terms};
 ghost use Rattle.engine.specs.Reference.{Stands};
+ghost use Rattle.engine.specs.Walk.{IsNode};
 ghost use Rattle.engine.specs.Unify.{ComparedAs, Meets, MetAs, UnifiedAs};
 
 // What two followed terms come to: a variable is to be bound to a term, or the parts (first and second of the left, then of the right) are to be equal.
@@ -41,12 +43,12 @@ pub enum Unified {
 }
 
 // Two followed terms are looked at.
-fn compare(program: &[u32], left: u32, right: u32) -> Compared
-    requires { ⌜ ((u : Term) × (v : Term) × Stands (now program) left u × Stands (now program) right v) ⌝ }
-    ensures { λ r. ⌜ ((u v : Term) → Stands (now (program .entry)) left u → Stands (now (program .entry)) right v → ComparedAs (now (program .entry)) (look u v) r) ⌝ }
+fn compare(a: Walked, b: Walked) -> Compared
+    requires { ⌜ ((ws : List ℕ) × (u : Term) × (v : Term) × IsNode ws a × IsNode ws b × Stands ws (a .at) u × Stands ws (b .at) v) ⌝ }
+    ensures { λ r. ⌜ ((ws : List ℕ) (u v : Term) → IsNode ws a → IsNode ws b → Stands ws (a .at) u → Stands ws (b .at) v → ComparedAs ws (look u v) r) ⌝ }
 {
-    let a = node_at(program, left);
-    let b = node_at(program, right);
+    let left = a.at;
+    let right = b.at;
     let a_kind = a.kind;
     let b_kind = b.kind;
     let a_payload = a.payload;
@@ -88,7 +90,7 @@ fn meet(program: &[u32], scratch: &mut [u32], left: u32, right: u32, trail: u32,
 {
     let a = walk(program, scratch, left);
     let b = walk(program, scratch, right);
-    match compare(program, a, b) {
+    match compare(a, b) {
         Compared::Fails => Met::Fails(steps - 1),
         Compared::Agrees => Met::Goes(trail, steps - 1),
         Compared::Parts(c, d, e, f) => Met::Parts(c, d, e, f),

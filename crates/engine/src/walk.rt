@@ -7,7 +7,7 @@ ghost use lib.ListN.{length};
 ghost use Rattle.rules.specs.Syntax.{Term};
 ghost use Rattle.semantics.specs.Substitution.{Substitution, walk};
 ghost use Rattle.engine.specs.Reference.{base-of, pos-of, Stands};
-ghost use Rattle.engine.specs.Walk.{NodeAt, Follows};
+ghost use Rattle.engine.specs.Walk.{NodeAt, IsNode, Follows};
 
 // The word at a reference.
 pub struct Node {
@@ -45,20 +45,34 @@ pub(crate) fn part_end(reference: u32, size: u32) -> u32
     reference % ENVIRONMENT + 1 + size
 }
 
+// A term that was followed: its reference, and the word there, so that it is read once.
+pub struct Walked {
+    pub at: u32,
+    pub bits: u32,
+    pub kind: u32,
+    pub payload: u32,
+}
+
 // The term, followed through the bindings: up to an atom, a pair or an open variable.
-pub(crate) fn walk(program: &[u32], scratch: &[u32], term: u32) -> u32
+pub(crate) fn walk(program: &[u32], scratch: &[u32], term: u32) -> Walked
     requires { ⌜ ((bs : Substitution) × (t : Term) × Follows (now program) (now scratch) bs term t) ⌝ }
-    ensures { λ r. ⌜ ((bs : Substitution) (t : Term) → Follows (now (program .entry)) (now (scratch .entry)) bs term t → Stands (now (program .entry)) r (walk bs t)) ⌝ }
+    ensures { λ r. ⌜ IsNode (now (program .entry)) r × ((bs : Substitution) (t : Term) → Follows (now (program .entry)) (now (scratch .entry)) bs term t → Stands (now (program .entry)) (r .at) (walk bs t)) ⌝ }
 {
     let mut at = term;
     loop {
         let node = node_at(program, at);
+        let here = Walked {
+            at,
+            bits: node.bits,
+            kind: node.kind,
+            payload: node.payload,
+        };
         if node.kind != Word::VARIABLE {
-            return at;
+            return here;
         }
         let entry = scratch[variable_at(at, node.payload) as usize];
         if entry == 0 {
-            return at;
+            return here;
         }
         at = entry - 1;
     }

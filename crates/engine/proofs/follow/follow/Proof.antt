@@ -7,43 +7,38 @@ use Rattle.engine.proofs.follow.follow.Statement.{statement}
 use Rattle.engine.proofs.follow.follow.Tie as tie
 use Rattle.engine.proofs.follow.follow.Reads as reads
 use Rattle.engine.proofs.follow.follow.Lts as lts
-use Rattle.engine.proofs.walk.node_at.Reads as node-at-reads
 use Rattle.engine.proofs.walk.variable_at.Reads as variable-at-reads
 use Rattle.engine.proofs.walk.walk.Reads as walk-reads
 
 walk-requires : tie.Need-walk-requires
 walk-requires c κs = let h = c .before .before .pre .1 in (h .bindings, h .term, h .follows)
 
-node-at-requires : tie.Need-node-at-requires
-node-at-requires c κs = walked-inside (c .before .before .before .pre .1) (c .walk .ensures)
-
 variable-at-requires : tie.Need-variable-at-requires
 variable-at-requires c κs = search needs
 
 returns : tie.Need-returns
-returns c = λ t h. shaped-open h (c .before .before .before .walk .ensures) (c .before .before .node-at .ensures) (c .variable-at .ensures) (c .before .if1 .taken)
+returns c = λ t h. shaped-open h (c .before .before .walk .ensures .1) (c .before .before .walk .ensures .0) (c .variable-at .ensures) (c .before .if1 .taken)
 
 add-t10 : tie.Need-add-t10
-add-t10 c = omega (arith, walked-below (c .before .before .before .before .before .before .pre .1) (c .before .before .before .walk .ensures))
+add-t10 c = omega (arith, walked-below (c .before .before .before .before .before .pre .1) (c .before .before .walk .ensures .1))
 
 add-t11 : tie.Need-add-t11
-add-t11 c = omega (arith, walked-below (c .before .before .before .before .before .before .pre .1) (c .before .before .before .walk .ensures))
+add-t11 c = omega (arith, walked-below (c .before .before .before .before .before .pre .1) (c .before .before .walk .ensures .1))
 
 add-t12 : tie.Need-add-t12
-add-t12 c = omega (arith, walked-below (c .before .before .before .before .before .before .pre .1) (c .before .before .before .walk .ensures), c .before .before .node-at .ensures .is-payload)
+add-t12 c = omega (arith, walked-below (c .before .before .before .before .before .pre .1) (c .before .before .walk .ensures .1), c .before .before .walk .ensures .0 .is-payload)
 
 returns-2 : tie.Need-returns-2
-returns-2 c = λ t h. shaped-pair h (c .before .before .before .walk .ensures) (c .before .before .node-at .ensures) (c .if2 .taken)
+returns-2 c = λ t h. shaped-pair h (c .before .before .walk .ensures .1) (c .before .before .walk .ensures .0) (c .if2 .taken)
 
 returns-3 : tie.Need-returns-3
-returns-3 c = λ t h. shaped-leaf h (c .before .before .before .walk .ensures) (c .before .before .node-at .ensures) (c .before .if1 .left) (c .if2 .left)
+returns-3 c = λ t h. shaped-leaf h (c .before .before .walk .ensures .1) (c .before .before .walk .ensures .0) (c .before .if1 .left) (c .if2 .left)
 
 pub follow-spec : {M : Type 1} → statement M
 follow-spec =
     tie.close
     (tie.spec
     walk-requires
-    node-at-requires
     variable-at-requires
     returns
     add-t10

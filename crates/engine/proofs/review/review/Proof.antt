@@ -1,8 +1,18 @@
 -- `review` goes by the kind of the constraint's word.
-use Rattle.engine.proofs.ReviewSteps.{differ-at, absento-at, typed-at, symbols-are, numbers-are, review-none, review-differ, review-absento, review-typed}
+use Prim.Native.Nat.{ℕ}
+use mathlib.Core.Path.{_≡_, _∙_}
+use mathlib.Core.List.{List}
+use mathlib.Core.Logic.{⊎-elim}
+use Rattle.rules.specs.Syntax.{Constraint}
+use Rattle.engine.specs.Review.{atom-kind, other-kind}
+use Rattle.engine.proofs.ReviewSteps.{TypedAt, differ-at, absento-at, typed-at, symbols-are, numbers-are, review-none, review-differ, review-absento, review-typed}
 use borrow.Author.Needs.{needs}
 use Rattle.engine.proofs.review.review.Statement.{statement}
 use Rattle.engine.proofs.review.review.Tie as tie
+
+-- where both kinds of type meet, the atom sought and the other type are those of the constraint
+kinds-are : (j : tie.Joined4) {ws : List ℕ} {w : ℕ} {d : Constraint} (q : TypedAt ws w d (j .before .before .before .node-at .result .kind)) → (j .if4 .atom ≡ atom-kind (q .sort)) × (j .if4 .other ≡ other-kind (q .sort))
+kinds-are j q = ⊎-elim (λ w. let s = symbols-are q (w .0 .taken) in (w .1 ∙ s .0, w .2 ∙ s .1)) (λ w. let s = numbers-are q (w .0 .left) in (w .1 ∙ s .0, w .2 ∙ s .1)) (j .if4 .came)
 
 returns : tie.Need-returns
 returns c = λ bs cs d h k. review-none h d (c .before .before .before .args .steps) (c .if1 .taken)
@@ -46,27 +56,14 @@ add-review-type : tie.Need-add-review-type
 add-review-type c = search needs
 
 review-type-requires : tie.Need-review-type-requires
-review-type-requires c κs = let p = c .before .before .before .before .before .before .before .before .pre in let q = typed-at (c .before .before .before .before .node-at .ensures) (p .2) (p .4) (c .before .before .before .if2 .left) (c .before .before .if3 .left) in let s = symbols-are q (c .before .if4 .taken) in (p .0, p .1, q .sort, q .term, p .3, q .stands, s .0, s .1)
+review-type-requires c κs = let p = c .before .before .before .before .before .before .before .before .pre in let q = typed-at (c .before .before .before .before .node-at .ensures) (p .2) (p .4) (c .before .before .before .if2 .left) (c .before .before .if3 .left) in let s = kinds-are (c .before) q in (p .0, p .1, q .sort, q .term, p .3, q .stands, s .0, s .1)
 
 same-length-3 : tie.Need-same-length-3
 same-length-3 c = search needs
 
 returns-4 : tie.Need-returns-4
-returns-4 c = λ bs cs d h k. let q = typed-at (c .before .before .before .before .before .node-at .ensures) d k (c .before .before .before .before .if2 .left) (c .before .before .before .if3 .left) in let s = symbols-are q (c .before .before .if4 .taken) in
+returns-4 c = λ bs cs d h k. let q = typed-at (c .before .before .before .before .before .node-at .ensures) d k (c .before .before .before .before .if2 .left) (c .before .before .before .if3 .left) in let s = kinds-are (c .before .before) q in
     review-typed h d (c .before .before .before .before .before .before .before .before .before .args .steps) (c .before .before .before .before .before .before .if1 .left) (q .sort) (q .term) (q .is) _ (c .review-type .ensures bs cs (q .sort) (q .term) h (q .stands) (s .0) (s .1))
-
-add-review-type-2 : tie.Need-add-review-type-2
-add-review-type-2 c = search needs
-
-review-type-requires-2 : tie.Need-review-type-requires-2
-review-type-requires-2 c κs = let p = c .before .before .before .before .before .before .before .before .pre in let q = typed-at (c .before .before .before .before .node-at .ensures) (p .2) (p .4) (c .before .before .before .if2 .left) (c .before .before .if3 .left) in let s = numbers-are q (c .before .if4 .left) in (p .0, p .1, q .sort, q .term, p .3, q .stands, s .0, s .1)
-
-same-length-4 : tie.Need-same-length-4
-same-length-4 c = search needs
-
-returns-5 : tie.Need-returns-5
-returns-5 c = λ bs cs d h k. let q = typed-at (c .before .before .before .before .before .node-at .ensures) d k (c .before .before .before .before .if2 .left) (c .before .before .before .if3 .left) in let s = numbers-are q (c .before .before .if4 .left) in
-    review-typed h d (c .before .before .before .before .before .before .before .before .before .args .steps) (c .before .before .before .before .before .before .if1 .left) (q .sort) (q .term) (q .is) _ (c .review-type2 .ensures bs cs (q .sort) (q .term) h (q .stands) (s .0) (s .1))
 
 pub review-spec : {M : Type 1} → statement M
 review-spec =
@@ -87,8 +84,4 @@ review-spec =
     add-review-type
     review-type-requires
     same-length-3
-    returns-4
-    add-review-type-2
-    review-type-requires-2
-    same-length-4
-    returns-5)
+    returns-4)

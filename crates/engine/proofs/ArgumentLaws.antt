@@ -1,23 +1,23 @@
 -- The arguments of a call: past a term, to the last variable on an argument's way, and parameters bound one after the other.
-use Prim.Native.Nat.{ℕ, zero, suc, _+_, _*_, _-_, _≤_, _<_}
-use mathlib.Core.Path.{_≡_, refl, sym, ap, subst, subst₂, _∙_}
+use Prim.Native.Nat.{ℕ, zero, suc, _+_, _-_, _≤_, _<_}
+use mathlib.Core.Path.{_≡_, refl, sym, ap, subst, _∙_}
 use mathlib.Core.Option.{Option, Option·some-injective, none, some}
-use mathlib.Core.List.{List, [], _∷_, _++_, append-assoc}
+use mathlib.Core.List.{List, [], _∷_}
 use native.Mathlib.Omega.{arith}
-use lib.ListN.{length, length-append}
+use lib.ListN.{length}
 use Rattle.word.specs.Word.{kind}
-use Rattle.rules.specs.Syntax.{Atom, Term, var, atom, pair, Constraint}
-use Rattle.rules.specs.Reading.{kind-at, payload-at}
-use Rattle.semantics.specs.Substitution.{shift, Substitution, lookup, last-variable, argument}
+use Rattle.rules.specs.Syntax.{Term, var, atom, pair}
+use Rattle.rules.specs.Reading.{payload-at}
+use Rattle.semantics.specs.Substitution.{shift, Substitution, lookup, argument}
 use Rattle.semantics.specs.Path.{bind-params}
 use Rattle.semantics.specs.Shows.{Each}
-use Rattle.semantics.proofs.Basics.{clash, each-map}
-use Rattle.semantics.proofs.SubstitutionLaws.{Good, Last, last-here, last-some, in-open}
+use Rattle.semantics.proofs.Basics.{each-map}
+use Rattle.semantics.proofs.SubstitutionLaws.{Last, last-here, last-some, in-open}
 use Rattle.semantics.proofs.TermLaws.{TermIn, term-more}
-use Rattle.semantics.proofs.Sound.{Sound, sound-call, argument-in}
-use Rattle.engine.specs.Reference.{at, AtomIs, TermAt, TermsAt, refer, pos-of, base-of, Vars, Stands}
+use Rattle.semantics.proofs.Sound.{sound-call}
+use Rattle.engine.specs.Reference.{at, TermAt, TermsAt, refer, pos-of, base-of, Vars, Stands}
 use Rattle.engine.specs.Memory.{Bound, Entry, BindingsIn, bound}
-use Rattle.engine.specs.Walk.{NodeAt, Binds, Follows}
+use Rattle.engine.specs.Walk.{NodeAt, Follows}
 use Rattle.engine.specs.Calling.{Passing, Passed}
 use Rattle.engine.specs.Trail.{Apart}
 use Rattle.semantics.proofs.TermLaws.{term-size}

@@ -1,17 +1,16 @@
 -- Backtracking, as the code does it: one law for each way in which `back` returns, and what it needs on the way.
-use Prim.Native.Nat.{ℕ, zero, suc, _+_, _-_, _*_, _≤_, _<_}
+use Prim.Native.Nat.{ℕ, suc, _+_, _-_, _≤_, _<_}
 use mathlib.Core.Path.{_≡_, refl, sym, ap, subst, _∙_}
 use mathlib.Core.List.{List, [], _∷_}
 use native.Mathlib.Omega.{arith}
 use lib.ListN.{length, set, length-set}
 use lib.Seq.{getD-set-other}
 use Rattle.rules.specs.Syntax.{Goals, one, more, Program}
-use Rattle.rules.specs.Reading.{after}
 use Rattle.semantics.specs.Substitution.{Substitution}
 use Rattle.semantics.specs.Path.{Path, ChoicePoint, waiting-on}
 use Rattle.semantics.specs.Round.{Tally, back}
-use Rattle.engine.specs.Reference.{at, pos-of, beyond, TaskAt, RestAt}
-use Rattle.engine.specs.Memory.{Registers, point-at, saved, Stored}
+use Rattle.engine.specs.Reference.{at, pos-of}
+use Rattle.engine.specs.Memory.{point-at, saved, Stored}
 use Rattle.engine.specs.Walk.{NodeAt}
 use Rattle.engine.specs.Trail.{Trailed, Undone}
 use Rattle.engine.specs.Taking.{registers, Holds, BackAs, resumed}

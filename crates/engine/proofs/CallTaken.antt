@@ -6,7 +6,7 @@ use mathlib.Core.Option.{some}
 use mathlib.Core.List.{List, [], _∷_, _++_, append-assoc}
 use native.Mathlib.Omega.{arith}
 use lib.Dec.{ltb, leb}
-use lib.ListN.{length, getElem?, length-append}
+use lib.ListN.{length, getElem?}
 use borrow.Author.Tests.{lt-ltb, le-ltb, le-leb, lt-leb}
 use Rattle.rules.specs.Syntax.{Term, call, Relation, Program}
 use Rattle.rules.specs.Reading.{after}
@@ -14,10 +14,9 @@ use Rattle.semantics.specs.Substitution.{shift, Substitution, argument}
 use Rattle.semantics.specs.Path.{Path, ChoicePoint, bound-to, bind-params, called, take-call}
 use Rattle.semantics.specs.Shows.{Each}
 use Rattle.semantics.proofs.TermLaws.{TermIn, TermsIn, shift-in}
-use Rattle.semantics.proofs.Sound.{Sound}
-use Rattle.semantics.proofs.Programs.{CallIn, RelationIn}
-use Rattle.engine.specs.Reference.{at, TermsAt, pos-of, base-of, TaskAt}
-use Rattle.engine.specs.Memory.{Registers, BindingsIn, TableIn, Stored, cell}
+use Rattle.semantics.proofs.Programs.{RelationIn}
+use Rattle.engine.specs.Reference.{at, pos-of, base-of, TaskAt}
+use Rattle.engine.specs.Memory.{Registers, TableIn, Stored, cell}
 use Rattle.engine.specs.Walk.{NodeAt}
 use Rattle.engine.specs.Taking.{registers, Ready, TookAs, one-waits, RelationIs}
 use Rattle.engine.specs.Calling.{Passing, Passed}

@@ -1,18 +1,14 @@
 -- From stored words to a longer path: what may be claimed of words that are there, and the stores that put them there.
-use Prim.Native.Nat.{ℕ, zero, suc, _+_, _*_, _-_, _≤_, _<_}
-use mathlib.Core.Path.{_≡_, refl, sym, ap, subst, subst₂, _∙_}
-use mathlib.Core.Logic.{_≢_}
-use mathlib.Core.Option.{Option, none, some}
-use mathlib.Core.List.{List, [], _∷_, _++_, append-assoc, append-nil}
+use Prim.Native.Nat.{ℕ, suc, _+_, _-_, _≤_, _<_}
+use mathlib.Core.Path.{_≡_, refl, sym, ap, subst, _∙_}
+use mathlib.Core.List.{List, [], _∷_, append-nil}
 use native.Mathlib.Omega.{arith}
-use lib.ListN.{length, getD, set, length-set, length-append}
-use lib.Seq.{sets, length-sets, getD-set-same, getD-set-other}
-use Rattle.rules.specs.Syntax.{Term, Constraint, Goal, Goals, Program}
-use Rattle.semantics.specs.Substitution.{Substitution, lookup}
+use lib.ListN.{length}
+use Rattle.rules.specs.Syntax.{Goal, Goals, Program}
 use Rattle.semantics.specs.Path.{Task, Path, ChoicePoint, waiting-on}
-use Rattle.engine.specs.Reference.{at, TaskAt, RestAt, KeepsAt, Stands}
+use Rattle.engine.specs.Reference.{at, TaskAt, RestAt}
 use Rattle.engine.proofs.StoredLaws.{choices-grown}
-use Rattle.engine.specs.Memory.{trail-at, goal-at, next-at, point-at, kept-at, Registers, saved, TrailIn, BindingsIn, CellIn, TasksIn, KeptIn, PathIn, Grown, ChoiceIn, ChoicesIn, Roomy, Stored, bound, unwound, cell, point}
+use Rattle.engine.specs.Memory.{goal-at, next-at, point-at, Registers, saved, BindingsIn, TasksIn, KeptIn, PathIn, Grown, ChoiceIn, Roomy, Stored, cell, point}
 
 -- paths that have grown
 pub grown-same : (p : Path) → Grown p p
@@ -116,7 +112,3 @@ module _ {P : Program} {ws s : List ℕ} {r : Registers} {n : ℕ} (p : Path) {c
             (h .bindings-in) (h .kept-in)
             (record { tasks = m .tasks .1; trail = m .trail; made = m .made; put = m .put; kept = m .kept; calls = m .calls }) h,
       )
-
-  -- no goal waits
-  pub empty-head : Stored P ws s r n (waiting-on p [] (p .put)) cs → r .head ≡ 0
-  empty-head h = h .path-in .tasks

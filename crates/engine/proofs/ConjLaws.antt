@@ -1,20 +1,17 @@
 -- A conjunction on words: its goals in a row of cells, written in order, each linked to the next and the last to the old head.
-use Prim.Native.Nat.{ℕ, zero, suc, _+_, _*_, _-_, _≤_, _<_}
-use mathlib.Core.Path.{_≡_, refl, sym, ap, subst, _∙_}
+use Prim.Native.Nat.{ℕ, suc, _+_, _*_, _-_, _≤_, _<_}
+use mathlib.Core.Path.{_≡_, refl, ap, subst, _∙_}
 use mathlib.Core.Logic.{_≢_}
-use mathlib.Core.Bool.{Bool, true, false}
 use mathlib.Core.List.{List, [], _∷_, _++_}
 use native.Mathlib.Omega.{arith}
-use lib.Dec.{eqb}
 use lib.ListN.{length, getD, set, length-set, length-append}
 use lib.Seq.{getD-set-same, getD-set-other}
-use borrow.Author.Tests.{eq-eqb, ne-eqb}
 use Rattle.rules.specs.Syntax.{Goal, Goals, one, more, Program, Constraint}
 use Rattle.semantics.specs.Path.{Task, Path, ChoicePoint, waiting-on, keeping, goals-count, wait-all}
 use Rattle.rules.specs.Reading.{after}
-use Rattle.engine.specs.Reference.{at, beyond, pos-of, TaskAt, RestAt, KeepsAt}
+use Rattle.engine.specs.Reference.{at, beyond, pos-of, RestAt, KeepsAt}
 use Rattle.engine.proofs.GoalLaws.{Then, task-one, task-more}
-use Rattle.engine.specs.Memory.{goal-at, next-at, kept-at, Registers, CellIn, TasksIn, KeptIn, PathIn, Roomy, Stored, cell}
+use Rattle.engine.specs.Memory.{goal-at, next-at, kept-at, Registers, CellIn, TasksIn, KeptIn, Stored, cell}
 use Rattle.engine.specs.Trail.{Same}
 use Rattle.engine.proofs.FrameLaws.{Untouched, frame, store}
 use Rattle.engine.proofs.ClaimLaws.{stays, claim, constrained, tasks-more}

@@ -1,5 +1,5 @@
 -- Taking a conjunction, as the code does it: one law for each way in which `take_conj` returns or goes on.
-use Prim.Native.Nat.{ℕ, suc, _+_, _*_, _≤_, _<_}
+use Prim.Native.Nat.{ℕ, _+_, _≤_, _<_}
 use mathlib.Core.Path.{_≡_, refl, sym, ap, subst, _∙_}
 use mathlib.Core.Bool.{true, false}
 use mathlib.Core.List.{List}
@@ -8,18 +8,17 @@ use lib.Dec.{leb}
 use lib.ListN.{length, set}
 use borrow.Author.Tests.{le-leb, lt-leb}
 use Rattle.rules.specs.Syntax.{Goals, conj, Program}
-use Rattle.rules.specs.Reading.{after}
 use Rattle.semantics.specs.Path.{Task, Path, ChoicePoint, goals-count, take-conj, waiting-on, wait-all}
-use Rattle.engine.specs.Reference.{pos-of, beyond, TaskAt, RestAt}
-use Rattle.engine.specs.Memory.{goal-at, Registers, Stored, cell}
+use Rattle.engine.specs.Reference.{pos-of, TaskAt, RestAt}
+use Rattle.engine.specs.Memory.{goal-at, Stored, cell}
 use Rattle.engine.specs.Walk.{NodeAt}
-use Rattle.engine.specs.Taking.{registers, Holds, Taking, TookAs}
+use Rattle.engine.specs.Taking.{Taking, TookAs}
 use Rattle.engine.specs.declared.state.State.{State}
 use Rattle.engine.specs.declared.Bound.the-variants.{Goals as GoalsBound}
 use Rattle.engine.specs.declared.state.Stop.the-variants.{Path as PathLimit}
 use Rattle.engine.specs.declared.state.Way.the-variants.{Goes, Stops}
 use Rattle.engine.proofs.GoalLaws.{conj-rest}
-use Rattle.engine.proofs.ConjLaws.{Lining, lining-start, lining-next, lining-full, lining-last, lining-more, lined-up, conj-all, Next, Rowed}
+use Rattle.engine.proofs.ConjLaws.{Lining, lining-start, lining-full, lining-last, lining-more, conj-all, Rowed}
 
 -- the two stores of a cell as the code writes them
 pub cell-stores : (s : List ℕ) (h w next : ℕ) → set (set s (goal-at h) w) (goal-at h + 1) next ≡ cell s h w next

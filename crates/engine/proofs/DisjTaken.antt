@@ -1,19 +1,16 @@
 -- Taking a disjunction, as the code does it: one law for each way in which `take_disj` returns.
-use Prim.Native.Nat.{ℕ, suc, _+_, _*_, _≤_, _<_}
-use mathlib.Core.Path.{_≡_, refl, sym, ap, ap₂, subst, _∙_}
+use Prim.Native.Nat.{ℕ, suc, _+_, _≤_, _<_}
+use mathlib.Core.Path.{_≡_, refl, sym, ap, subst, _∙_}
 use mathlib.Core.Bool.{true, false}
-use mathlib.Core.List.{List, [], _∷_}
+use mathlib.Core.List.{List}
 use native.Mathlib.Omega.{arith}
-use native.Mathlib.Numerals.{add-one}
 use lib.Dec.{leb}
 use lib.ListN.{length, set, length-set}
-use lib.Seq.{sets}
 use borrow.Author.Tests.{le-leb, lt-leb}
 use Rattle.rules.specs.Syntax.{Goals, one, more, disj, Program}
-use Rattle.rules.specs.Reading.{after}
-use Rattle.semantics.specs.Path.{Path, ChoicePoint, take-disj, waiting-on}
-use Rattle.engine.specs.Reference.{pos-of, beyond, TaskAt, RestAt}
-use Rattle.engine.specs.Memory.{Registers, point-at, Stored, cell, point}
+use Rattle.semantics.specs.Path.{Path, ChoicePoint, take-disj}
+use Rattle.engine.specs.Reference.{pos-of, RestAt}
+use Rattle.engine.specs.Memory.{Registers, point-at, cell, point}
 use Rattle.engine.specs.Walk.{NodeAt}
 use Rattle.engine.specs.Taking.{registers, Taking, TookAs, one-waits, one-choice-more}
 use Rattle.engine.specs.declared.state.State.{State}
@@ -22,7 +19,7 @@ use Rattle.engine.specs.declared.state.Stop.the-variants.{Path as PathLi
 use Rattle.engine.specs.declared.state.Way.the-variants.{Goes, Stops}
 use Rattle.engine.proofs.GoalLaws.{disj-rest, task-one, task-more}
 use Rattle.engine.proofs.StepLaws.{disj-one, disj-more}
-use Rattle.engine.proofs.ConjLaws.{Next, next-goal}
+use Rattle.engine.proofs.ConjLaws.{next-goal}
 
 -- the eight stores of a choice point as the code writes them
 pub point-stores : (s : List ℕ) (n w to : ℕ) (r : Registers)

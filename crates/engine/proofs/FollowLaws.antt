@@ -9,12 +9,11 @@ use Rattle.rules.specs.Syntax.{Atom, symbol, number, empty, Term, var, atom, pa
 use Rattle.rules.specs.Written.{atom-word}
 use Rattle.semantics.specs.Substitution.{Substitution, resolve, walk}
 use Rattle.semantics.proofs.SubstitutionLaws.{Seen, walk-seen}
-use Rattle.engine.specs.Reference.{at, pos-of, base-of, AtomIs, Stands}
-use Rattle.engine.specs.Walk.{NodeAt, Binds, Follows}
+use Rattle.engine.specs.Reference.{at, base-of, AtomIs, Stands}
+use Rattle.engine.specs.Walk.{NodeAt, Follows}
 use Rattle.engine.specs.Follow.{Resolves, Shaped}
-use Rattle.engine.specs.Trail.{Same}
 use Rattle.engine.specs.declared.follow.Shape.the-variants.{Open, Atom as Leaf, Pair}
-use Rattle.engine.proofs.ReferenceLaws.{atom-low, parts, stands-inside}
+use Rattle.engine.proofs.ReferenceLaws.{atom-low, parts}
 use Rattle.engine.proofs.FrameLaws.{bindings-same}
 use Rattle.engine.proofs.TrailLaws.{fresh-few}
 
@@ -30,9 +29,6 @@ atom-bits v empty h = omega (arith, h .0, h .1)
 module _ {ws s : List ℕ} {w v : ℕ} {r : Term} (h : Resolves ws s w r) (told : Walked ws s w v) where
   there : Stands ws v (walk (h .bindings) (h .term))
   there = told (h .bindings) (h .term) (h .follows)
-
-  pub walked-inside : pos-of v < length ws
-  walked-inside = stands-inside there
 
   pub walked-below : v < 33570816
   walked-below = there .below

@@ -7,7 +7,7 @@ use lib.ListN.{length}
 use Rattle.rules.specs.Syntax.{Term, var, atom, pair, Constraint, differ, typed, absento, Goal, Goals, one, more, constrain, conj, disj}
 use Rattle.rules.specs.Reading.{kind-at, after}
 use Rattle.semantics.specs.Substitution.{shift, shift-constraint}
-use Rattle.engine.specs.Reference.{TermAt, ConstraintAt, GoalAt, GoalsAt, pos-of, base-of, beyond, TaskAt, RestAt, VarsC, KeepsAt}
+use Rattle.engine.specs.Reference.{TermAt, ConstraintAt, GoalsAt, pos-of, base-of, beyond, TaskAt, RestAt, VarsC, KeepsAt}
 use Rattle.engine.proofs.ReferenceLaws.{pos-plus, base-plus, pos-beyond, base-beyond}
 
 -- a sequence has a goal at least

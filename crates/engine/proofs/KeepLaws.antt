@@ -1,23 +1,22 @@
 -- A trial's equations kept: halves of words, and one binding after the other taken back.
-use Prim.Native.Nat.{ℕ, zero, suc, _+_, _*_, _%_, _/_, _-_, _<_, _≤_}
+use Prim.Native.Nat.{ℕ, _+_, _*_, _%_, _/_, _-_, _<_, _≤_}
 use mathlib.Core.Path.{_≡_, refl, sym, ap, subst, _∙_}
-use mathlib.Core.Bool.{Bool, true, false}
 use mathlib.Core.Option.{some}
 use mathlib.Core.List.{List, [], _∷_, _++_, reverse, reverseAux}
 use native.Mathlib.Omega.{arith}
 use lib.Dec.{eqb}
 use lib.ListN.{length, set, length-set, length-append}
 use lib.Seq.{getD-set-same, getD-set-other}
-use borrow.Author.Tests.{eq-eqb, ne-eqb}
+use borrow.Author.Tests.{eq-eqb}
 use Rattle.rules.specs.Syntax.{Term}
 use Rattle.semantics.specs.Substitution.{Substitution, lookup}
 use Rattle.semantics.proofs.Basics.{compared, same, other}
 use Rattle.semantics.proofs.SubstitutionLaws.{lookup-same}
 use Rattle.engine.specs.Reference.{at, Stands}
-use Rattle.engine.specs.Memory.{Bound, Entry, TrailIn, Fresh, BindingsIn}
-use Rattle.engine.specs.Trail.{Same, Trailed, Apart}
+use Rattle.engine.specs.Memory.{Bound, Entry, BindingsIn}
+use Rattle.engine.specs.Trail.{Trailed, Apart}
 use Rattle.engine.specs.Lines.{half}
-use Rattle.engine.specs.Keep.{HalfSet, Keeps, Kept, AllKept}
+use Rattle.engine.specs.Keep.{HalfSet, Kept, AllKept}
 use Rattle.engine.proofs.FrameLaws.{bindings-same}
 use Rattle.engine.proofs.TrailLaws.{fresh-few, unbind-in, apart-same, apart-trans}
 use Rattle.engine.proofs.LineLaws.{half-low, half-high}

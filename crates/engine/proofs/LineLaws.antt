@@ -1,30 +1,27 @@
 -- Lines put: one law for each way in which the code returns or goes on.
-use Prim.Native.Nat.{ℕ, zero, suc, _+_, _*_, _%_, _/_, _-_, _<_, _≤_}
+use Prim.Native.Nat.{ℕ, suc, _+_, _%_, _/_, _-_, _<_, _≤_}
 use mathlib.Core.Path.{_≡_, refl, sym, ap, ap₂, subst, _∙_}
-use mathlib.Core.Bool.{Bool, true, false, _&&_, true≢false}
+use mathlib.Core.Bool.{Bool, true, false, _&&_}
 use mathlib.Core.List.{List, [], _∷_, _++_, append-assoc, append-nil}
 use native.Mathlib.Omega.{arith}
 use lib.Dec.{eqb}
-use lib.ListN.{length, length-append}
+use lib.ListN.{length}
 use borrow.Author.Tests.{eq-eqb, ne-eqb}
 use Rattle.word.specs.Word.{word}
 use Rattle.rules.specs.Syntax.{Atom, Term, var, atom, pair, Sort, symbols, numbers}
 use Rattle.rules.specs.Written.{part, term-words, goal-words, goals-words, sort-kind, atom-word}
-use Rattle.rules.proofs.Stands.{term-some}
 use Rattle.semantics.specs.Answer.{member, index, reify, vars-in, reify-bindings, differ-goals, bindings-in, line-in, line-words, Line, is-sort, lacks, not-all}
 use Rattle.semantics.proofs.Basics.{clash, and-true}
-use Rattle.semantics.proofs.TermLaws.{term-size}
 use Rattle.engine.specs.Reference.{at}
-use Rattle.engine.specs.Follow.{Resolves}
 use Rattle.engine.specs.Names.{Names}
-use Rattle.engine.specs.Put.{Touched, Laid, Missing, Placed, all-laid, some-missing}
+use Rattle.engine.specs.Put.{Laid, Placed, all-laid, some-missing}
 use Rattle.engine.specs.Lines.{half, Equation, Equations, equation-words, equations-words, LineAs, as-sort, as-lacks, as-differ}
 use Rattle.engine.specs.declared.line.Listed.{Listed}
 use Rattle.engine.specs.declared.line.Listed.the-variants.{Typed, Lacks, Differ}
 use Rattle.engine.specs.declared.put.Put.{Put}
 use Rattle.engine.specs.declared.put.Put.the-variants.{End, Missed}
 use Rattle.engine.proofs.NameLaws.{has-name, no-name}
-use Rattle.engine.proofs.PutLaws.{laid-of, missing-of, missing-inner, laid-none, laid-then, missing-then, placed-then, missed-part, missing-end, missing-more, placed-long}
+use Rattle.engine.proofs.PutLaws.{laid-of, missing-of, missing-inner, laid-none, laid-then, missing-then, placed-then, missed-part, missing-end, missing-more}
 
 pub half-low : (s : List ℕ) (i : ℕ) → i % 2 ≡ 0 → at s (10752 + i / 2) % 65536 ≡ half s i
 unfolding half

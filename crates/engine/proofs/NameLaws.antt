@@ -1,21 +1,20 @@
 -- Names: the words of the area, by the list of names.
-use Prim.Native.Nat.{ℕ, zero, suc, _+_, _*_, _%_, _/_, _-_, _<_, _≤_}
-use mathlib.Core.Path.{_≡_, refl, sym, ap, subst, _∙_}
+use Prim.Native.Nat.{ℕ, suc, _+_, _%_, _-_, _<_, _≤_}
+use mathlib.Core.Path.{_≡_, refl, sym, ap, _∙_}
 use mathlib.Core.Bool.{Bool, true, false, _||_, false≢true}
 use mathlib.Core.Option.{none}
 use mathlib.Core.List.{List, [], _∷_, _++_}
 use native.Mathlib.Omega.{arith}
 use lib.Dec.{eqb}
-use lib.ListN.{length, set, length-set, length-append}
+use lib.ListN.{length, set, length-set}
 use lib.Seq.{getD-set-same, getD-set-other}
 use borrow.Author.Tests.{eq-eqb, ne-eqb, eqb-false}
 use Rattle.rules.specs.Reading.{choose}
-use Rattle.rules.specs.Syntax.{empty, Term, var, atom, pair}
+use Rattle.rules.specs.Syntax.{empty, var, atom}
 use Rattle.semantics.specs.Substitution.{Substitution, lookup}
 use Rattle.semantics.specs.Answer.{member, index, appear}
 use Rattle.semantics.proofs.Basics.{clash, compared, same, other, none-of, or-right, by-choose}
 use Rattle.semantics.proofs.SubstitutionLaws.{lookup-other}
-use Rattle.semantics.proofs.TermLaws.{term-size}
 use Rattle.engine.specs.Reference.{at}
 use Rattle.engine.specs.Memory.{Fresh}
 use Rattle.engine.specs.Trail.{Apart}

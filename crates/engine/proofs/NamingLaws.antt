@@ -1,22 +1,22 @@
 -- Naming the variables of a term, asking whether all have names, and taking names back: one law for each way in which the code returns or goes on.
-use Prim.Native.Nat.{ℕ, zero, suc, _+_, _*_, _%_, _/_, _-_, _<_, _≤_}
+use Prim.Native.Nat.{ℕ, suc, _+_, _%_, _/_, _-_, _<_, _≤_}
 use mathlib.Core.Path.{_≡_, refl, sym, ap, subst, _∙_}
 use mathlib.Core.Bool.{Bool, true, false, _&&_}
 use mathlib.Core.List.{List, [], _∷_, _++_}
 use native.Mathlib.Omega.{arith}
 use lib.ListN.{length, set, length-set, length-append}
 use lib.Seq.{getD-set-same, getD-set-other}
-use Rattle.rules.specs.Syntax.{Term, var, atom, pair}
-use Rattle.semantics.specs.Answer.{member, appear, vars-in}
-use Rattle.semantics.proofs.Basics.{clash, compared, same, other}
+use Rattle.rules.specs.Syntax.{Term, var, pair}
+use Rattle.semantics.specs.Answer.{appear, vars-in}
+use Rattle.semantics.proofs.Basics.{compared, same, other}
 use Rattle.semantics.proofs.TermLaws.{term-size}
 use Rattle.engine.specs.Reference.{at}
 use Rattle.engine.specs.Follow.{Resolves, Shaped}
-use Rattle.engine.specs.Names.{next-top, top-from, word-from, Names, Named}
+use Rattle.engine.specs.Names.{next-top, top-from, Names, Named}
 use Rattle.engine.specs.declared.follow.Shape.{Shape}
 use Rattle.engine.specs.declared.follow.Shape.the-variants.{Open, Atom as Leaf, Pair}
 use Rattle.engine.proofs.FollowLaws.{resolves-same}
-use Rattle.engine.proofs.NameLaws.{top-snoc, word-none, word-snoc-same, word-snoc-other, distinct-init, names-few, names-top, name-member, has-name, no-name, named-still, named-trans}
+use Rattle.engine.proofs.NameLaws.{top-snoc, word-none, word-snoc-same, word-snoc-other, distinct-init, names-few, has-name, no-name, named-still, named-trans}
 
 -- what `follow` tells
 abbrev pub Told : List ℕ → List ℕ → ℕ → Shape → Type 0

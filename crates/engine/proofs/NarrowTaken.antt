@@ -1,8 +1,8 @@
 -- Taking equalities and constraints, as the code does it: one law for each way in which `take_equal` and `take_constraint` return, and what they need on the way.
-use Prim.Native.Nat.{ℕ, zero, suc, _+_, _≤_, _<_}
+use Prim.Native.Nat.{ℕ, suc, _+_, _≤_, _<_}
 use mathlib.Core.Path.{_≡_, refl, sym, ap, subst, _∙_}
 use mathlib.Core.Bool.{Bool, true, false}
-use mathlib.Core.Option.{Option, none, some}
+use mathlib.Core.Option.{none, some}
 use mathlib.Core.List.{List, [], _∷_, _++_}
 use native.Mathlib.Omega.{arith}
 use lib.Dec.{eqb, leb}
@@ -14,11 +14,10 @@ use Rattle.semantics.specs.Substitution.{shift, shift-constraint, Substitution}
 use Rattle.semantics.specs.Steps.{Outcome, done, stop, no-steps, at-bound, waiting, and-then}
 use Rattle.semantics.specs.Unify.{unify-terms}
 use Rattle.semantics.specs.Review.{review, review-all}
-use Rattle.semantics.specs.Path.{Path, ChoicePoint, Taken, leaves, goes, bound-to, keeping, equal-taken, take-equal, take-constraint}
+use Rattle.semantics.specs.Path.{Path, ChoicePoint, leaves, goes, bound-to, keeping, take-equal, take-constraint}
 use Rattle.semantics.proofs.TermLaws.{TermIn, ConstraintIn, shift-in, shift-constraint-in}
-use Rattle.semantics.proofs.SubstitutionLaws.{Good}
 use Rattle.engine.specs.Reference.{TermAt, pos-of, base-of, Stands, TaskAt, VarsC, KeepsAt}
-use Rattle.engine.specs.Memory.{Registers, kept-at, Stored}
+use Rattle.engine.specs.Memory.{kept-at, Stored}
 use Rattle.engine.specs.Unify.{Meets, Went, UnifiedAs}
 use Rattle.engine.specs.Review.{Kept, review-says, ReviewedAs}
 use Rattle.engine.specs.Taking.{registers, Holds, Ready, TookAs, narrow, took-as, review-took}

@@ -1,5 +1,5 @@
 -- Words put one after the other: one law for each way in which the code returns or goes on.
-use Prim.Native.Nat.{ℕ, zero, suc, _+_, _*_, _%_, _/_, _-_, _<_, _≤_}
+use Prim.Native.Nat.{ℕ, _+_, _%_, _-_, _<_, _≤_}
 use mathlib.Core.Path.{_≡_, refl, sym, ap, ap₂, subst, _∙_}
 use mathlib.Core.Bool.{Bool, true, false, true≢false}
 use mathlib.Core.List.{List, [], _∷_, _++_, append-assoc}
@@ -9,7 +9,7 @@ use lib.Seq.{getD-set-same, getD-set-other}
 use Rattle.word.specs.Word.{word}
 use Rattle.rules.specs.Inner.{Stands as Spells}
 use Rattle.rules.proofs.Stands.{stands-at as spells-at, stands-append as spells-append, stands-split as spells-split, term-some}
-use Rattle.rules.specs.Syntax.{Term, var, atom, pair}
+use Rattle.rules.specs.Syntax.{Term, var, pair}
 use Rattle.rules.specs.Written.{part, term-words}
 use Rattle.semantics.specs.Answer.{member, index, reify, vars-in}
 use Rattle.semantics.proofs.Basics.{clash, and-true}

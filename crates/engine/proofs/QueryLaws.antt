@@ -7,10 +7,8 @@ use native.Mathlib.Omega.{arith}
 use Rattle.rules.specs.Syntax.{var}
 use Rattle.rules.specs.Written.{term-words, terms-words}
 use Rattle.semantics.specs.Substitution.{Substitution, resolve}
-use Rattle.semantics.specs.Steps.{waiting, no-steps, at-bound, Outcome, stop, and-then}
-use Rattle.semantics.specs.Unify.{scan, never}
-use Rattle.semantics.specs.Answer.{appear, appear-all, reify, parameters, query-terms, names-of, look-through}
-use Rattle.semantics.proofs.Basics.{compared, same, other}
+use Rattle.semantics.specs.Answer.{appear, appear-all, reify, parameters, query-terms, names-of}
+use Rattle.semantics.proofs.Basics.{same}
 use Rattle.engine.specs.Reference.{at}
 use Rattle.engine.specs.Walk.{Binds}
 use Rattle.engine.specs.Names.{Names, Named}

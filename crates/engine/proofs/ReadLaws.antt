@@ -1,11 +1,11 @@
 -- From the written form: the words of a term, a goal, a relation that stand at a place are that term, goal, relation there.
-use Prim.Native.Nat.{ℕ, zero, suc, _+_, _≤_, _<_}
-use mathlib.Core.Path.{_≡_, refl, sym, ap, subst, subst₂, _∙_}
+use Prim.Native.Nat.{ℕ, _+_, _≤_, _<_}
+use mathlib.Core.Path.{_≡_, refl, sym, ap, subst, _∙_}
 use mathlib.Core.List.{List, [], _∷_, _++_}
 use native.Mathlib.Omega.{arith}
-use lib.ListN.{length, getD, length-append}
+use lib.ListN.{length, length-append}
 use Rattle.word.specs.Word.{kind, payload, word, kind-word, payload-word}
-use Rattle.rules.specs.Syntax.{Atom, symbol, number, empty, Term, var, atom, pair, symbols, numbers, Sort, Constraint, differ, typed, absento, Goal, Goals, equal, constrain, conj, disj, call, one, more, Relation}
+use Rattle.rules.specs.Syntax.{Atom, symbol, number, empty, Term, var, atom, pair, Constraint, differ, typed, absento, Goal, Goals, equal, constrain, conj, disj, call, one, more, Relation}
 use Rattle.rules.specs.Written.{part, atom-word, sort-kind, term-words, terms-words, constraint-words, goal-words, goals-words, relation-words}
 use Rattle.rules.specs.Reading.{kind-at, payload-at, after}
 use Rattle.rules.specs.WellFormed.{AtomGood, TermGood, TermsGood, TagGood, ConstraintGood, GoalGood, GoalsGood, RelationGood}

@@ -35,9 +35,6 @@ use Rattle.engine.proofs.TrailLaws.{apart-same, apart-trans, undone-apa
 
 -- A constraint by its reference
 
-pub keeps-inside : {ws : List ℕ} {w : ℕ} {c : Constraint} → KeepsAt ws w c → (pos-of w < length ws) × (w < 33570816)
-keeps-inside h = (omega (arith, h .inside), h .below)
-
 pub typed-term : (ws : List ℕ) (w : ℕ) (k : Sort) (t : Term) → KeepsAt ws w (typed k t) → Stands ws (w + 1) t
 typed-term ws w k t h =
     let mid : ℕ = h .reads .1 .0 in

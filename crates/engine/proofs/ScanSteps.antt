@@ -11,7 +11,7 @@ use Rattle.word.specs.Word.{kind}
 use Rattle.rules.specs.Syntax.{Atom, Term, var, atom, pair}
 use Rattle.semantics.specs.Substitution.{Substitution, walk}
 use Rattle.semantics.specs.Steps.{waiting, at-bound, Outcome, stop}
-use Rattle.semantics.specs.Unify.{scan, is-var, is-atom, never}
+use Rattle.semantics.specs.Unify.{scan, is-var, is-atom}
 use Rattle.semantics.proofs.SubstitutionLaws.{Good, followed-follow, walk-followed, size, size-walk, size-parts}
 use Rattle.semantics.proofs.ScanLaws.{Leaf}
 use Rattle.engine.specs.Reference.{at, AtomIs, pos-of, base-of, Stands}
@@ -211,6 +211,3 @@ variable-sought x lt = record { on-var = λ y l. swapped x y; on-atom = λ a w i
 
 pub atom-sought : (w : ℕ) (a : Atom) → AtomIs w a → TestAs w (is-atom a)
 atom-sought w a i = record { on-var = λ x l. let k = atom-low w a i in sym (ne-eqb x w (λ z. omega (arith, k .0))); on-atom = λ b v j. atom-test w v a b i j ∙ swapped w v; on-pair = λ s t. refl }
-
-pub nothing-sought : (w : ℕ) → kind w ≡ 4 → TestAs w never
-nothing-sought w e = record { on-var = λ x l. sym (ne-eqb x w (λ z. omega arith)); on-atom = λ a v i. let l = atom-low v a i in sym (ne-eqb v w (λ z. omega (arith, l .1))); on-pair = λ s t. refl }

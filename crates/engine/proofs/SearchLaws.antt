@@ -16,11 +16,11 @@ use Rattle.semantics.proofs.Basics.{clash}
 use Rattle.semantics.proofs.StepLaws.{Spent}
 use Rattle.semantics.proofs.Counts.{taken-spent}
 use Rattle.semantics.proofs.Fair.{NextFair, turn-fair}
-use Rattle.semantics.proofs.Turn.{Fine, ChoicesFine, StateFine, NextWell, TakenWell, GoesOn, open-of, goal-well, turn-keeps}
+use Rattle.semantics.proofs.Turn.{Fine, StateFine, NextWell, TakenWell, GoesOn, open-of, goal-well, turn-keeps}
 use Rattle.engine.specs.Reference.{TaskAt}
 use Rattle.engine.specs.Taking.{Holds, Due, stop-of}
 use Rattle.engine.specs.Turning.{tallied, NextAs}
-use Rattle.engine.specs.Searching.{count-cuts, Searching, counted-to, Answers, SearchedAs}
+use Rattle.engine.specs.Searching.{count-cuts, Searching, counted-to, SearchedAs}
 use Rattle.engine.specs.declared.state.State.{State}
 use Rattle.engine.specs.declared.state.Stop.{Stop}
 use Rattle.engine.specs.declared.state.Lead.{Lead}

@@ -1,17 +1,16 @@
 -- The start of a round.
 use Prim.Native.Nat.{ℕ, _≤_, _<_}
-use mathlib.Core.Path.{_≡_, refl, sym, subst, _∙_}
-use mathlib.Core.List.{List, [], _∷_, _++_, append-nil}
+use mathlib.Core.Path.{_≡_, refl, sym, subst}
+use mathlib.Core.List.{List, [], _++_, append-nil}
 use native.Mathlib.Omega.{arith}
 use lib.ListN.{length}
 use Rattle.rules.specs.Syntax.{Relation, Program}
 use Rattle.semantics.specs.Substitution.{Substitution}
 use Rattle.semantics.specs.Path.{Path, ChoicePoint}
 use Rattle.semantics.specs.Round.{start, Tally}
-use Rattle.engine.specs.Reference.{at, TaskAt, RelationAt}
+use Rattle.engine.specs.Reference.{at}
 use Rattle.engine.specs.Memory.{Registers, TableIn, BindingsIn, Nameless, Stored}
-use Rattle.engine.specs.Trail.{Trailed, Undone}
-use Rattle.engine.proofs.FrameLaws.{table-same, names-same}
+use Rattle.engine.specs.Trail.{Trailed}
 
 abbrev pub first-registers : ℕ → Registers
 first-registers vars = record { head = 0; trail = 0; made = vars; put = 1; kept = 0; calls = 0 }
@@ -30,17 +29,8 @@ start-stored P ws s R t long table zeros nameless few = record {
   nameless = nameless;
 }
 
-pub start-task : (ws : List ℕ) (R : Relation) (t : Tally) → RelationAt ws 0 R → TaskAt ws 3 (start R t .task)
-start-task ws R t h = record { base = refl; goal = h .body; inside = h .inside; small = h .small; below = omega arith }
-
--- The next round: the trail is taken back to nothing, s′ being the scratch then, and the registers are the first ones.
+-- After a round the whole trail is taken back.
 pub marked-whole : {P : Program} {ws s : List ℕ} {r : Registers} {n : ℕ} {p : Path} {cs : List ChoicePoint} → Stored P ws s r n p cs → Trailed ws s (p .bindings) [] 0 (r .trail)
 marked-whole {ws = ws} {s = s} {r = r} {p = p} h =
     let e : p .bindings ≡ p .bindings ++ [] = sym (append-nil (p .bindings)) in
     record { long = h .roomy .long; bindings-in = subst (BindingsIn ws s) e (h .bindings-in); mark-is = refl; trail-is = subst (λ bs. r .trail ≡ length bs) e (h .path-in .trail) }
-
-pub restart : {P : Program} {ws s : List ℕ} {r : Registers} {n : ℕ} {p : Path} {cs : List ChoicePoint} (s′ : List ℕ) (R : Relation) (t : Tally) → R .vars ≤ 2048 → Stored P ws s r n p cs → Undone ws s s′ []
-    → Stored P ws s′ (first-registers (R .vars)) 0 (start R t .path) []
-restart {P} {ws} {s} {r} {n} {p} s′ R t few h u =
-    let long : 12288 ≤ length s = h .roomy .long in
-    start-stored P ws s′ R t (omega (arith, u .long)) (table-same P ws s s′ (λ i lo hi. u .above i (omega arith)) (h .table)) (u .bindings-in .words) (names-same s s′ (λ i lo hi. u .above i (omega arith)) (h .nameless)) few

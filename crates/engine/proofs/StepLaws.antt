@@ -1,22 +1,22 @@
 -- The search's steps on words: a goal put to wait, a choice point made, the way back to it.
-use Prim.Native.Nat.{ℕ, zero, suc, _+_, _*_, _-_, _/_, _%_, _≤_, _<_}
-use mathlib.Core.Path.{_≡_, refl, sym, ap, subst, subst₂, _∙_}
+use Prim.Native.Nat.{ℕ, zero, suc, _+_, _-_, _≤_, _<_}
+use mathlib.Core.Path.{_≡_, refl, sym, ap, subst, _∙_}
 use mathlib.Core.Logic.{_≢_}
-use mathlib.Core.List.{List, [], _∷_, _++_, append-nil}
+use mathlib.Core.List.{List, [], _∷_, _++_}
 use native.Mathlib.Omega.{arith}
 use lib.ListN.{length, getD, set, length-set, length-append}
 use lib.Seq.{sets, length-sets, getD-set-same, getD-set-other}
-use Rattle.rules.specs.Syntax.{Term, Constraint, Goal, Goals, one, more, Program}
-use Rattle.semantics.specs.Substitution.{Substitution, lookup}
+use Rattle.rules.specs.Syntax.{Constraint, Goal, Goals, one, more, Program}
+use Rattle.semantics.specs.Substitution.{Substitution}
 use Rattle.semantics.specs.Path.{Task, Path, ChoicePoint, waiting-on}
 use Rattle.rules.specs.Reading.{after}
-use Rattle.engine.specs.Reference.{at, GoalAt, GoalsAt, beyond, pos-of, TaskAt, RestAt, KeepsAt, Stands}
-use Rattle.engine.specs.Memory.{trail-at, goal-at, next-at, point-at, kept-at, Registers, saved, TrailIn, BindingsIn, CellIn, TasksIn, KeptIn, PathIn, Grown, ChoiceIn, ChoicesIn, Roomy, Stored, bound, unwound, cell, point}
-use Rattle.engine.proofs.FrameLaws.{Untouched, frame, Outside, store, saved-same, path-same, table-same, names-same, tasks-same, kept-same, choices-same}
-use Rattle.engine.specs.Trail.{Same, Trailed, Undone}
+use Rattle.engine.specs.Reference.{at, beyond, pos-of, TaskAt, RestAt}
+use Rattle.engine.specs.Memory.{goal-at, next-at, point-at, Registers, saved, BindingsIn, KeptIn, PathIn, Grown, ChoiceIn, Stored, cell, point}
+use Rattle.engine.proofs.FrameLaws.{Untouched, frame, Outside, store, path-same, table-same, names-same, kept-same, choices-same}
+use Rattle.engine.specs.Trail.{Trailed, Undone}
 use Rattle.engine.proofs.TrailLaws.{fresh-few}
 use Rattle.engine.proofs.GoalLaws.{Then, task-one, task-more}
-use Rattle.engine.proofs.ClaimLaws.{stays, claim, with-head, counted, waited, tasks-more, count, claim-cell, claim-point}
+use Rattle.engine.proofs.ClaimLaws.{stays, claim, counted, waited, count, claim-cell, claim-point}
 
 -- A run of stores
 pub sets-other : (vs l : List ℕ) (i k : ℕ) → ((j : ℕ) → i ≤ j → j < i + length vs → k ≢ j) → at (sets l i vs) k ≡ at l k

@@ -12,7 +12,7 @@ use Rattle.rules.specs.WellFormed.{RelationsGood}
 use Rattle.rules.specs.Inner as inner
 use Rattle.rules.specs.Inner.{PartAt, RelationsAt}
 use Rattle.rules.proofs.Pass.{relations-split, relations-some, relations-none, lookup-none}
-use Rattle.semantics.proofs.Basics.{clash, Compared, compared, same, other}
+use Rattle.semantics.proofs.Basics.{clash, compared, same, other}
 use Rattle.engine.specs.Reference.{at, pos-of, RelationAt}
 use Rattle.engine.specs.Memory.{table-at, TableIn}
 use Rattle.engine.specs.Walk.{NodeAt}

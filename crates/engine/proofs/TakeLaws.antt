@@ -8,8 +8,8 @@ use Rattle.rules.specs.Written.{sort-kind}
 use Rattle.rules.specs.Reading.{kind-at}
 use Rattle.semantics.specs.Substitution.{shift, shift-constraint}
 use Rattle.semantics.specs.Steps.{Outcome, step}
-use Rattle.semantics.specs.Path.{Task, Path, ChoicePoint, Taken, taken, take-equal, take-constraint, take-conj, take-disj, take-call, take-goal}
-use Rattle.engine.specs.Reference.{ConstraintAt, GoalAt, pos-of, TaskAt}
+use Rattle.semantics.specs.Path.{Task, Path, ChoicePoint, taken, take-equal, take-constraint, take-conj, take-disj, take-call, take-goal}
+use Rattle.engine.specs.Reference.{GoalAt, pos-of}
 use Rattle.engine.specs.Walk.{NodeAt}
 use Rattle.engine.specs.Taking.{Taking, Ready, Due, TookAs, narrow}
 use Rattle.engine.specs.declared.state.State.{State}

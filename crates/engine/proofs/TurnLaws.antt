@@ -1,11 +1,10 @@
 -- A turn, as the code does it: one law for each way in which `leave`, `go_on` and `turn` return.
-use Prim.Native.Nat.{ℕ, zero, suc, _+_, _*_, _≤_, _<_}
+use Prim.Native.Nat.{ℕ, _≤_}
 use mathlib.Core.Path.{_≡_, refl, sym, ap, subst, _∙_}
 use mathlib.Core.Bool.{true, false}
 use mathlib.Core.List.{List, [], _∷_}
 use native.Mathlib.Omega.{arith}
 use lib.Dec.{eqb}
-use lib.ListN.{length}
 use borrow.Author.Tests.{eq-eqb, ne-eqb}
 use Rattle.rules.specs.Syntax.{Program}
 use Rattle.semantics.specs.Steps as steps
@@ -13,9 +12,9 @@ use Rattle.semantics.specs.Steps.{Outcome, done, stop}
 use Rattle.semantics.specs.Path.{Task, Path, ChoicePoint, Taken, leaves, cut, goes, waiting-on, take-goal}
 use Rattle.semantics.specs.Answer.{answer}
 use Rattle.semantics.specs.Round as round
-use Rattle.semantics.specs.Round.{Tally, Next, going, over, completed, broken, spend, count-cut, end-of, back, give, end-path, go-on, after, turn}
+use Rattle.semantics.specs.Round.{Tally, Next, going, over, completed, spend, count-cut, back, give, go-on, after, turn}
 use Rattle.engine.specs.Reference.{at, TaskAt}
-use Rattle.engine.specs.Memory.{goal-at, next-at, Registers, TasksIn, Stored}
+use Rattle.engine.specs.Memory.{goal-at, next-at, TasksIn, Stored}
 use Rattle.engine.specs.Taking.{registers, Holds, TookAs, BackAs, stop-of}
 use Rattle.engine.specs.Turning.{tallied, NextAs}
 use Rattle.engine.specs.declared.state.State.{State}

@@ -14,11 +14,11 @@ use Rattle.rules.specs.Reading.{choose}
 use Rattle.rules.specs.Syntax.{Atom, Term, var, atom, pair}
 use Rattle.rules.specs.Written.{term-words}
 use Rattle.semantics.specs.Substitution.{Substitution, lookup, resolve, walk}
-use Rattle.semantics.specs.Steps.{Outcome, done}
+use Rattle.semantics.specs.Steps.{done}
 use Rattle.semantics.specs.Unify.{scan, scan-node, never}
 use Rattle.semantics.specs.Shows.{Each}
 use Rattle.semantics.specs.Answer.{member, index, appear, reify, vars-in, Line, lacks, line-in, line-words, any-same, same-words, lacks-each, trial-bindings, resolve-right}
-use Rattle.semantics.proofs.Basics.{one-of, or-right}
+use Rattle.semantics.proofs.Basics.{one-of}
 use Rattle.semantics.proofs.TermLaws.{term-size}
 use Rattle.semantics.proofs.SubstitutionLaws.{Good, walk-some, walk-open, resolve-lookup, resolve-open}
 use Rattle.engine.specs.Reference.{at, Stands}
@@ -32,7 +32,7 @@ use Rattle.engine.specs.declared.put.Put.{Put}
 use Rattle.engine.specs.declared.look.Looked.{Looked}
 use Rattle.engine.specs.declared.look.Looked.the-variants as looked
 use Rattle.engine.specs.Lines.{Equation, Equations}
-use Rattle.engine.specs.Keep.{Keeps, Kept}
+use Rattle.engine.specs.Keep.{Kept}
 use Rattle.engine.specs.Page.{add-line, add-lines, occurrences}
 use Rattle.engine.proofs.PageLaws.{same-self, any-snoc}
 use Rattle.engine.proofs.LinesLaws.{lacks-append, add-append}

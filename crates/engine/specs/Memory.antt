@@ -3,9 +3,9 @@ use Prim.Native.Nat.{ℕ, zero, suc, _+_, _*_, _-_, _≤_, _<_}
 use mathlib.Core.Path.{_≡_}
 use mathlib.Core.Option.{Option, none, some}
 use mathlib.Core.List.{List, [], _∷_, _++_}
-use lib.ListN.{length, getD, set, getElem?}
+use lib.ListN.{length, set, getElem?}
 use lib.Seq.{sets}
-use Rattle.rules.specs.Syntax.{Term, Constraint, Goal, Goals, Relation, Program}
+use Rattle.rules.specs.Syntax.{Term, Constraint, Relation, Program}
 use Rattle.semantics.specs.Substitution.{Substitution, lookup}
 use Rattle.semantics.specs.Path.{Task, Path, ChoicePoint}
 use Rattle.engine.specs.Reference.{at, Stands, TaskAt, RestAt, KeepsAt, RelationAt}

@@ -1,14 +1,13 @@
 -- Which term, goal or relation the program's words are from a place on, and references to them: what the engine's private functions say of words.
 -- `base` is the environment, the number of the relation's variable 0: a term is read as it stands on a path, so nothing is shifted where the code looks.
-use Prim.Native.Nat.{ℕ, zero, suc, _+_, _*_, _/_, _%_, _≤_, _<_}
+use Prim.Native.Nat.{ℕ, _+_, _*_, _/_, _%_, _≤_, _<_}
 use mathlib.Core.Path.{_≡_}
-use mathlib.Core.Option.{some}
 use mathlib.Core.List.{List, [], _∷_}
-use lib.ListN.{length, getD, getElem?}
+use lib.ListN.{length, getD}
 use Rattle.word.specs.Word.{kind, payload}
 use Rattle.rules.specs.Reading.{kind-at, payload-at, after}
 use Rattle.rules.specs.Written.{sort-kind}
-use Rattle.rules.specs.Syntax.{Atom, symbol, number, empty, Term, var, atom, pair, Sort, symbols, numbers, Constraint, differ, typed, absento, Goal, Goals, equal, constrain, conj, disj, call, one, more, Relation, Program}
+use Rattle.rules.specs.Syntax.{Atom, symbol, number, empty, Term, var, atom, pair, Constraint, differ, typed, absento, Goal, Goals, equal, constrain, conj, disj, call, one, more, Relation}
 use Rattle.semantics.specs.Path.{Task}
 
 -- the word at a place of a list

@@ -1,5 +1,5 @@
 -- What is written is read back: the terms and the goals of an answer, by the reader of crate rules and its law that good terms and goals are read back.
-use Prim.Native.Nat.{_+_, _-_, _*_, _<_, _≤_, suc, zero, ℕ}
+use Prim.Native.Nat.{_+_, _-_, _<_, _≤_, suc, zero, ℕ}
 use mathlib.Core.List.{List, [], _++_, _∷_}
 use mathlib.Core.Path.{_∙_, _≡_, ap, sym}
 use native.Mathlib.Omega.{arith}
@@ -8,7 +8,7 @@ use borrow.Author.Tests.{eq-eqb, le-ltb, lt-ltb}
 use Rattle.word.specs.Word.{word}
 use Rattle.rules.specs.Inner.{Stands}
 use Rattle.rules.specs.Reading.{found, kind-at, payload-at, read-goal}
-use Rattle.rules.specs.Syntax.{Goal, Goals, Term, disj}
+use Rattle.rules.specs.Syntax.{Goal, Goals, Term}
 use Rattle.rules.specs.WellFormed.{GoalGood, GoalsGood, TagGood, TermGood}
 use Rattle.rules.specs.Written.{goal-words, part, terms-words, term-words}
 use Rattle.rules.proofs.Complete.{goal-complete, term-complete}

@@ -9,7 +9,7 @@ use Rattle.rules.specs.Syntax.{Atom, empty, Term, var, atom, pair, Sort, Constr
 use Rattle.rules.specs.Reading.{choose}
 use Rattle.rules.specs.Written.{part, terms-words, goal-words}
 use Rattle.semantics.specs.Substitution.{Substitution, walk, resolve}
-use Rattle.semantics.specs.Steps.{Outcome, done, stop, and-then}
+use Rattle.semantics.specs.Steps.{Outcome, done, and-then}
 use Rattle.semantics.specs.Unify.{scan, never, unify-terms}
 use Rattle.semantics.specs.Path.{Path}
 

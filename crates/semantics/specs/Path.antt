@@ -2,7 +2,6 @@
 use Prim.Native.Nat.{ℕ, suc, _+_}
 use mathlib.Core.List.{List, [], _∷_, _++_}
 use mathlib.Core.Option.{Option, none, some}
-use mathlib.Core.Bool.{Bool}
 use lib.Dec.{eqb, ltb, leb}
 use lib.ListN.{length, getElem?}
 use Rattle.rules.specs.Syntax.{Term, Constraint, Goal, Goals, equal, constrain, conj, disj, call, one, more, Relation, Program}

@@ -8,7 +8,7 @@ use lib.ListN.{length}
 use Rattle.rules.specs.Syntax.{Atom, symbol, number, empty, Term, var, atom, pair, Sort, symbols, numbers, Constraint, differ, typed, absento}
 use Rattle.rules.specs.Reading.{choose}
 use Rattle.semantics.specs.Substitution.{Substitution, walk}
-use Rattle.semantics.specs.Steps.{Outcome, done, stop, and-then, step}
+use Rattle.semantics.specs.Steps.{Outcome, done, and-then, step}
 use Rattle.semantics.specs.Unify.{scan, is-var, is-atom, unify-terms}
 
 -- are these two different sorts?

@@ -1,7 +1,6 @@
 -- Turns, rounds, and how a run ends: document 01, "Search" and "How a run ends".
 use Prim.Native.Nat.{ℕ, zero, suc, _-_}
 use mathlib.Core.List.{List, [], _∷_, _++_}
-use mathlib.Core.Bool.{true, false}
 use lib.Dec.{eqb, leb}
 use lib.ListN.{length}
 use Rattle.rules.specs.Syntax.{Goals, one, more, Relation, Program}

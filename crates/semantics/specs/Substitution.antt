@@ -1,7 +1,7 @@
 -- Substitutions: document 01 speaks of "bindings", and of a term "followed through bindings".
 -- Here and below, `choose test x y` of crate rules goes on with x where the test holds, else with y; both are functions, so that only one is computed.
 use Prim.Native.Nat.{ℕ, zero, suc, _+_}
-use mathlib.Core.List.{List, [], _∷_, map}
+use mathlib.Core.List.{List, [], _∷_}
 use mathlib.Core.Option.{Option, none, some}
 use mathlib.Core.Bool.{Bool, true, false}
 use lib.Dec.{eqb}

@@ -1,7 +1,5 @@
-use Prim.Native.Nat.{_+_}
 use native.Mathlib.Omega.{arith}
-use mathlib.Core.Path.{_≡_}
-use Rattle.engine.proofs.FollowLaws.{walked-inside, walked-below, shaped-open, shaped-pair, shaped-leaf}
+use Rattle.engine.proofs.FollowLaws.{walked-below, shaped-open, shaped-pair, shaped-leaf}
 use borrow.Author.Needs.{needs}
 use Rattle.engine.proofs.follow.follow.Statement.{statement}
 use Rattle.engine.proofs.follow.follow.Tie as tie

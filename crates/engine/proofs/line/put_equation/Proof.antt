@@ -1,5 +1,4 @@
 use native.Mathlib.Omega.{arith}
-use mathlib.Core.Path.{_≡_}
 use Rattle.engine.proofs.PutLaws.{laid-of}
 use Rattle.engine.proofs.LineLaws.{equation-full, equation-low, equation-member, equation-variable, equation-right, equation-no-variable, equation-no-right, equation-inner, equation-put}
 use borrow.Author.Needs.{needs}

@@ -1,8 +1,7 @@
-use Prim.Native.Nat.{ℕ, _%_, _≤_}
+use Prim.Native.Nat.{ℕ, _%_}
 use mathlib.Core.List.{List}
-use mathlib.Core.Path.{_≡_}
 use native.Mathlib.Omega.{arith}
-use lib.ListN.{length, length-set}
+use lib.ListN.{length}
 use Rattle.engine.specs.Names.{Named}
 use Rattle.engine.proofs.NameLaws.{named-still, named-trans}
 use Rattle.engine.proofs.NamingLaws.{Popped, pop, all-taken}

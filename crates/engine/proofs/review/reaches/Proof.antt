@@ -1,5 +1,4 @@
 -- `reaches` looks at one constraint as the definition does.
-use Rattle.engine.proofs.ReferenceLaws.{stands-inside}
 use Rattle.engine.proofs.ReviewSteps.{reached, reaches-other, reaches-no-variable, reaches-another, reaches-it}
 use borrow.Author.Needs.{needs}
 use Rattle.engine.proofs.review.reaches.Statement.{statement}

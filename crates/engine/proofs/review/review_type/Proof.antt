@@ -1,7 +1,6 @@
 -- `review_type` looks at the followed term as the definition does.
 use mathlib.Core.Path.{_∙_}
 use Rattle.semantics.specs.Substitution.{walk}
-use Rattle.engine.proofs.ReferenceLaws.{stands-inside}
 use Rattle.engine.proofs.ReviewSteps.{type-open, type-atom, type-other, says-fails, says-holds}
 use borrow.Author.Needs.{needs}
 use Rattle.engine.proofs.review.review_type.Statement.{statement}

@@ -1,7 +1,6 @@
 -- `fill` goes from relation to relation: those before the place are in the table.
 use Prim.Native.Nat.{_-_, _≤_}
 use native.Mathlib.Omega.{arith}
-use borrow.Author.Needs.{needs}
 use lib.ListN.{length}
 use Rattle.rules.specs.Syntax.{Program}
 use Rattle.rules.specs.Inner.{RelationsAt}

@@ -127,27 +127,40 @@ pub fn contents(file: &str) -> io::Result<String> {
     }
 }
 
-/// The words of a text.
+/// The words of a text. Its comments are not looked at, nor the names in them.
 pub fn parse(text: &str) -> Result<Vec<u32>, TextError> {
-    Source::parse(text).map(|source| source.words)
+    let mut source = Source::default();
+    for (line, words, _) in lines(text) {
+        source.add_words(line, words)?;
+    }
+    Ok(source.words)
+}
+
+/// The lines, each with its number, the text of its words and its comment.
+fn lines(text: &str) -> impl Iterator<Item = (usize, &str, &str)> {
+    text.lines().enumerate().map(|(at, line)| {
+        let (words, comment) = line.split_once('#').unwrap_or((line, ""));
+        (at + 1, words, comment)
+    })
 }
 
 impl Source {
-    /// Reads a text.
+    /// Reads a text, with the names in its comments.
     pub fn parse(text: &str) -> Result<Source, TextError> {
         let mut source = Source::default();
-        for (at, line) in text.lines().enumerate() {
-            source.add_line(at + 1, line)?;
+        for (line, words, comment) in lines(text) {
+            source.add_words(line, words)?;
+            let column = words.chars().count() + 1;
+            let place = Place { line, column };
+            source
+                .add_name(comment)
+                .map_err(|fault| TextError { place, fault })?;
         }
         Ok(source)
     }
 
-    fn add_line(&mut self, number: usize, line: &str) -> Result<(), TextError> {
-        let (words, comment) = line.split_once('#').unwrap_or((line, ""));
-        let mut place = Place {
-            line: number,
-            column: 1,
-        };
+    fn add_words(&mut self, line: usize, words: &str) -> Result<(), TextError> {
+        let mut place = Place { line, column: 1 };
         for token in words.split([' ', '\t', '\r']) {
             if !token.is_empty() {
                 let word = parse_word(token).map_err(|fault| TextError { place, fault })?;
@@ -156,10 +169,7 @@ impl Source {
             }
             place.column += token.chars().count() + 1;
         }
-        // The last token ends where the comment begins.
-        place.column -= 1;
-        self.add_name(comment)
-            .map_err(|fault| TextError { place, fault })
+        Ok(())
     }
 
     /// Takes the name that a comment gives a symbol. Any other comment is left to its readers.
@@ -256,7 +266,10 @@ mod tests {
         ];
         for (text, line, column, fault) in cases {
             let place = Place { line, column };
-            assert_eq!(parse(text), Err(TextError { place, fault }), "{text:?}");
+            let error = TextError { place, fault };
+            assert_eq!(Source::parse(text), Err(error.clone()), "{text:?}");
+            let is_naming = text.contains("symbol");
+            assert_eq!(parse(text).err(), (!is_naming).then_some(error), "{text:?}");
         }
     }
 

@@ -24,6 +24,17 @@ fn four_bytes_each() {
     assert!(words(&["-"], "").stdout.is_empty());
 }
 
+/// The words are the same with names that no list could use: one that is none, and one given two times.
+#[test]
+fn names_are_not_looked_at() {
+    let output = words(
+        &["-"],
+        "2:1 # symbol 1 = 7\n# symbol 2 = A\n# symbol 2 = B\n",
+    );
+    assert!(output.status.success());
+    assert_eq!(output.stdout, [1, 0, 0, 0x20]);
+}
+
 #[test]
 fn faults() {
     let output = words(&["-"], "13:5\n2:x");

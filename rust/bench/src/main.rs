@@ -21,8 +21,9 @@ const TURNS: usize = 20;
 const TURNS_PER_SWI: usize = 5;
 /// How long one engine is timed in one turn, at least.
 const SPAN: f64 = 0.05;
-/// How many steps are timed in all for each step limit of the second table, at least.
+/// How many steps are timed in all for each step limit of the second table in one pass, at least, and how many passes there are.
 const STEPS: u32 = 100_000_000;
+const PASSES: usize = 3;
 
 const STYLES: [Style; 2] = [Style::Body, Style::Clauses];
 
@@ -168,7 +169,7 @@ fn run_prolog(folder: &Path, text: &str, answers: u32) -> f64 {
 }
 
 /// Nanoseconds a step of the proved engine and of the plain one, with a step limit: the mean over as many runs as `STEPS` needs, in
-/// turn. One run of 10^9 steps is met by whatever else the machine does, so the best of many short ones would not compare with it.
+/// turn. The best of many short runs would not compare with one of 10^9 steps.
 fn at_steps(program: &Program, steps: u32) -> [f64; 2] {
     let mut bench = Bench {
         words: words::words(&rules::parse(&program.text)),
@@ -233,15 +234,22 @@ fn first_goals(rows: &[Row]) -> String {
     missed(&misses.map(|row| row.name).collect::<Vec<_>>())
 }
 
-/// The second table, and whether its goal is met.
+/// The second table, and whether its goal is met. Each number is the median of some passes through the step limits, so that a slow
+/// moment of the machine weighs little.
 fn second_table() -> (String, String) {
+    const LIMITS: [u32; 3] = [100_000, 10_000_000, 1_000_000_000];
     let mut misses = Vec::new();
     let mut text = String::new();
     text += "| program | proved: 10^5 steps | 10^7 | 10^9 | plain: 10^5 steps | 10^7 | 10^9 | proved: 10^9 / 10^5 | plain: 10^9 / 10^5 |\n";
     text += "|---|--:|--:|--:|--:|--:|--:|--:|--:|\n";
     for program in programs::endless() {
-        let times = [100_000, 10_000_000, 1_000_000_000].map(|steps| at_steps(&program, steps));
-        let [proved, plain] = [0, 1].map(|engine| times.map(|time| time[engine]));
+        let passes: Vec<[[f64; 2]; 3]> = (0..PASSES)
+            .map(|_| LIMITS.map(|steps| at_steps(&program, steps)))
+            .collect();
+        let times = |engine: usize| {
+            [0, 1, 2].map(|limit| median(passes.iter().map(|pass| pass[limit][engine]).collect()))
+        };
+        let [proved, plain] = [0, 1].map(times);
         let growths = [proved, plain].map(|time| time[2] / time[0]);
         if growths[0] > 1.1 {
             misses.push(program.name);

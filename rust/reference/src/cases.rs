@@ -281,14 +281,29 @@ fn many_constraints(rng: &mut Rng) -> Vec<u32> {
     words
 }
 
-/// Path 5: a query term as deep as the bound, or one more or less.
+/// Path 5: a query term as deep as the bound, or one more or less. Bound in two pieces, each is looked at alone by an occurs
+/// check, and only the writer looks at both.
 fn deep_first_parts(rng: &mut Rng) -> Vec<u32> {
     let depth = near(rng, 512);
-    let goal = part(
-        EQUAL,
-        [table::words("0:0"), gen::deep_term(depth as u32)].concat(),
-    );
-    relation(rng.below(2), 1, goal)
+    let equal = |variable: &str, term| part(EQUAL, [table::words(variable), term].concat());
+    if rng.chance(50) {
+        return relation(rng.below(2), 1, equal("0:0", gen::deep_term(depth as u32)));
+    }
+    let inner = rng.between(150, 350);
+    let goals = [
+        equal("0:0", wrapped(1, depth - inner)),
+        equal("0:1", gen::deep_term(inner as u32)),
+    ];
+    relation(1, 2, part(CONJUNCTION, goals.concat()))
+}
+
+/// A variable in the first part of so many pairs.
+fn wrapped(variable: u32, depth: usize) -> Vec<u32> {
+    let mut term = vec![word(VARIABLE, variable)];
+    for _ in 0..depth {
+        term = pair(term, vec![word(EMPTY, 0)]);
+    }
+    term
 }
 
 /// Path 5: a term made deep by being wrapped at each of a number of calls, and looked at after the last.
@@ -305,20 +320,16 @@ fn deep_terms(rng: &mut Rng) -> Vec<u32> {
     for _ in 0..calls {
         list = pair(vec![word(NUMBER, 1)], list);
     }
-    let wrapped = |variable| {
-        let mut term = vec![word(VARIABLE, variable)];
-        for _ in 0..each {
-            term = pair(term, vec![word(EMPTY, 0)]);
-        }
-        term
-    };
     // With one of both terms open all the way, only the other's nodes can be many.
     let second = match rng.chance(50) {
-        true => wrapped(2),
+        true => wrapped(2, each),
         false => vec![word(VARIABLE, 2)],
     };
     let last = part(CONJUNCTION, [table::words("5:2 0:0 3:0"), goal].concat());
-    let again = part(CALL, [table::words("2:1 0:3"), wrapped(1), second].concat());
+    let again = part(
+        CALL,
+        [table::words("2:1 0:3"), wrapped(1, each), second].concat(),
+    );
     let next = part(
         CONJUNCTION,
         [table::words("5:4 0:0 4:1 2:1 0:3"), again].concat(),

@@ -5,7 +5,7 @@ use crate::listing;
 use crate::read::{read, Refusal};
 use crate::run::{End, Outcome, ROUND_LIMIT, SCRATCH_WORDS};
 use crate::syntax::{Goal, GoalId, Program, Term, TermId};
-use crate::trace::{Bounded, Event};
+use crate::trace::{Bounded, During, Event};
 use crate::word::*;
 use std::collections::BTreeSet;
 
@@ -53,6 +53,13 @@ pub fn wanted() -> Vec<String> {
     .to_vec();
     all.extend(MADE.map(|made| format!("made: {made}")));
     all.extend((1..=5).map(|bound| format!("end path {bound}")));
+    for during in During::ALL {
+        all.push(stopped(during, true));
+        // The nodes of a line have been looked at by the review that its constraint passed.
+        if during != During::Lines {
+            all.push(stopped(during, false));
+        }
+    }
     all.extend((1..=9).map(|number| format!("refused {number}")));
     for bounded in Bounded::ALL {
         all.extend(["one below", "reached", "exceeded"].map(|what| format!("{bounded:?}: {what}")));
@@ -198,6 +205,11 @@ fn bounds(outcome: &Outcome) -> Vec<String> {
     all
 }
 
+fn stopped(during: During, steps: bool) -> String {
+    let end = if steps { "steps" } else { "path 5" };
+    format!("end {end} during {during:?}")
+}
+
 fn events(outcome: &Outcome) -> impl Iterator<Item = String> + '_ {
     outcome.trace.events.iter().map(|event| match event {
         Event::OccursCheckFailed => "occurs check failed".to_string(),
@@ -206,6 +218,7 @@ fn events(outcome: &Outcome) -> impl Iterator<Item = String> + '_ {
         Event::TypesMet => "types met".to_string(),
         Event::LineDropped(kind) => format!("line of kind {kind} dropped"),
         Event::LineRepeated => "line repeated".to_string(),
+        Event::Stopped(during, steps) => stopped(*during, *steps),
     })
 }
 

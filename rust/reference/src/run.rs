@@ -5,7 +5,7 @@
 use crate::fault::Fault;
 use crate::read::{read, Refusal};
 use crate::syntax::*;
-use crate::trace::{Bounded, Event, Trace};
+use crate::trace::{Bounded, During, Event, Trace};
 use crate::word::*;
 
 /// How a run ended.
@@ -230,6 +230,14 @@ impl Search<'_> {
         Ok(())
     }
 
+    /// Notes what was under way if the run stops here.
+    fn during<T>(&mut self, during: During, result: Result<T, End>) -> Result<T, End> {
+        if let Err(end) = result {
+            self.trace.note(Event::Stopped(during, end == End::Steps));
+        }
+        result
+    }
+
     fn value(&self, term: TermId, base: usize) -> Value {
         match self.program[term] {
             Term::Variable(number) => Value::Variable(base + number),
@@ -302,7 +310,8 @@ impl Search<'_> {
             Goal::Equal(left, right) => {
                 self.step(None)?;
                 let (left, right) = (self.value(*left, base), self.value(*right, base));
-                match self.unify(&mut path.substitution, left, right)? {
+                let joined = self.unify(&mut path.substitution, left, right);
+                match self.during(During::Equality, joined)? {
                     None => return Ok(Taken::Failed),
                     Some(bound) if bound.is_empty() => (),
                     Some(_) if self.has(Fault::TestedOnlyWhenTaken) => (),
@@ -419,9 +428,12 @@ impl Search<'_> {
                 (_, Value::Variable(variable)) => (variable, left),
                 _ => return Ok(None),
             };
-            if !self.has(Fault::NoOccursCheck) && self.occurs(variable, other, substitution)? {
-                self.trace.note(Event::OccursCheckFailed);
-                return Ok(None);
+            if !self.has(Fault::NoOccursCheck) {
+                let occurs = self.finds(Value::Variable(variable), other, substitution);
+                if self.during(During::OccursCheck, occurs)? {
+                    self.trace.note(Event::OccursCheckFailed);
+                    return Ok(None);
+                }
             }
             substitution.bind(variable, other);
             bound.push(variable);
@@ -429,15 +441,16 @@ impl Search<'_> {
         Ok(Some(bound))
     }
 
-    fn occurs(
+    /// Looks at the nodes of a term up to the one that is sought, and says whether it is there.
+    fn finds(
         &mut self,
-        variable: usize,
+        sought: Value,
         value: Value,
         substitution: &Substitution,
     ) -> Result<bool, End> {
         let mut nodes = Nodes::of(value);
         while let Some(node) = self.look(&mut nodes, substitution)? {
-            if node == Value::Variable(variable) {
+            if node == sought {
                 return Ok(true);
             }
         }
@@ -495,13 +508,9 @@ impl Search<'_> {
                 _ => false,
             }),
             Goal::Absento(tag, term) => {
-                let mut nodes = Nodes::of(self.value(term, base));
-                while let Some(node) = self.look(&mut nodes, &path.substitution)? {
-                    if node == Value::Symbol(tag) {
-                        return Ok(false);
-                    }
-                }
-                Ok(true)
+                let term = self.value(term, base);
+                let found = self.finds(Value::Symbol(tag), term, &path.substitution);
+                Ok(!self.during(During::AbsenceReview, found)?)
             }
             Goal::Differ(left, right) => {
                 let (left, right) = (self.value(left, base), self.value(right, base));
@@ -510,7 +519,8 @@ impl Search<'_> {
                 if self.has(Fault::OpenVariablesDontDiffer) && open(left) && open(right) {
                     return Ok(false);
                 }
-                let bound = self.unify(&mut trial, left, right)?;
+                let bound = self.unify(&mut trial, left, right);
+                let bound = self.during(During::Trial, bound)?;
                 Ok(bound.is_none_or(|bound| !bound.is_empty()))
             }
             _ => unreachable!("no constraint"),
@@ -544,7 +554,8 @@ impl Search<'_> {
         let mut names = Names(vec![None; path.substitution.0.len()], 0);
         let mut inside: Vec<u32> = Vec::new();
         for parameter in 0..self.program.relations[0].parameters {
-            let nodes = self.all_nodes(Value::Variable(parameter), &path.substitution)?;
+            let nodes = self.all_nodes(Value::Variable(parameter), &path.substitution);
+            let nodes = self.during(During::QueryTerms, nodes)?;
             for &node in &nodes {
                 names.give(node);
             }
@@ -553,13 +564,15 @@ impl Search<'_> {
         }
         let mut lines: Vec<Vec<u32>> = Vec::new();
         for &constraint in &path.constraints {
+            let mut known = names.clone();
             let differ = matches!(self.program[constraint.goal], Goal::Differ(..));
             if self.has(Fault::AbsentDisequalityKept) && differ {
                 for variable in 0..path.substitution.0.len() {
-                    names.give(path.substitution.walk(Value::Variable(variable)));
+                    known.give(path.substitution.walk(Value::Variable(variable)));
                 }
             }
-            for line in self.lines(constraint, path, &names)? {
+            let listed = self.lines(constraint, path, &known);
+            for line in self.during(During::Lines, listed)? {
                 if lines.contains(&line) {
                     self.trace.note(Event::LineRepeated);
                 } else {
@@ -662,6 +675,7 @@ impl Nodes {
 }
 
 /// The numbers that an answer gives to open variables, and how many there are.
+#[derive(Clone)]
 struct Names(Vec<Option<u32>>, u32);
 
 impl Names {

@@ -16,6 +16,30 @@ pub enum Event {
     /// A line of this kind mentioned a variable absent from the query terms.
     LineDropped(u32),
     LineRepeated,
+    /// The run stopped during this: true if the steps were used up, false if too much was waiting.
+    Stopped(During, bool),
+}
+
+/// What takes more than one step. A trial is in a review or in a line; an occurs check is in an equality or a trial.
+#[derive(Clone, Copy, Debug, PartialEq, Eq, PartialOrd, Ord)]
+pub enum During {
+    Equality,
+    OccursCheck,
+    Trial,
+    AbsenceReview,
+    QueryTerms,
+    Lines,
+}
+
+impl During {
+    pub const ALL: [During; 6] = [
+        During::Equality,
+        During::OccursCheck,
+        During::Trial,
+        During::AbsenceReview,
+        During::QueryTerms,
+        During::Lines,
+    ];
 }
 
 /// What is bounded on a path.

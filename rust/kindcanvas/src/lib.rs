@@ -33,7 +33,13 @@
 //! # Ok::<(), kindcanvas::ParseError>(())
 //! ```
 //!
-//! [`check`] and [`run`] are the engine itself, on lent words and without memory of their own.
+//! [`check`] and [`run`] are the engine itself, on lent words.
+//!
+//! # Stack
+//!
+//! The engine recurses over nested goals. A call of this crate needs less than 1 MiB of stack: a program of more than 4,096
+//! words is read and run in a thread of its own with 8 MiB, which lasts as long as the call. If the system gives no such
+//! thread, the call panics.
 
 #![warn(missing_docs)]
 

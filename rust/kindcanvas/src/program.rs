@@ -49,6 +49,10 @@ impl Program {
     /// let refusal = Program::new(vec![0x5000_0000]).unwrap_err();
     /// assert_eq!((refusal.number, refusal.place), (2, 0));
     /// ```
+    ///
+    /// # Panics
+    ///
+    /// As [`check`](crate::check) does.
     pub fn new(words: Vec<u32>) -> Result<Program, Refusal> {
         Program::with_names(words, Names::new())
     }
@@ -69,6 +73,10 @@ impl Program {
     }
 
     /// Runs it through its rounds.
+    ///
+    /// # Panics
+    ///
+    /// As [`run`](crate::run) does.
     pub fn run(&self, limits: Limits) -> Outcome {
         let mut words = vec![0; limits.output_words.min(USABLE_WORDS)];
         let mut scratch = vec![0; SCRATCH_WORDS];
@@ -81,7 +89,7 @@ impl Program {
     }
 }
 
-/// From `k:p` text, as [`text`] reads it.
+/// From `k:p` text, as [`text`] reads it. It panics as [`check`](crate::check) does.
 ///
 /// ```
 /// use kindcanvas::{ParseError, Program, Refusal};

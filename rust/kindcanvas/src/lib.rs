@@ -45,6 +45,7 @@
 
 mod answer;
 mod engine;
+mod explain;
 mod program;
 mod readable;
 mod refusal;
@@ -52,7 +53,7 @@ mod word;
 
 pub use answer::{Answer, Answers, Constraint, Constraints, Pair, Term, Terms};
 pub use engine::{check, run, Bound, Ending, Report, SCRATCH_WORDS, USABLE_WORDS};
-pub use program::{Limits, Outcome, ParseError, Program};
+pub use program::{Limits, NoProgram, Outcome, ParseError, Program};
 pub use readable::Readable;
 pub use refusal::Refusal;
 /// Rule files as text.

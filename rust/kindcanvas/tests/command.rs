@@ -192,24 +192,28 @@ fn refused() {
     for (text, expected) in [
         (
             "# nothing\n",
-            "-: refused 1 at 0: the file must hold 1 to 16,384 words\n",
+            "-: refused 1 at 0: the file must hold 1 to 16,384 words: there are none\n",
         ),
         (
             "5:0",
-            "-: refused 2 at 0: word 0 has a kind that is not allowed there (line 1, column 1)\n",
+            "-: refused 2 at 0: word 0 has a kind that is not allowed there (line 1, column 1): 5:0 (an equality) stands where \
+             a relation must\n",
         ),
         (
             "13:0 # ends too early\n",
             "-: refused 3 at 1: at word 1 a part overruns what encloses it, is missing or is left over, or an empty \
-             list has a payload (the end of the file)\n",
+             list has a payload (the end of the file): the relation at line 1, column 1 (13:0) ends before its number \
+             of parameters\n",
         ),
         (
             "13:5 2:1 2:1\n  5:2 0:1 3:0",
-            "-: refused 5 at 4: word 4 names a variable that its relation doesn't have (line 2, column 7)\n",
+            "-: refused 5 at 4: word 4 names a variable that its relation doesn't have (line 2, column 7): variable \
+             1, but the relation at line 1, column 1 (13:5) has 1, numbered from 0\n",
         ),
         (
             "13:4 2:0 2:0 12:1 2:1",
-            "-: refused 7 at 3: the call at word 3 names a relation that isn't there (line 1, column 14)\n",
+            "-: refused 7 at 3: the call at word 3 names a relation that isn't there (line 1, column 14): relation 1 \
+             is called, but there is 1, numbered from 0\n",
         ),
     ] {
         for command in ["check", "run"] {

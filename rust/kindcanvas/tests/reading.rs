@@ -70,7 +70,8 @@ fn check_with_stack(mib: usize, words: &[u32]) -> Result<(), Refusal> {
     let words = words.to_vec();
     let thread = thread::Builder::new().stack_size(mib << 20).spawn(move || {
         let result = kindcanvas::check(&words);
-        assert_eq!(Program::new(words.clone()).map(|_| ()), result);
+        let made = Program::new(words.clone()).map(|_| ());
+        assert_eq!(made.map_err(|error| error.refusal), result);
         let read = show(&words).parse::<Program>().map(|_| ());
         let read = read.map_err(|error| match error {
             ParseError::Refused { refusal, .. } => refusal,

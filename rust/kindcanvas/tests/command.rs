@@ -5,7 +5,7 @@ use std::path::Path;
 use std::process::{Command, Stdio};
 
 /// Runs `kindcanvas` with the arguments and a text as standard input.
-fn kindcanvas(arguments: &[&str], text: &str) -> (Option<i32>, String, String) {
+fn kindcanvas(arguments: &[&str], text: impl AsRef<[u8]>) -> (Option<i32>, String, String) {
     let mut child = Command::new(env!("CARGO_BIN_EXE_kindcanvas"))
         .args(arguments)
         .stdin(Stdio::piped())
@@ -14,7 +14,7 @@ fn kindcanvas(arguments: &[&str], text: &str) -> (Option<i32>, String, String) {
         .spawn()
         .unwrap();
     // The command may end without reading.
-    let _ = child.stdin.take().unwrap().write_all(text.as_bytes());
+    let _ = child.stdin.take().unwrap().write_all(text.as_ref());
     let output = child.wait_with_output().unwrap();
     (
         output.status.code(),
@@ -77,6 +77,14 @@ fn complete_lists() {
             "# No parameters\n13:5 2:0 2:0 5:2 3:0 3:0",
             format!("1. the query holds\n\n1 answer in 2 steps.\n{COMPLETE}"),
         ),
+        (
+            "# Two ways to 5, one to 6\n13:12 2:1 2:1 11:9 5:2 0:0 2:5 5:2 0:0 2:6 5:2 0:0 2:5",
+            format!("1. 5\n2. 6\n3. 5\n\n3 answers, 2 of them different, in 13 steps.\n{COMPLETE}"),
+        ),
+        (
+            "# Symbol 5 and number 5\n13:9 2:1 2:1 11:6 5:2 0:0 1:5 5:2 0:0 2:5",
+            format!("1. '5\n2. 5\n\n2 answers in 9 steps.\n{COMPLETE}"),
+        ),
     ] {
         let (status, output, _) = kindcanvas(&["run", "-"], text);
         assert_eq!((status, output), (Some(0), expected), "{text}");
@@ -92,7 +100,7 @@ fn incomplete_lists() {
             "1. 5
 2. 5
 
-2 answers in 20 steps.
+2 answers, all the same, in 20 steps.
 The list may be incomplete: some branches take more than 2 calls, the round limit.
 Every answer is right, and all that the rules give with at most 2 calls is shown; what takes more may be missing.
 To search further, raise --rounds: it is 2, and may be 255.
@@ -226,10 +234,17 @@ fn refused() {
 
 #[test]
 fn no_words() {
+    let cases: [(&[u8], &str); 3] = [
+        (b"13:5 2:1\n2:x", "-: line 2, column 1: a word must be "),
+        (b"16:0", "-: line 1, column 1: the kind is over 15\n"),
+        (b"13:5 \xff", "-: "),
+    ];
     for command in ["check", "run"] {
-        let (status, output, error) = kindcanvas(&[command, "-"], "13:5 2:1\n2:x");
-        assert_eq!((status, output.as_str()), (Some(2), ""));
-        assert!(error.contains("line 2, column 1"), "{error}");
+        for (text, expected) in cases {
+            let (status, output, error) = kindcanvas(&[command, "-"], text);
+            assert_eq!((status, output.as_str()), (Some(1), ""), "{error}");
+            assert!(error.starts_with(expected), "{error}");
+        }
         let (status, _, error) = kindcanvas(&[command, "no such file"], "");
         assert_eq!(status, Some(2));
         assert!(error.starts_with("no such file: "), "{error}");
@@ -269,4 +284,8 @@ fn not_understood() {
     let (status, output, _) = kindcanvas(&["--help"], "");
     assert_eq!(status, Some(0));
     assert!(output.starts_with("usage: "), "{output}");
+    assert!(
+        output.contains("An answer is listed once for each way to it."),
+        "{output}"
+    );
 }

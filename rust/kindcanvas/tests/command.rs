@@ -1,5 +1,6 @@
 //! The command: what it prints, and its exit status.
 
+use std::fs;
 use std::io::Write;
 use std::path::Path;
 use std::process::{Command, Stdio};
@@ -34,27 +35,30 @@ const COMPLETE: &str =
 const A: &str = "13:5 2:1 2:1 # run A\n5:2 0:0 1:7\n";
 const C: &str = "13:5 2:1 2:1 12:2 2:1 0:0 13:9 2:1 2:1 11:6 12:2 2:1 0:0 5:2 0:0 2:5";
 
+/// The files in examples/ with this extension, by name and without it.
+fn examples(extension: &str) -> Vec<String> {
+    let files = fs::read_dir(example("")).unwrap();
+    let names = files.map(|entry| entry.unwrap().file_name().into_string().unwrap());
+    let mut names: Vec<String> = names
+        .filter_map(|name| name.strip_suffix(extension).map(str::to_string))
+        .collect();
+    names.sort();
+    names
+}
+
+/// Beside each rule file is what `kindcanvas run` prints for it.
 #[test]
 fn lists_of_examples() {
-    for (file, expected) in [
-        ("abo.kp", "1. 'O\n2. 'A\n\n2 answers in 1218 steps.\n"),
-        ("unacceptable.kp", "1. 2\n2. 4\n\n2 answers in 141 steps.\n"),
-        (
-            "open-typing.kp",
-            "1. ('A24 _0)
-     where 'A2 stands nowhere in _0
-     where _0 is not 'B7
-     where _0 is a symbol
-
-_0, _1 and so on stand for any value that meets the conditions of their answer.
-1 answer in 51 steps.
-",
-        ),
-    ] {
-        let (status, output, error) = kindcanvas(&["run", &example(file)], "");
-        let expected = format!("{expected}{COMPLETE}");
-        assert_eq!((status, output), (Some(0), expected), "{file}");
-        assert_eq!(error, "", "{file}");
+    let names = examples(".kp");
+    assert!(!names.is_empty());
+    assert_eq!(examples(".txt"), names, "one list for each rule file");
+    for name in names {
+        let expected = fs::read_to_string(example(&format!("{name}.txt"))).unwrap();
+        let file = example(&format!("{name}.kp"));
+        let (status, output, error) = kindcanvas(&["run", &file], "");
+        assert_eq!((output, error.as_str()), (expected.clone(), ""), "{name}");
+        let complete = expected.contains("The list is complete: ");
+        assert_eq!(status, Some(if complete { 0 } else { 3 }), "{name}");
     }
 }
 

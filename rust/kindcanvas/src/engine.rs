@@ -2,6 +2,7 @@
 
 use crate::refusal::Refusal;
 use std::fmt;
+use std::thread;
 
 extern "C" {
     /// Reads `len` words from `program` on and keeps nothing. 0: accepted, else number * 2^32 + place.
@@ -27,6 +28,11 @@ extern "C" {
 pub const SCRATCH_WORDS: usize = 16_384;
 /// The words of output that a run can use.
 pub const USABLE_WORDS: usize = (1 << 28) - 1;
+
+/// A program of so many words needs less than 1 MiB of stack, however deep its goals are nested.
+const SHORT_PROGRAM: usize = 4_096;
+/// The longest programs need up to 4 MiB, more than a thread usually has.
+const STACK: usize = 8 << 20;
 
 /// How a run ended.
 #[derive(Clone, Copy, Debug, PartialEq, Eq, Hash)]
@@ -123,10 +129,34 @@ impl Report {
     }
 }
 
+/// Makes a call of the engine with stack enough for a program of so many words.
+fn with_stack<T: Send>(words: usize, call: impl FnOnce() -> T + Send) -> T {
+    if words <= SHORT_PROGRAM {
+        return call();
+    }
+    thread::scope(|scope| {
+        let thread = thread::Builder::new()
+            .stack_size(STACK)
+            .spawn_scoped(scope, call);
+        match thread {
+            Ok(thread) => thread.join().expect("the engine doesn't panic"),
+            Err(error) => panic!(
+                "a program of {words} words needs a thread with 8 MiB of stack, and none could be made: {error}"
+            ),
+        }
+    })
+}
+
 /// Checks that the words are a program.
+///
+/// # Panics
+///
+/// If there are more than 4,096 words and no thread can be made for them, as [the crate's page](crate#stack) says.
 pub fn check(words: &[u32]) -> Result<(), Refusal> {
-    // SAFETY: the pointer and the length are those of a slice, which is only read and only during the call.
-    let result = unsafe { kindcanvas_check(words.as_ptr(), words.len()) };
+    let result = with_stack(words.len(), || {
+        // SAFETY: the pointer and the length are those of a slice, which is only read and only during the call.
+        unsafe { kindcanvas_check(words.as_ptr(), words.len()) }
+    });
     match result {
         0 => Ok(()),
         _ => Err(Refusal {
@@ -148,6 +178,10 @@ pub fn check(words: &[u32]) -> Result<(), Refusal> {
 /// assert_eq!(kindcanvas::text::show(&output), "15:1 1:7 0:0 0:0");
 /// # Ok::<(), kindcanvas::text::TextError>(())
 /// ```
+///
+/// # Panics
+///
+/// If the program has more than 4,096 words and no thread can be made for it, as [the crate's page](crate#stack) says.
 pub fn run(
     program: &[u32],
     rounds: u32,
@@ -190,21 +224,24 @@ fn call(
     scratch: &mut [u32],
     numbers: &mut [u32],
 ) -> u32 {
-    // SAFETY: pointers and lengths are those of slices, used only during the call; none that is written overlaps another.
-    unsafe {
-        kindcanvas_run(
-            program.as_ptr(),
-            program.len(),
-            rounds,
-            steps,
-            output.as_mut_ptr(),
-            output.len(),
-            scratch.as_mut_ptr(),
-            scratch.len(),
-            numbers.as_mut_ptr(),
-            numbers.len(),
-        )
-    }
+    with_stack(program.len(), || {
+        // SAFETY: pointers and lengths are those of slices, used only during the call; none that is written overlaps
+        // another.
+        unsafe {
+            kindcanvas_run(
+                program.as_ptr(),
+                program.len(),
+                rounds,
+                steps,
+                output.as_mut_ptr(),
+                output.len(),
+                scratch.as_mut_ptr(),
+                scratch.len(),
+                numbers.as_mut_ptr(),
+                numbers.len(),
+            )
+        }
+    })
 }
 
 #[cfg(test)]

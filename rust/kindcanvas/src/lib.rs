@@ -33,12 +33,19 @@
 //! # Ok::<(), kindcanvas::ParseError>(())
 //! ```
 //!
-//! [`check`] and [`run`] are the engine itself, on lent words and without memory of their own.
+//! [`check`] and [`run`] are the engine itself, on lent words.
+//!
+//! # Stack
+//!
+//! The engine recurses over nested goals. A call of this crate needs less than 1 MiB of stack: a program of more than 4,096
+//! words is read and run in a thread of its own with 8 MiB, which lasts as long as the call. If the system gives no such
+//! thread, the call panics.
 
 #![warn(missing_docs)]
 
 mod answer;
 mod engine;
+mod explain;
 mod program;
 mod readable;
 mod refusal;
@@ -46,7 +53,7 @@ mod word;
 
 pub use answer::{Answer, Answers, Constraint, Constraints, Pair, Term, Terms};
 pub use engine::{check, run, Bound, Ending, Report, SCRATCH_WORDS, USABLE_WORDS};
-pub use program::{Limits, Outcome, ParseError, Program};
+pub use program::{Limits, NoProgram, Outcome, ParseError, Program};
 pub use readable::Readable;
 pub use refusal::Refusal;
 /// Rule files as text.

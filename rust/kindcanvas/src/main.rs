@@ -5,7 +5,7 @@ mod list;
 use kindcanvas::{text, Ending, Limits, ParseError, Program, USABLE_WORDS};
 use std::env;
 use std::fmt::Display;
-use std::io::{self, BufWriter, Write};
+use std::io::{self, BufWriter, ErrorKind, Write};
 use std::process::ExitCode;
 use std::str::FromStr;
 
@@ -22,14 +22,14 @@ FILE is k:p text; - is standard input. A comment '# symbol 7 = B7' in it names s
 --output-words N  room for the answers: 0 to 268435455 words, else 4096
 
 In the list 'B7 or '7 is a symbol, 7 a number, _0 an open variable, () the empty list,
-(a b) a list and (a b . c) one that ends in c.
+(a b) a list and (a b . c) one that ends in c. An answer is listed once for each way to it.
 
 status 0  the list is complete; for check, the file is a program
-       1  the file is refused: it is no program
+       1  the file is no program
        2  the file cannot be read, the list not written, or the command not understood
        3  the list may be incomplete";
 
-const REFUSED: u8 = 1;
+const NO_PROGRAM: u8 = 1;
 const FAILED: u8 = 2;
 const INCOMPLETE: u8 = 3;
 
@@ -113,13 +113,15 @@ fn number<T: FromStr + PartialOrd + Display>(
 }
 
 fn load(file: &str) -> Result<Program, Failure> {
-    let contents =
-        text::contents(file).map_err(|error| Failure(FAILED, format!("{file}: {error}")))?;
-    contents.parse().map_err(|error: ParseError| {
-        let status = match error {
-            ParseError::Text(_) => FAILED,
-            ParseError::Refused { .. } => REFUSED,
+    let contents = text::contents(file).map_err(|error| {
+        let status = match error.kind() {
+            // It was read, and is no text.
+            ErrorKind::InvalidData => NO_PROGRAM,
+            _ => FAILED,
         };
         Failure(status, format!("{file}: {error}"))
-    })
+    })?;
+    contents
+        .parse()
+        .map_err(|error: ParseError| Failure(NO_PROGRAM, format!("{file}: {error}")))
 }

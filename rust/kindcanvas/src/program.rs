@@ -2,6 +2,7 @@
 
 use crate::answer::Answers;
 use crate::engine::{self, Report, SCRATCH_WORDS, USABLE_WORDS};
+use crate::explain::explain;
 use crate::refusal::Refusal;
 use std::error::Error;
 use std::fmt;
@@ -46,16 +47,25 @@ impl Program {
     /// let words = vec![0xd000_0005, 0x2000_0001, 0x2000_0001, 0x5000_0002, 0x0000_0000, 0x1000_0007];
     /// assert!(Program::new(words).is_ok());
     ///
-    /// let refusal = Program::new(vec![0x5000_0000]).unwrap_err();
-    /// assert_eq!((refusal.number, refusal.place), (2, 0));
+    /// let error = Program::new(vec![0x5000_0000]).unwrap_err();
+    /// assert_eq!((error.refusal.number, error.refusal.place), (2, 0));
+    /// assert_eq!(error.detail.as_deref(), Some("5:0 (an equality) stands where a relation must"));
     /// ```
-    pub fn new(words: Vec<u32>) -> Result<Program, Refusal> {
-        Program::with_names(words, Names::new())
-    }
-
-    fn with_names(words: Vec<u32>, names: Names) -> Result<Program, Refusal> {
-        engine::check(&words)?;
-        Ok(Program { words, names })
+    ///
+    /// # Panics
+    ///
+    /// As [`check`](crate::check) does.
+    pub fn new(words: Vec<u32>) -> Result<Program, NoProgram> {
+        match engine::check(&words) {
+            Ok(()) => Ok(Program {
+                words,
+                names: Names::new(),
+            }),
+            Err(refusal) => Err(NoProgram {
+                refusal,
+                detail: explain(&words, refusal, |at| format!("word {at}")),
+            }),
+        }
     }
 
     /// Its words.
@@ -69,6 +79,10 @@ impl Program {
     }
 
     /// Runs it through its rounds.
+    ///
+    /// # Panics
+    ///
+    /// As [`run`](crate::run) does.
     pub fn run(&self, limits: Limits) -> Outcome {
         let mut words = vec![0; limits.output_words.min(USABLE_WORDS)];
         let mut scratch = vec![0; SCRATCH_WORDS];
@@ -81,7 +95,7 @@ impl Program {
     }
 }
 
-/// From `k:p` text, as [`text`] reads it.
+/// From `k:p` text, as [`text`] reads it. It panics as [`check`](crate::check) does.
 ///
 /// ```
 /// use kindcanvas::{ParseError, Program, Refusal};
@@ -94,7 +108,8 @@ impl Program {
 /// assert!(matches!(error, ParseError::Refused { refusal: Refusal { number: 5, place: 4 }, .. }));
 /// assert_eq!(
 ///     error.to_string(),
-///     "refused 5 at 4: word 4 names a variable that its relation doesn't have (line 2, column 7)"
+///     "refused 5 at 4: word 4 names a variable that its relation doesn't have (line 2, column 7): variable 1, but the \
+///      relation at line 1, column 1 (13:5) has 1, numbered from 0"
 /// );
 /// ```
 impl FromStr for Program {
@@ -106,10 +121,43 @@ impl FromStr for Program {
             places,
             names,
         } = Source::parse(text).map_err(ParseError::Text)?;
-        Program::with_names(words, names).map_err(|refusal| ParseError::Refused {
-            refusal,
-            place: places.get(refusal.place).copied(),
-        })
+        match engine::check(&words) {
+            Ok(()) => Ok(Program { words, names }),
+            Err(refusal) => Err(ParseError::Refused {
+                refusal,
+                place: places.get(refusal.place).copied(),
+                detail: explain(&words, refusal, |at| places[at].to_string()),
+            }),
+        }
+    }
+}
+
+/// Why words are no program.
+#[derive(Clone, Debug, PartialEq, Eq)]
+pub struct NoProgram {
+    /// What is wrong with them.
+    pub refusal: Refusal,
+    /// Which case it is in these words, and in which part.
+    pub detail: Option<String>,
+}
+
+impl fmt::Display for NoProgram {
+    fn fmt(&self, f: &mut fmt::Formatter) -> fmt::Result {
+        self.refusal.fmt(f)?;
+        show_detail(f, &self.detail)
+    }
+}
+
+impl Error for NoProgram {
+    fn source(&self) -> Option<&(dyn Error + 'static)> {
+        Some(&self.refusal)
+    }
+}
+
+fn show_detail(f: &mut fmt::Formatter, detail: &Option<String>) -> fmt::Result {
+    match detail {
+        Some(detail) => write!(f, ": {detail}"),
+        None => Ok(()),
     }
 }
 
@@ -124,14 +172,20 @@ pub enum ParseError {
         refusal: Refusal,
         /// Where in the text the refusal's word stands; none if that is the end.
         place: Option<Place>,
+        /// Which case it is in these words, and in which part.
+        detail: Option<String>,
     },
 }
 
 impl fmt::Display for ParseError {
     fn fmt(&self, f: &mut fmt::Formatter) -> fmt::Result {
-        let (refusal, place) = match self {
+        let (refusal, place, detail) = match self {
             ParseError::Text(error) => return error.fmt(f),
-            ParseError::Refused { refusal, place } => (refusal, place),
+            ParseError::Refused {
+                refusal,
+                place,
+                detail,
+            } => (refusal, place, detail),
         };
         write!(
             f,
@@ -140,10 +194,11 @@ impl fmt::Display for ParseError {
         )?;
         match (refusal.number, place) {
             // About the file as a whole.
-            (1, _) => Ok(()),
-            (_, Some(place)) => write!(f, " ({place})"),
-            (_, None) => write!(f, " (the end of the file)"),
+            (1, _) => (),
+            (_, Some(place)) => write!(f, " ({place})")?,
+            (_, None) => write!(f, " (the end of the file)")?,
         }
+        show_detail(f, detail)
     }
 }
 

@@ -1,11 +1,12 @@
 //! The command: what it prints, and its exit status.
 
+use std::fs;
 use std::io::Write;
 use std::path::Path;
 use std::process::{Command, Stdio};
 
 /// Runs `kindcanvas` with the arguments and a text as standard input.
-fn kindcanvas(arguments: &[&str], text: &str) -> (Option<i32>, String, String) {
+fn kindcanvas(arguments: &[&str], text: impl AsRef<[u8]>) -> (Option<i32>, String, String) {
     let mut child = Command::new(env!("CARGO_BIN_EXE_kindcanvas"))
         .args(arguments)
         .stdin(Stdio::piped())
@@ -14,7 +15,7 @@ fn kindcanvas(arguments: &[&str], text: &str) -> (Option<i32>, String, String) {
         .spawn()
         .unwrap();
     // The command may end without reading.
-    let _ = child.stdin.take().unwrap().write_all(text.as_bytes());
+    let _ = child.stdin.take().unwrap().write_all(text.as_ref());
     let output = child.wait_with_output().unwrap();
     (
         output.status.code(),
@@ -34,27 +35,30 @@ const COMPLETE: &str =
 const A: &str = "13:5 2:1 2:1 # run A\n5:2 0:0 1:7\n";
 const C: &str = "13:5 2:1 2:1 12:2 2:1 0:0 13:9 2:1 2:1 11:6 12:2 2:1 0:0 5:2 0:0 2:5";
 
+/// The files in examples/ with this extension, by name and without it.
+fn examples(extension: &str) -> Vec<String> {
+    let files = fs::read_dir(example("")).unwrap();
+    let names = files.map(|entry| entry.unwrap().file_name().into_string().unwrap());
+    let mut names: Vec<String> = names
+        .filter_map(|name| name.strip_suffix(extension).map(str::to_string))
+        .collect();
+    names.sort();
+    names
+}
+
+/// Beside each rule file is what `kindcanvas run` prints for it.
 #[test]
 fn lists_of_examples() {
-    for (file, expected) in [
-        ("abo.kp", "1. 'O\n2. 'A\n\n2 answers in 1218 steps.\n"),
-        ("unacceptable.kp", "1. 2\n2. 4\n\n2 answers in 141 steps.\n"),
-        (
-            "open-typing.kp",
-            "1. ('A24 _0)
-     where 'A2 stands nowhere in _0
-     where _0 is not 'B7
-     where _0 is a symbol
-
-_0, _1 and so on stand for any value that meets the conditions of their answer.
-1 answer in 51 steps.
-",
-        ),
-    ] {
-        let (status, output, error) = kindcanvas(&["run", &example(file)], "");
-        let expected = format!("{expected}{COMPLETE}");
-        assert_eq!((status, output), (Some(0), expected), "{file}");
-        assert_eq!(error, "", "{file}");
+    let names = examples(".kp");
+    assert!(!names.is_empty());
+    assert_eq!(examples(".txt"), names, "one list for each rule file");
+    for name in names {
+        let expected = fs::read_to_string(example(&format!("{name}.txt"))).unwrap();
+        let file = example(&format!("{name}.kp"));
+        let (status, output, error) = kindcanvas(&["run", &file], "");
+        assert_eq!((output, error.as_str()), (expected.clone(), ""), "{name}");
+        let complete = expected.contains("The list is complete: ");
+        assert_eq!(status, Some(if complete { 0 } else { 3 }), "{name}");
     }
 }
 
@@ -77,6 +81,14 @@ fn complete_lists() {
             "# No parameters\n13:5 2:0 2:0 5:2 3:0 3:0",
             format!("1. the query holds\n\n1 answer in 2 steps.\n{COMPLETE}"),
         ),
+        (
+            "# Two ways to 5, one to 6\n13:12 2:1 2:1 11:9 5:2 0:0 2:5 5:2 0:0 2:6 5:2 0:0 2:5",
+            format!("1. 5\n2. 6\n3. 5\n\n3 answers, 2 of them different, in 13 steps.\n{COMPLETE}"),
+        ),
+        (
+            "# Symbol 5 and number 5\n13:9 2:1 2:1 11:6 5:2 0:0 1:5 5:2 0:0 2:5",
+            format!("1. '5\n2. 5\n\n2 answers in 9 steps.\n{COMPLETE}"),
+        ),
     ] {
         let (status, output, _) = kindcanvas(&["run", "-"], text);
         assert_eq!((status, output), (Some(0), expected), "{text}");
@@ -92,7 +104,7 @@ fn incomplete_lists() {
             "1. 5
 2. 5
 
-2 answers in 20 steps.
+2 answers, all the same, in 20 steps.
 The list may be incomplete: some branches take more than 2 calls, the round limit.
 Every answer is right, and all that the rules give with at most 2 calls is shown; what takes more may be missing.
 To search further, raise --rounds: it is 2, and may be 255.
@@ -192,24 +204,28 @@ fn refused() {
     for (text, expected) in [
         (
             "# nothing\n",
-            "-: refused 1 at 0: the file must hold 1 to 16,384 words\n",
+            "-: refused 1 at 0: the file must hold 1 to 16,384 words: there are none\n",
         ),
         (
             "5:0",
-            "-: refused 2 at 0: word 0 has a kind that is not allowed there (line 1, column 1)\n",
+            "-: refused 2 at 0: word 0 has a kind that is not allowed there (line 1, column 1): 5:0 (an equality) stands where \
+             a relation must\n",
         ),
         (
             "13:0 # ends too early\n",
             "-: refused 3 at 1: at word 1 a part overruns what encloses it, is missing or is left over, or an empty \
-             list has a payload (the end of the file)\n",
+             list has a payload (the end of the file): the relation at line 1, column 1 (13:0) ends before its number \
+             of parameters\n",
         ),
         (
             "13:5 2:1 2:1\n  5:2 0:1 3:0",
-            "-: refused 5 at 4: word 4 names a variable that its relation doesn't have (line 2, column 7)\n",
+            "-: refused 5 at 4: word 4 names a variable that its relation doesn't have (line 2, column 7): variable \
+             1, but the relation at line 1, column 1 (13:5) has 1, numbered from 0\n",
         ),
         (
             "13:4 2:0 2:0 12:1 2:1",
-            "-: refused 7 at 3: the call at word 3 names a relation that isn't there (line 1, column 14)\n",
+            "-: refused 7 at 3: the call at word 3 names a relation that isn't there (line 1, column 14): relation 1 \
+             is called, but there is 1, numbered from 0\n",
         ),
     ] {
         for command in ["check", "run"] {
@@ -222,10 +238,17 @@ fn refused() {
 
 #[test]
 fn no_words() {
+    let cases: [(&[u8], &str); 3] = [
+        (b"13:5 2:1\n2:x", "-: line 2, column 1: a word must be "),
+        (b"16:0", "-: line 1, column 1: the kind is over 15\n"),
+        (b"13:5 \xff", "-: "),
+    ];
     for command in ["check", "run"] {
-        let (status, output, error) = kindcanvas(&[command, "-"], "13:5 2:1\n2:x");
-        assert_eq!((status, output.as_str()), (Some(2), ""));
-        assert!(error.contains("line 2, column 1"), "{error}");
+        for (text, expected) in cases {
+            let (status, output, error) = kindcanvas(&[command, "-"], text);
+            assert_eq!((status, output.as_str()), (Some(1), ""), "{error}");
+            assert!(error.starts_with(expected), "{error}");
+        }
         let (status, _, error) = kindcanvas(&[command, "no such file"], "");
         assert_eq!(status, Some(2));
         assert!(error.starts_with("no such file: "), "{error}");
@@ -265,4 +288,8 @@ fn not_understood() {
     let (status, output, _) = kindcanvas(&["--help"], "");
     assert_eq!(status, Some(0));
     assert!(output.starts_with("usage: "), "{output}");
+    assert!(
+        output.contains("An answer is listed once for each way to it."),
+        "{output}"
+    );
 }

@@ -1,7 +1,7 @@
 //! The static library against the reference: which programs are accepted, and how the others are refused.
 
 use kindcanvas::text::show;
-use kindcanvas::Refusal;
+use kindcanvas::{ParseError, Program, Refusal};
 use reference::gen::{self, Rng};
 use reference::table;
 use reference::word::word;
@@ -65,33 +65,58 @@ fn random_programs() {
     }
 }
 
-/// `check` in a thread with half of the usual stack.
-fn check_in_4_mib(words: &[u32]) -> Result<(), Refusal> {
+/// `check` in a thread with so many MiB of stack, which must agree with [`Program::new`] and with the text read.
+fn check_with_stack(mib: usize, words: &[u32]) -> Result<(), Refusal> {
     let words = words.to_vec();
-    thread::Builder::new()
-        .stack_size(4 << 20)
-        .spawn(move || kindcanvas::check(&words))
-        .unwrap()
-        .join()
-        .unwrap()
+    let thread = thread::Builder::new().stack_size(mib << 20).spawn(move || {
+        let result = kindcanvas::check(&words);
+        let made = Program::new(words.clone()).map(|_| ());
+        assert_eq!(made.map_err(|error| error.refusal), result);
+        let read = show(&words).parse::<Program>().map(|_| ());
+        let read = read.map_err(|error| match error {
+            ParseError::Refused { refusal, .. } => refusal,
+            ParseError::Text(error) => panic!("{error}"),
+        });
+        assert_eq!(read, result);
+        result
+    });
+    thread.unwrap().join().unwrap()
 }
 
-/// However deep a program, half of the usual stack is enough to read it.
+/// 2 MiB are what a thread has if nothing else is said.
+fn check_in_a_thread(words: &[u32]) -> Result<(), Refusal> {
+    check_with_stack(2, words)
+}
+
+/// However deep a program, a thread can read it.
 #[test]
-fn deep_programs_need_little_stack() {
+fn deep_programs_in_a_thread() {
     let programs = [
-        ("conjunctions", gen::nested_goals(16_000, [10, 10])),
+        ("conjunctions", gen::nested_goals(16_378, [10, 10])),
         (
             "disjunctions and conjunctions",
-            gen::nested_goals(16_000, [11, 10]),
+            gen::nested_goals(16_378, [11, 10]),
         ),
-        ("as many goals as fit", gen::nested_goals(16_378, [10, 11])),
         ("first parts", gen::first_parts(8_000)),
         ("a list", gen::list(8_000)),
     ];
     for (name, words) in programs {
-        assert_eq!(check_in_4_mib(&words), Ok(()), "{name}");
+        assert_eq!(check_in_a_thread(&words), Ok(()), "{name}");
     }
+}
+
+/// The longest programs for which no thread is made.
+#[test]
+fn short_programs_need_little_stack() {
+    let mut words = gen::nested_goals(4_090, [10, 10]);
+    assert_eq!(words.len(), 4_096);
+    assert_eq!(check_with_stack(1, &words), Ok(()));
+    words[4_095] = word(0, 0);
+    let refusal = Refusal {
+        number: 5,
+        place: 4_095,
+    };
+    assert_eq!(check_with_stack(1, &words), Err(refusal));
 }
 
 #[test]
@@ -101,7 +126,7 @@ fn the_whole_range_of_places() {
     assert_eq!(words.len(), 16_384);
     words[16_383] = word(0, 0);
     assert_eq!(
-        check_in_4_mib(&words),
+        check_in_a_thread(&words),
         Err(Refusal {
             number: 5,
             place: 16_383
@@ -111,7 +136,7 @@ fn the_whole_range_of_places() {
     words[16_382] = word(7, 1);
     words[16_383] = word(4, 0);
     assert_eq!(
-        check_in_4_mib(&words),
+        check_in_a_thread(&words),
         Err(Refusal {
             number: 3,
             place: 16_384

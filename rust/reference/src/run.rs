@@ -562,16 +562,21 @@ impl Search<'_> {
             let words = names.words(&nodes).expect("all have names");
             inside.extend(words);
         }
+        // With this fault a disequality may name what no query term has.
+        let all_named = self.has(Fault::AbsentDisequalityKept).then(|| {
+            let mut all = names.clone();
+            for variable in 0..path.substitution.0.len() {
+                all.give(path.substitution.walk(Value::Variable(variable)));
+            }
+            all
+        });
         let mut lines: Vec<Vec<u32>> = Vec::new();
         for &constraint in &path.constraints {
-            let mut known = names.clone();
-            let differ = matches!(self.program[constraint.goal], Goal::Differ(..));
-            if self.has(Fault::AbsentDisequalityKept) && differ {
-                for variable in 0..path.substitution.0.len() {
-                    known.give(path.substitution.walk(Value::Variable(variable)));
-                }
-            }
-            let listed = self.lines(constraint, path, &known);
+            let known = match (&all_named, &self.program[constraint.goal]) {
+                (Some(all), Goal::Differ(..)) => all,
+                _ => &names,
+            };
+            let listed = self.lines(constraint, path, known);
             for line in self.during(During::Lines, listed)? {
                 if lines.contains(&line) {
                     self.trace.note(Event::LineRepeated);

@@ -1,4 +1,4 @@
--- What holds of every run that returns a result: the promise that the engine's `run` cites.
+-- What holds of every call: the demands, that the engine's promise cites.
 use Prim.Native.Nat.{_+_, _≤_, ℕ}
 use mathlib.Core.List.{List, map}
 use mathlib.Core.Logic.{_↔_}
@@ -7,10 +7,10 @@ use mathlib.Core.Path.{_≡_}
 use lib.ListN.{getElem?, length}
 use Rattle.rules.specs.Syntax.{Program, Relation}
 use Rattle.rules.specs.WellFormed.{WrittenForm}
-use Rattle.semantics.specs.Demand.{Demand2, Demand3}
+use Rattle.semantics.specs.Demand.{Demand1, Demand2, Demand3}
 use Rattle.semantics.specs.Path.{Passing, as-written}
 use Rattle.semantics.specs.Round.{Answer, End, Result, Rounded, Tally, broken, completed, finished, one-round-by, output-full, path-limit, rounds-used, steps-used}
-use Rattle.semantics.specs.Run.{answers-on, page, usable}
+use Rattle.semantics.specs.Run.{Report, answers-on, page, ran, usable}
 use Rattle.semantics.specs.Situation.{Came, LastRound, Situation}
 
 -- the last round of a run with this end
@@ -53,3 +53,8 @@ pub record Promised (words : List ℕ) (round-limit step-limit : ℕ) (output af
   -- "Each is reported in just that situation."
   pub just : (e : End) → (r .end ≡ e) ↔ Situation as-written program query step-limit round-limit (usable (length output)) e
   pub on-output : OnPage output after r
+
+-- What a call returns is a result or a refusal as demand 1 says, and of a result all that is promised holds.
+pub record Demands (words : List ℕ) (round-limit step-limit : ℕ) (output scratch after : List ℕ) (x : Report) : Type 0 where
+  pub accepts : Demand1 words round-limit (length scratch) x
+  pub runs : (r : Result) → x ≡ ran r → Promised words round-limit step-limit output after r

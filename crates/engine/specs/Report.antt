@@ -58,19 +58,12 @@ pub record Kept (words : List ℕ) (round-limit step-limit : ℕ) (output scratc
 
 -- For callers in other languages a report is seven numbers: how the call ended (0 to 4 in the order of document 01, "How a run ends", 5 if refused), which bound of a path (1 to 5
 -- as "Bounds" lists them) or the refusal's number, the refusal's place, round, steps, answers, words. What does not apply is 0.
-abbrev pub bound-number : steps.Bound → ℕ
-bound-number steps.variables = 1
-bound-number steps.goals = 2
-bound-number steps.disjunctions = 3
-bound-number steps.constraints = 4
-bound-number steps.waiting = 5
-
 abbrev pub end-numbers : Ended → List ℕ
 end-numbers (ran round.finished) = 0 ∷ 0 ∷ 0 ∷ []
 end-numbers (ran round.rounds-used) = 1 ∷ 0 ∷ 0 ∷ []
 end-numbers (ran round.steps-used) = 2 ∷ 0 ∷ 0 ∷ []
 end-numbers (ran round.output-full) = 3 ∷ 0 ∷ 0 ∷ []
-end-numbers (ran (round.path-limit b)) = 4 ∷ bound-number b ∷ 0 ∷ []
+end-numbers (ran (round.path-limit b)) = 4 ∷ steps.bound-number b ∷ 0 ∷ []
 end-numbers (turned-away number place) = 5 ∷ number ∷ place ∷ []
 
 abbrev pub numbers : run.Report → List ℕ

@@ -1,0 +1,111 @@
+//! The public contracts of this repository's crates.
+
+use contracts::{chains, contracts, Contract, Module};
+use std::collections::BTreeMap;
+use std::fs;
+use std::path::{Path, PathBuf};
+
+fn crates() -> PathBuf {
+    Path::new(env!("CARGO_MANIFEST_DIR")).join("../../crates")
+}
+
+/// The files under a folder with this ending, or none if there is no such folder.
+fn files(folder: &Path, ending: &str) -> Vec<PathBuf> {
+    let Ok(entries) = fs::read_dir(folder) else {
+        return Vec::new();
+    };
+    let mut found = Vec::new();
+    for entry in entries {
+        let path = entry.unwrap().path();
+        if path.is_dir() {
+            found.extend(files(&path, ending));
+        } else if path.extension().is_some_and(|e| e == ending) {
+            found.push(path);
+        }
+    }
+    found.sort();
+    found
+}
+
+fn name(path: &Path) -> String {
+    path.file_stem().unwrap().to_str().unwrap().to_string()
+}
+
+/// Every public function that has a contract, with its crate, and the texts of all `specs/`.
+fn tree() -> (Vec<(String, Contract)>, BTreeMap<Module, String>) {
+    let mut found = Vec::new();
+    let mut texts = BTreeMap::new();
+    for entry in fs::read_dir(crates()).unwrap() {
+        let folder = entry.unwrap().path();
+        let krate = name(&folder);
+        for file in files(&folder.join("src"), "rt") {
+            let said = contracts(&fs::read_to_string(&file).unwrap());
+            let said = said.unwrap_or_else(|e| panic!("{}: {e}", file.display()));
+            let promised = said.into_iter().filter(|c| c.requires || c.ensures);
+            found.extend(promised.map(|c| (krate.clone(), c)));
+        }
+        for file in files(&folder.join("specs"), "antt") {
+            let module = Module {
+                krate: krate.clone(),
+                name: name(&file),
+            };
+            texts.insert(module, fs::read_to_string(&file).unwrap());
+        }
+    }
+    found.sort_by(|a, b| (&a.0, &a.1.function).cmp(&(&b.0, &b.1.function)));
+    (found, texts)
+}
+
+#[test]
+fn public_contracts_are_found() {
+    let (found, texts) = tree();
+    let names: Vec<String> = found
+        .iter()
+        .map(|(k, c)| format!("{k}::{}", c.function))
+        .collect();
+    assert!(names.len() >= 12, "only {names:?}");
+    for wanted in [
+        "engine::run",
+        "engine::kindcanvas_run",
+        "rules::check",
+        "word::kind",
+        "show::word",
+    ] {
+        assert!(
+            names.iter().any(|name| name == wanted),
+            "{wanted} is not among {names:?}"
+        );
+    }
+    assert!(texts.len() >= 40, "only {} files of specs/", texts.len());
+}
+
+/// A caller may lend anything.
+#[test]
+fn no_public_function_requires_anything() {
+    for (krate, contract) in tree().0 {
+        assert!(
+            !contract.requires,
+            "{krate}::{} has a requires",
+            contract.function
+        );
+    }
+}
+
+#[test]
+fn what_public_contracts_unfold_to_stands_in_specs() {
+    let (found, texts) = tree();
+    let mut bad = Vec::new();
+    for (krate, contract) in found {
+        let met = chains(&contract.imports, &texts)
+            .unwrap_or_else(|e| panic!("{krate}::{}: {e}", contract.function));
+        bad.extend(
+            met.iter()
+                .map(|chain| format!("{krate}::{} -> {}", contract.function, chain.join(" -> "))),
+        );
+    }
+    assert!(
+        bad.is_empty(),
+        "public contracts that reach proofs/:\n{}",
+        bad.join("\n")
+    );
+}

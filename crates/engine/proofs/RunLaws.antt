@@ -45,7 +45,7 @@ module _ (words : List ℕ) (round-limit step-limit : ℕ) (output scratch : Lis
   kept-said : (r : code.Report) (output′ scratch′ : List ℕ) → Says (run words round-limit step-limit output scratch) r output′ scratch′ → Kept words round-limit step-limit output scratch r output′ scratch′
   kept-said r output′ scratch′ s =
       let t : Says (run-as-written words round-limit step-limit output scratch) r output′ scratch′ = rw (run-same words round-limit step-limit output scratch) at s in
-      record { says = t; demands = rw (t .is-output) (demands-run words round-limit step-limit output scratch) }
+      record { says = t; demands = rw (t .is-output, t .is-scratch) (demands-run words round-limit step-limit output scratch) }
 
   kept-refusal : (c p : ℕ) (r : code.Report) → Turned c p r → comes-to ≡ refusal c p → Kept words round-limit step-limit output scratch r output scratch
   unfolding comes-to

@@ -54,7 +54,7 @@ pub record Says (x : run.Run) (r : Report) (output-after scratch-after : List �
 -- The promise of `run`: it says what document 01's run says, and the demands hold of this very result and page.
 pub record Kept (words : List ℕ) (round-limit step-limit : ℕ) (output scratch : List ℕ) (r : Report) (output-after scratch-after : List ℕ) : Type 0 where
   pub says : Says (run.run-as-written words round-limit step-limit output scratch) r output-after scratch-after
-  pub demands : Demands words round-limit step-limit output scratch output-after (run.run-as-written words round-limit step-limit output scratch .report)
+  pub demands : Demands words round-limit step-limit output scratch output-after scratch-after (run.run-as-written words round-limit step-limit output scratch .report)
 
 -- For callers in other languages a report is seven numbers: how the call ended (0 to 4 in the order of document 01, "How a run ends", 5 if refused), which bound of a path (1 to 5
 -- as "Bounds" lists them) or the refusal's number, the refusal's place, round, steps, answers, words. What does not apply is 0.
@@ -85,4 +85,4 @@ call x output scratch lent =
 -- The promise of `kindcanvas_run`, with the demands of what was run.
 pub record Called (words : List ℕ) (round-limit step-limit : ℕ) (output scratch lent : List ℕ) (result : ℕ) (output-after scratch-after lent-after : List ℕ) : Type 0 where
   pub is-call : call (run.run-as-written words round-limit step-limit output scratch) output scratch lent ≡ record { result = result; output = output-after; scratch = scratch-after; numbers = lent-after }
-  pub demands : result ≡ 0 → Demands words round-limit step-limit output scratch output-after (run.run-as-written words round-limit step-limit output scratch .report)
+  pub demands : result ≡ 0 → Demands words round-limit step-limit output scratch output-after scratch-after (run.run-as-written words round-limit step-limit output scratch .report)

@@ -58,6 +58,6 @@ on-page P r d output scratch fits =
     let a = length-append (page (r .answers)) (replicate n 0) in
     let heads = each-map (λ (a : Answer) right. shown-headed (query-count P) (a .1) (right .shows-one .0) (right .shows-one .1)) (r .answers) (d .each-answer) in
     record {
-      answers-are = page-split (r .answers) (length (page (r .answers) ++ replicate n 0)) n heads (omega arith);
+      page-is = page-split (r .answers) (length (page (r .answers) ++ replicate n 0)) n heads (omega arith);
       same-length = a ∙ ap (λ (m : ℕ). length (page (r .answers)) + m) (length-replicate n 0) ∙ omega arith;
     }

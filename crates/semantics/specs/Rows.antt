@@ -136,6 +136,32 @@ W =
     (word 13 9 ∷ word 2 0 ∷ word 2 1 ∷ word 10 6 ∷ word 9 2 ∷ word 1 7 ∷ word 0 0 ∷ word 12 2 ∷ word 2 1 ∷ word 0 0 ∷ [])
     ++ part 13 (word 2 1 ∷ word 2 2 ∷ part 10 (part 5 (word 0 0 ∷ deep 128 (word 0 1 ∷ [])) ++ (word 12 2 ∷ word 2 1 ∷ word 0 1 ∷ [])))
 
+-- an alternative for each of symbolo and numbero of a symbol and a number: those that hold
+abbrev pub atoms-typed : List ℕ
+atoms-typed =
+    part 13 (word 2 1 ∷ word 2 1 ∷ part 11 (typed-as 7 (word 1 7) ++ (typed-as 7 (word 2 7) ++ (typed-as 8 (word 1 8) ++ typed-as 8 (word 2 8)))))
+  where
+    -- q equal to an atom, and of a type
+    typed-as : ℕ → ℕ → List ℕ
+    typed-as kind atom = part 10 (part 5 (word 0 0 ∷ atom ∷ []) ++ part kind (word 0 0 ∷ []))
+
+-- q equal to the pair (x, y), absento 7 in q, differ of (x, y) and ((y, 1:1), 2:2): names by first appearance, absento by first occurrence, right sides through the path's bindings
+abbrev pub in-order : List ℕ
+in-order =
+    word 13 20 ∷ word 2 1 ∷ word 2 3 ∷ word 10 17 ∷ word 5 4 ∷ word 0 0 ∷ word 4 1 ∷ word 0 1 ∷ word 0 2 ∷ word 9 2 ∷ word 1 7 ∷ word 0 0 ∷ word 6 8 ∷ word 4 1 ∷ word 0 1
+    ∷ word 0 2 ∷ word 4 3 ∷ word 4 1 ∷ word 0 2 ∷ word 1 1 ∷ word 2 2 ∷ []
+
+-- 1:1 equal to 1:2, and different from it
+abbrev pub atoms-equal : List ℕ
+atoms-equal = word 13 5 ∷ word 2 0 ∷ word 2 0 ∷ word 5 2 ∷ word 1 1 ∷ word 1 2 ∷ []
+
+abbrev pub atoms-differ : List ℕ
+atoms-differ = word 13 5 ∷ word 2 0 ∷ word 2 0 ∷ word 6 2 ∷ word 1 1 ∷ word 1 2 ∷ []
+
+-- symbolo(q), then q equal to q: nothing is bound, so nothing is reviewed again
+abbrev pub bound-nothing : List ℕ
+bound-nothing = word 13 8 ∷ word 2 1 ∷ word 2 1 ∷ word 10 5 ∷ word 7 1 ∷ word 0 0 ∷ word 5 2 ∷ word 0 0 ∷ word 0 0 ∷ []
+
 -- `15:1 1:7`
 abbrev pub seven : List ℕ
 seven = word 15 1 ∷ word 1 7 ∷ []
@@ -169,8 +195,15 @@ rows =
     ∷ row K 16 1000000 4096 finished 0 15 ((0, word 15 1 ∷ word 0 0 ∷ []) ∷ [])
     ∷ row L 16 1000000 4096 finished 0 9 ((0, word 15 4 ∷ word 0 0 ∷ word 9 2 ∷ word 1 7 ∷ word 0 0 ∷ []) ∷ [])
     ∷ row M 16 1000000 4096 finished 0 9 ((0, word 15 1 ∷ word 1 1 ∷ []) ∷ (0, word 15 1 ∷ word 1 2 ∷ []) ∷ [])
+    ∷ row M 16 1000000 3 output-full 0 9 ((0, word 15 1 ∷ word 1 1 ∷ []) ∷ [])
+    ∷ row M 16 8 4096 steps-used 0 8 ((0, word 15 1 ∷ word 1 1 ∷ []) ∷ [])
     ∷ row N 16 1000000 4096 finished 0 16 ((0, word 15 9 ∷ word 0 0 ∷ word 0 1 ∷ word 8 1 ∷ word 0 1 ∷ word 6 2 ∷ word 0 0 ∷ word 2 5 ∷ word 8 1 ∷ word 0 0 ∷ []) ∷ [])
     ∷ row O 16 1000000 4096 finished 0 23 ((0, word 15 6 ∷ word 0 0 ∷ word 8 1 ∷ word 0 0 ∷ word 6 2 ∷ word 0 0 ∷ word 2 5 ∷ []) ∷ [])
+    ∷ row atoms-typed 16 1000000 4096 finished 0 29 ((0, seven) ∷ (0, word 15 1 ∷ word 2 8 ∷ []) ∷ [])
+    ∷ row in-order 16 1000000 4096 finished 0 37 ((0, word 15 18 ∷ word 4 1 ∷ word 0 0 ∷ word 0 1 ∷ word 9 2 ∷ word 1 7 ∷ word 0 0 ∷ word 9 2 ∷ word 1 7 ∷ word 0 1 ∷ word 11 8 ∷ word 6 4 ∷ word 0 0 ∷ word 4 1 ∷ word 0 1 ∷ word 1 1 ∷ word 6 2 ∷ word 0 1 ∷ word 2 2 ∷ []) ∷ [])
+    ∷ row atoms-equal 16 1000000 4096 finished 0 2 []
+    ∷ row atoms-differ 16 1000000 4096 finished 0 4 ((0, word 15 0 ∷ []) ∷ [])
+    ∷ row bound-nothing 16 1000000 4096 finished 0 7 ((0, word 15 3 ∷ word 0 0 ∷ word 7 1 ∷ word 0 0 ∷ []) ∷ [])
     ∷ row P 16 1000000 4096 (path-limit bound.variables) 8 43 []
     ∷ row (Q 8) 16 1000000 4096 (path-limit bound.variables) 9 53 []
     ∷ row (Q 9) 16 1000000 4096 (path-limit bound.variables) 8 43 []

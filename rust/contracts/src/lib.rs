@@ -223,34 +223,41 @@ pub fn resolve(path: &str, is_module: &dyn Fn(&Module) -> bool) -> Result<Import
     }
 }
 
-/// The chains from a contract's imports into `proofs`, one for each import of one there: from module to module, and the import last.
-pub fn chains(
-    from: &[String],
-    texts: &BTreeMap<Module, String>,
-) -> Result<Vec<Vec<String>>, String> {
+/// All that is reached from a contract's imports.
+#[derive(Debug, Default)]
+pub struct Walk {
+    pub modules: BTreeSet<Module>,
+    /// One chain for each import from `proofs`: from module to module, and the import last.
+    pub into_proofs: Vec<Vec<String>>,
+}
+
+/// Follows imports through all modules that they reach; the shortest chain to a module comes first.
+pub fn walk(from: &[String], texts: &BTreeMap<Module, String>) -> Result<Walk, String> {
     let is_module = |module: &Module| texts.contains_key(module);
-    let mut seen = BTreeSet::new();
-    let mut met = BTreeSet::new();
-    let mut bad = Vec::new();
-    let mut next: VecDeque<(Vec<String>, Vec<String>)> =
-        VecDeque::from([(Vec::new(), from.to_vec())]);
+    let mut walk = Walk::default();
+    let mut next = VecDeque::from([(Vec::new(), from.to_vec())]);
     while let Some((chain, paths)) = next.pop_front() {
         for path in paths {
-            let with = |last: String| chain.iter().cloned().chain([last]).collect::<Vec<_>>();
+            let with = |last: String| {
+                let mut longer: Vec<String> = chain.clone();
+                longer.push(last);
+                longer
+            };
             match resolve(&path, &is_module)? {
                 Import::Leaf => {}
                 Import::Proofs => {
-                    if met.insert((chain.last().cloned(), path.clone())) {
-                        bad.push(with(path));
+                    let longer = with(path);
+                    if !walk.into_proofs.contains(&longer) {
+                        walk.into_proofs.push(longer);
                     }
                 }
                 Import::Specs(module) => {
-                    if seen.insert(module.clone()) {
+                    if walk.modules.insert(module.clone()) {
                         next.push_back((with(module.to_string()), imports(&texts[&module])));
                     }
                 }
             }
         }
     }
-    Ok(bad)
+    Ok(walk)
 }

@@ -1,6 +1,6 @@
 //! The walk on small made-up texts.
 
-use contracts::{chains, contracts, imports, resolve, Import, Module};
+use contracts::{contracts, imports, resolve, walk, Import, Module};
 use std::collections::BTreeMap;
 
 const CODE: &str = "\
@@ -108,38 +108,37 @@ fn a_chain_into_proofs_is_found() {
         ("garden", "Wall", "use Rattle.house.proofs.Laws.{Stands}\n"),
         ("garden", "Shed", "use Rattle.garden.proofs.Laws.{Stands}\n"),
     ]);
-    let from = |path: &str| chains(&[path.to_string()], &texts).unwrap();
+    let from = |path: &str| walk(&[path.to_string()], &texts).unwrap();
+    let house = from("Rattle.house.specs.Door");
     let chain = [
         "house/specs/Door",
         "garden/specs/Gate",
         "garden/specs/Wall",
         "Rattle.house.proofs.Laws",
     ];
-    assert_eq!(
-        from("Rattle.house.specs.Door"),
-        [chain.map(String::from)]
-    );
-    assert_eq!(from("Rattle.garden.specs.Shed").len(), 1);
-    assert_eq!(from("Rattle.garden.proofs.Laws").len(), 1);
+    assert_eq!(house.into_proofs, [chain.map(String::from)]);
+    assert_eq!(house.modules.len(), 4);
+    for path in [
+        "Rattle.garden.specs.Shed",
+        "Rattle.garden.proofs.Laws",
+    ] {
+        assert_eq!(from(path).into_proofs.len(), 1, "{path}");
+    }
 }
 
 #[test]
 fn a_tree_without_such_a_chain_passes() {
     let texts = texts(&[
-        (
-            "house",
-            "Door",
-            "use Rattle.house.specs.Lock.{Lock}\n",
-        ),
+        ("house", "Door", "use Rattle.house.specs.Lock.{Lock}\n"),
         (
             "house",
             "Lock",
-            "use Rattle.house.specs.declared.proofs.{Key}\nuse mathlib.Core.List.{List}\n",
+            "use Rattle.house.specs.declared.proofs.{Key}\nuse mathlib.Core.List.{List}\n-- Rattle.house.proofs.Laws\n",
         ),
     ]);
-    assert!(chains(&["Rattle.house.specs.Door".to_string()], &texts)
-        .unwrap()
-        .is_empty());
+    let house = walk(&["Rattle.house.specs.Door".to_string()], &texts).unwrap();
+    assert_eq!(house.modules.len(), 2);
+    assert!(house.into_proofs.is_empty());
 }
 
 #[test]

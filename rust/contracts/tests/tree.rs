@@ -1,6 +1,6 @@
 //! The public contracts of this repository's crates.
 
-use contracts::{chains, contracts, Contract, Module};
+use contracts::{contracts, walk, Contract, Module};
 use std::collections::BTreeMap;
 use std::fs;
 use std::path::{Path, PathBuf};
@@ -56,27 +56,33 @@ fn tree() -> (Vec<(String, Contract)>, BTreeMap<Module, String>) {
     (found, texts)
 }
 
+/// What was not found would not be held to anything.
 #[test]
-fn public_contracts_are_found() {
+fn public_contracts_are_found_with_their_definitions() {
     let (found, texts) = tree();
     let names: Vec<String> = found
         .iter()
-        .map(|(k, c)| format!("{k}::{}", c.function))
+        .map(|(krate, contract)| format!("{krate}::{}", contract.function))
         .collect();
     assert!(names.len() >= 12, "only {names:?}");
-    for wanted in [
-        "engine::run",
-        "engine::kindcanvas_run",
-        "rules::check",
-        "word::kind",
-        "show::word",
+    for (krate, contract) in &found {
+        let function = &contract.function;
+        assert!(!contract.imports.is_empty(), "{krate}::{function}");
+    }
+    for (function, module) in [
+        ("engine::run", "semantics/specs/Round"),
+        ("engine::kindcanvas_run", "rules/specs/Reading"),
+        ("rules::check", "rules/specs/Calls"),
+        ("word::kind", "word/specs/Word"),
     ] {
+        let at = names.iter().position(|name| name == function);
+        let at = at.unwrap_or_else(|| panic!("{function} is not among {names:?}"));
+        let modules = walk(&found[at].1.imports, &texts).unwrap().modules;
         assert!(
-            names.iter().any(|name| name == wanted),
-            "{wanted} is not among {names:?}"
+            modules.iter().any(|reached| reached.to_string() == module),
+            "{function} reaches only {modules:?}"
         );
     }
-    assert!(texts.len() >= 40, "only {} files of specs/", texts.len());
 }
 
 /// A caller may lend anything.
@@ -96,12 +102,11 @@ fn what_public_contracts_unfold_to_stands_in_specs() {
     let (found, texts) = tree();
     let mut bad = Vec::new();
     for (krate, contract) in found {
-        let met = chains(&contract.imports, &texts)
-            .unwrap_or_else(|e| panic!("{krate}::{}: {e}", contract.function));
-        bad.extend(
-            met.iter()
-                .map(|chain| format!("{krate}::{} -> {}", contract.function, chain.join(" -> "))),
-        );
+        let function = format!("{krate}::{}", contract.function);
+        let walk = walk(&contract.imports, &texts).unwrap_or_else(|e| panic!("{function}: {e}"));
+        for chain in walk.into_proofs {
+            bad.push(format!("{function} -> {}", chain.join(" -> ")));
+        }
     }
     assert!(
         bad.is_empty(),

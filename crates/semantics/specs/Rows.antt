@@ -68,9 +68,9 @@ L = word 13 7 ∷ word 2 1 ∷ word 2 2 ∷ word 9 4 ∷ word 1 7 ∷ word 4 1 �
 abbrev pub M : List ℕ
 M = word 13 9 ∷ word 2 1 ∷ word 2 1 ∷ word 11 6 ∷ word 5 2 ∷ word 0 0 ∷ word 1 1 ∷ word 5 2 ∷ word 0 0 ∷ word 1 2 ∷ []
 
--- numbero(r), differ(q, 5), numbero(q): listed in the path's order, not by kind or by variable
+-- numbero(r) and differ(q, 5) in a conjunction, then numbero(q): taken and listed in this order, not by kind, by variable, or the new goals last
 abbrev pub N : List ℕ
-N = word 13 10 ∷ word 2 2 ∷ word 2 2 ∷ word 10 7 ∷ word 8 1 ∷ word 0 1 ∷ word 6 2 ∷ word 0 0 ∷ word 2 5 ∷ word 8 1 ∷ word 0 0 ∷ []
+N = word 13 11 ∷ word 2 2 ∷ word 2 2 ∷ word 10 8 ∷ word 10 5 ∷ word 8 1 ∷ word 0 1 ∷ word 6 2 ∷ word 0 0 ∷ word 2 5 ∷ word 8 1 ∷ word 0 0 ∷ []
 
 -- numbero(q), differ(q, 5), numbero(y), then q equal to y: the third line has the words of the first and is dropped
 abbrev pub O : List ℕ
@@ -130,11 +130,9 @@ abbrev pub deep : ℕ → List ℕ → List ℕ
 deep zero term = term
 deep (suc n) term = with-empty (deep n term)
 
--- absento 7 in x, which each call makes 128 pairs deeper: in its review after the fifth, one node too many waits
+-- a relation, called with the empty list, has absento 7 in its parameter and calls itself with the parameter 128 pairs deeper: in the sixth call one node too many waits
 abbrev pub W : List ℕ
-W =
-    (word 13 9 ∷ word 2 0 ∷ word 2 1 ∷ word 10 6 ∷ word 9 2 ∷ word 1 7 ∷ word 0 0 ∷ word 12 2 ∷ word 2 1 ∷ word 0 0 ∷ [])
-    ++ part 13 (word 2 1 ∷ word 2 2 ∷ part 10 (part 5 (word 0 0 ∷ deep 128 (word 0 1 ∷ [])) ++ (word 12 2 ∷ word 2 1 ∷ word 0 1 ∷ [])))
+W = query (word 12 2 ∷ word 2 1 ∷ word 3 0 ∷ []) ++ part 13 (word 2 1 ∷ word 2 1 ∷ part 10 (word 9 2 ∷ word 1 7 ∷ word 0 0 ∷ part 12 (word 2 1 ∷ deep 128 (word 0 0 ∷ []))))
 
 -- an alternative for each of symbolo and numbero of a symbol and a number: those that hold
 abbrev pub atoms-typed : List ℕ
@@ -197,7 +195,7 @@ rows =
     ∷ row M 16 1000000 4096 finished 0 9 ((0, word 15 1 ∷ word 1 1 ∷ []) ∷ (0, word 15 1 ∷ word 1 2 ∷ []) ∷ [])
     ∷ row M 16 1000000 3 output-full 0 9 ((0, word 15 1 ∷ word 1 1 ∷ []) ∷ [])
     ∷ row M 16 8 4096 steps-used 0 8 ((0, word 15 1 ∷ word 1 1 ∷ []) ∷ [])
-    ∷ row N 16 1000000 4096 finished 0 16 ((0, word 15 9 ∷ word 0 0 ∷ word 0 1 ∷ word 8 1 ∷ word 0 1 ∷ word 6 2 ∷ word 0 0 ∷ word 2 5 ∷ word 8 1 ∷ word 0 0 ∷ []) ∷ [])
+    ∷ row N 16 1000000 4096 finished 0 17 ((0, word 15 9 ∷ word 0 0 ∷ word 0 1 ∷ word 8 1 ∷ word 0 1 ∷ word 6 2 ∷ word 0 0 ∷ word 2 5 ∷ word 8 1 ∷ word 0 0 ∷ []) ∷ [])
     ∷ row O 16 1000000 4096 finished 0 23 ((0, word 15 6 ∷ word 0 0 ∷ word 8 1 ∷ word 0 0 ∷ word 6 2 ∷ word 0 0 ∷ word 2 5 ∷ []) ∷ [])
     ∷ row atoms-typed 16 1000000 4096 finished 0 29 ((0, seven) ∷ (0, word 15 1 ∷ word 2 8 ∷ []) ∷ [])
     ∷ row in-order 16 1000000 4096 finished 0 37 ((0, word 15 18 ∷ word 4 1 ∷ word 0 0 ∷ word 0 1 ∷ word 9 2 ∷ word 1 7 ∷ word 0 0 ∷ word 9 2 ∷ word 1 7 ∷ word 0 1 ∷ word 11 8 ∷ word 6 4 ∷ word 0 0 ∷ word 4 1 ∷ word 0 1 ∷ word 1 1 ∷ word 6 2 ∷ word 0 1 ∷ word 2 2 ∷ []) ∷ [])
@@ -210,5 +208,5 @@ rows =
     ∷ row R 16 1000000 4096 (path-limit bound.goals) 4 3583 []
     ∷ row S 16 1000000 4096 (path-limit bound.disjunctions) 4 2190 []
     ∷ row T 16 1000000 4096 (path-limit bound.constraints) 4 3613 []
-    ∷ row W 16 1000000 4096 (path-limit bound.waiting) 5 12165 []
+    ∷ row W 16 1000000 4096 (path-limit bound.waiting) 6 8302 []
     ∷ []

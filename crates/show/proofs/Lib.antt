@@ -4,3 +4,4 @@ pub mod PartLaws
 pub mod PageLaws
 pub mod WordLaws
 pub mod ListLaws
+pub mod RowsHold

@@ -45,9 +45,9 @@ pub file-text : (bytes : List ℕ) {program output out after : List ℕ} {count 
 file-text bytes {program} {output} {out} {after} {count} rounds steps n scratch p o w h =
     let words = words-of bytes in
     let same : report-text (the-run program rounds steps output scratch .report) ≡ report-text (the-run words rounds steps (replicate n 0) scratch .report) =
-          ap (λ (ws : List ℕ). report-text (the-run ws rounds steps output scratch .report)) p
-          ∙ ap (λ (x : run.Run). report-text (x .report)) (same-run words rounds steps output scratch)
-          ∙ ap (λ (o : List ℕ). report-text (the-run words rounds steps o scratch .report)) o in
+    ap (λ (ws : List ℕ). report-text (the-run ws rounds steps output scratch .report)) p
+    ∙ ap (λ (x : run.Run). report-text (x .report)) (same-run words rounds steps output scratch)
+    ∙ ap (λ (o : List ℕ). report-text (the-run words rounds steps o scratch .report)) o in
     laid (subst (λ (t : List ℕ). Wrote t 0 out count after) same w) h
   where
     laid : {text out after : List ℕ} {count : ℕ} → Wrote text 0 out count after → count ≤ 65536 → Listed text out count after

@@ -16,9 +16,11 @@ fn put_word(bits: u32, at: usize, out: &mut [u8]) -> usize
     ensures { λ r. ⌜ Wrote (word-text bits) at (now (out .entry)) r (now (out .exit)) × (r ≤ at + 12) ⌝ }
 {
     let word = Word::from_bits(bits);
-    let mut next = put_number(word.kind() as usize, at, out);
+    let kind = word.kind() as usize;
+    let payload = word.payload() as usize;
+    let mut next = put_number(kind, at, out);
     next = put_byte(b':', next, out);
-    put_number(word.payload() as usize, next, out)
+    put_number(payload, next, out)
 }
 
 fn put_line(words: &[u32], at: usize, out: &mut [u8]) -> usize

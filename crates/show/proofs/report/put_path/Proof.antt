@@ -13,10 +13,10 @@ put-requires : tie.Need-put-requires
 put-requires c κs = search needs
 
 put-number-requires : tie.Need-put-number-requires
-put-number-requires c κs = omega (arith, c .before .before .before .put .ensures .is-next, short-32 (c .before .before .before .before .before .before .before .fits .number))
+put-number-requires c κs = omega (arith, short-32 (c .before .before .before .before .before .before .before .fits .number))
 
 put-counts-requires : tie.Need-put-counts-requires
-put-counts-requires c κs = omega (arith, c .before .before .before .before .before .before .before .put .ensures .is-next, c .before .before .before .put-number .ensures .is-next, short-32 (c .before .before .before .before .before .before .before .before .before .before .before .fits .number))
+put-counts-requires c κs = omega (arith, short-32 (c .before .before .before .before .before .before .before .before .before .before .before .fits .number))
 
 same-length : tie.Need-same-length
 same-length c = search needs

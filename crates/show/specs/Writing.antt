@@ -1,5 +1,5 @@
 -- What the functions that write a part of the text leave.
-use Prim.Native.Nat.{ℕ, _+_, _/_, _%_, _*_, _≤_, min}
+use Prim.Native.Nat.{ℕ, _+_, _/_, _%_, min}
 use mathlib.Core.Path.{_≡_}
 use mathlib.Core.List.{List}
 use lib.Dec.{eqb}

@@ -2,7 +2,7 @@
 use Prim.Native.Nat.{_≤_, _-_, _+_}
 use mathlib.Core.Path.{_≡_, refl, _∙_}
 use native.Mathlib.Omega.{arith}
-use lib.ListN.{length, drop, drop-of-length-le, length-drop}
+use lib.ListN.{length, drop, drop-of-length-le}
 use Rattle.show.proofs.TextLaws.{Left, begin, next-byte, done}
 use borrow.Author.Needs.{needs}
 use Rattle.show.proofs.put.put.Statement.{statement}

@@ -40,6 +40,7 @@ decimal n = decimal-by n n
 abbrev pub word-of : ℕ → ℕ → ℕ → ℕ → ℕ
 word-of low second third high = low + 256 * second + 65536 * third + 16777216 * high
 
+-- bytes left over, fewer than four, make no word
 unfoldable pub whole-words : List ℕ → List ℕ
 whole-words [] = []
 whole-words (a ∷ []) = []

@@ -14,7 +14,8 @@ use Rattle.rules.specs.Accept.{Accept, admit, read, read-with}
 use Rattle.rules.specs.Reading.{choose}
 use Rattle.rules.specs.Settings.{settings-good}
 use Rattle.semantics.specs.Run as run
-use Rattle.show.specs.Listing.{whole-words, word-of, words-of, the-rule, the-run}
+use Rattle.semantics.specs.Path.{as-written}
+use Rattle.show.specs.Listing.{whole-words, word-of, words-of}
 use Rattle.show.specs.Writing.{words-read}
 use Rattle.show.proofs.PartLaws.{take-within}
 
@@ -65,9 +66,9 @@ read-short ws = by-test (leb (length ws) 16384) refl
         let l : 16384 < length ws = leb-false (length ws) 16384 e in
         rw (length-take-le 16385 ws (omega arith), e, le-leb 1 (length ws) (omega arith))
 
-pub same-run : (ws : List ℕ) (rounds steps : ℕ) (output scratch : List ℕ) → the-run (take 16385 ws) rounds steps output scratch ≡ the-run ws rounds steps output scratch
+pub same-run : (ws : List ℕ) (rounds steps : ℕ) (output scratch : List ℕ) → run.run-as-written (take 16385 ws) rounds steps output scratch ≡ run.run-as-written ws rounds steps output scratch
 same-run ws rounds steps output scratch =
-    ap (λ (a : Accept). run.leave (run.report-read-by the-rule a rounds steps (length output)) output scratch) same-reading
+    ap (λ (a : Accept). run.leave (run.report-read-by as-written a rounds steps (length output)) output scratch) same-reading
   where
     by-test : (b : Bool) → admit b (take 16385 ws) ≡ admit b ws
     by-test true = read-short ws

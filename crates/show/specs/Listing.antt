@@ -8,11 +8,10 @@ use lib.Dec.{eqb, ltb}
 use lib.ListN.{length, take, drop, replicate}
 use Rattle.word.specs.Word.{kind, payload}
 use Rattle.rules.specs.Reading.{choose}
-use Rattle.semantics.specs.Path.{Rule}
 use Rattle.semantics.specs.Round as round
 use Rattle.semantics.specs.Run as run
-use Rattle.semantics.specs.Substitution.{argument}
-use Rattle.engine.specs.Report.{Ended, ran, turned-away, report-ended, bound-number}
+use Rattle.semantics.specs.Steps.{bound-number}
+use Rattle.engine.specs.Report.{Ended, ran, turned-away, report-ended}
 
 -- a text's codes
 abbrev pub codes : String → List ℕ
@@ -92,16 +91,9 @@ report-answers (run.ran r) = map (λ a. a .1) (r .answers)
 abbrev pub report-text : run.Report → List ℕ
 report-text x = first-line (report-ended x) (run.counts x .round) (run.counts x .steps) (run.counts x .answers) ++ joined (map line (report-answers x))
 
--- the run that crate engine promises, by its rule for parameters
-abbrev pub the-rule : Rule
-the-rule = argument
-
-abbrev pub the-run : List ℕ → ℕ → ℕ → List ℕ → List ℕ → run.Run
-the-run = run.run-by the-rule
-
 -- the text of a file: of the run of its words with these limits, so many output words, but at most 4,096, and a scratch of 16,384 words
 abbrev pub listing-text : List ℕ → ℕ → ℕ → ℕ → List ℕ
-listing-text bytes rounds steps room = report-text (the-run (words-of bytes) rounds steps (replicate (min room 4096) 0) (replicate 16384 0) .report)
+listing-text bytes rounds steps room = report-text (run.run-as-written (words-of bytes) rounds steps (replicate (min room 4096) 0) (replicate 16384 0) .report)
 
 -- The promise of `text`: how long the text is, and the text at the start of the lent bytes, as far as they reach, with what is behind it as lent.
 pub record Listed (text out : List ℕ) (count : ℕ) (after : List ℕ) : Type 0 where

@@ -11,7 +11,8 @@ use crate::words::word_count;
 ghost use mathlib.Core.Path.{_≡_};
 ghost use Prim.Native.Nat.{_≤_, min};
 ghost use lib.ListN.{length, replicate};
-ghost use Rattle.show.specs.Listing.{Listed, listing-text, report-text, the-run, word-of};
+ghost use Rattle.semantics.specs.Run.{run-as-written};
+ghost use Rattle.show.specs.Listing.{Listed, listing-text, report-text, word-of};
 ghost use Rattle.show.specs.Writing.{Wrote};
 
 // The word of four bytes, low byte first.
@@ -36,7 +37,7 @@ pub fn at_most(n: usize, most: usize) -> usize
 // Runs the program with this output, which is all 0, and writes its list.
 fn list(program: &[u32], rounds: u32, steps: u32, output: &mut [u32], out: &mut [u8]) -> usize
     requires { ⌜ (length (now output) ≤ 4096) × (now output ≡ replicate (length (now output)) 0) ⌝ }
-    ensures { λ r. ⌜ Wrote (report-text (the-run (now (program .entry)) rounds steps (now (output .entry)) (replicate 16384 0) .report)) 0 (now (out .entry)) r (now (out .exit)) × (r ≤ 65536) ⌝ }
+    ensures { λ r. ⌜ Wrote (report-text (run-as-written (now (program .entry)) rounds steps (now (output .entry)) (replicate 16384 0) .report)) 0 (now (out .entry)) r (now (out .exit)) × (r ≤ 65536) ⌝ }
 {
     let mut scratch = [0u32; 16384];
     let report = engine::run(program, rounds, steps, output, &mut scratch);

@@ -134,12 +134,6 @@ deep (suc n) term = with-empty (deep n term)
 abbrev pub W : List ℕ
 W = query (word 12 2 ∷ word 2 1 ∷ word 3 0 ∷ []) ++ part 13 (word 2 1 ∷ word 2 1 ∷ part 10 (word 9 2 ∷ word 1 7 ∷ word 0 0 ∷ part 12 (word 2 1 ∷ deep 128 (word 0 0 ∷ []))))
 
--- a relation, called with two empty lists, has its parameters equal and calls itself with both 128 pairs deeper: in the sixth call one pair too many waits
-abbrev pub X : List ℕ
-X =
-    query (word 12 3 ∷ word 2 1 ∷ word 3 0 ∷ word 3 0 ∷ [])
-    ++ part 13 (word 2 2 ∷ word 2 2 ∷ part 10 (word 5 2 ∷ word 0 0 ∷ word 0 1 ∷ part 12 (word 2 1 ∷ (deep 128 (word 0 0 ∷ []) ++ deep 128 (word 0 1 ∷ [])))))
-
 -- an alternative for each of symbolo and numbero of a symbol and a number: those that hold
 abbrev pub atoms-typed : List ℕ
 atoms-typed =
@@ -215,5 +209,4 @@ rows =
     ∷ row S 16 1000000 4096 (path-limit bound.disjunctions) 4 2190 []
     ∷ row T 16 1000000 4096 (path-limit bound.constraints) 4 3613 []
     ∷ row W 16 1000000 4096 (path-limit bound.waiting) 6 8302 []
-    ∷ row X 16 1000000 4096 (path-limit bound.waiting) 6 8281 []
     ∷ []

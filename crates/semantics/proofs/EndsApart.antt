@@ -5,7 +5,7 @@ use mathlib.Core.Path.{_∙_, _≡_, refl, sym}
 use Rattle.rules.specs.Syntax.{Program, Relation, atom, equal, symbol, var}
 use Rattle.rules.specs.Written.{goal-words, goals-words, term-words, terms-words}
 use Rattle.semantics.specs.Path.{Passing, as-written}
-use Rattle.semantics.specs.Round.{End, Next, State, broken, finished, going, output-full, over, path-limit, rounds-by, rounds-used, spend, steps-used, turn-by}
+use Rattle.semantics.specs.Round.{End, State, broken, finished, going, output-full, over, path-limit, rounds-by, rounds-used, spend, steps-used, turn-by}
 use Rattle.semantics.specs.Situation.{Situation, TurnBreaks}
 use Rattle.semantics.proofs.Basics.{clash}
 use Rattle.semantics.proofs.Ends.{ends-just}

@@ -12,8 +12,8 @@ use borrow.Author.Tests.{leb-false, leb-true, lt-ltb, ltb-true}
 use Rattle.rules.specs.Reading.{choose}
 use Rattle.rules.specs.Syntax.{Goal, Program, Relation, call, conj, constrain, disj, equal, more, one}
 use Rattle.semantics.specs.Path.{ChoicePoint, Path, goals-count}
-use Rattle.semantics.specs.Situation.{CallMeets, Exceeds, GoalMeets, call-uses, so-many, uses}
-use Rattle.semantics.specs.Steps.{Bound, Stop, at-bound, bound-number, constraints, disjunctions, goals, most, variables, waiting}
+use Rattle.semantics.specs.Situation.{CallMeets, GoalMeets, call-uses, so-many, uses}
+use Rattle.semantics.specs.Steps.{Bound, at-bound, bound-number, constraints, disjunctions, goals, most, variables, waiting}
 
 named : (b c : Bound) → at-bound b ≡ at-bound c → bound-number b ≡ bound-number c
 named b c e = let q : b ≡ c = cc in ap bound-number q

@@ -13,7 +13,7 @@ use Rattle.rules.specs.Syntax.{Goal, Program, Term}
 use Rattle.semantics.specs.Demand.{Demand3, query-count}
 use Rattle.semantics.specs.Logic.{Tree}
 use Rattle.semantics.specs.Promise.{OnPage}
-use Rattle.semantics.specs.Round.{Answer, Result, after}
+use Rattle.semantics.specs.Round.{Answer, Result}
 use Rattle.semantics.specs.Run.{leave, page, ran, split-page}
 use Rattle.semantics.specs.Shows.{Each, Shows, deep, read-listed, read-query}
 use Rattle.semantics.proofs.Basics.{and-true, clash, each-map}

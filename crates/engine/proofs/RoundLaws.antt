@@ -13,6 +13,7 @@ use Rattle.semantics.specs.Steps.{Outcome, done, stop}
 use Rattle.semantics.specs.Path.{Path, ChoicePoint}
 use Rattle.semantics.specs.Answer.{answer}
 use Rattle.semantics.specs.Run.{usable, page}
+use Rattle.semantics.specs.Substitution.{argument}
 use Rattle.semantics.specs.Round as round
 use Rattle.semantics.specs.Round.{Tally, Next, going, over, Rounded, completed, broken, end-of, output-full, spend, write, back, give, resume, onward, search, start, one-round}
 use Rattle.semantics.proofs.Basics.{clash}
@@ -103,9 +104,9 @@ round-starts {ws} {s} {output} {P} {R} {k} {t} {a} {n} {vars} {body} h r =
     }
 
 -- a search leaves no more steps than it was given
-fair-left : (n m total : ℕ) (x : Rounded) (t : Tally) → RoundedFair n m total x → ((x ≡ completed t) → t .left ≤ m) × ((e : round.End) → x ≡ broken e t → t .left ≤ m)
-fair-left n m total (completed u) t f = (λ e. let q : u ≡ t = cc in omega (arith, f .0, ap (λ v. v .left) q), λ d e. clash (cc))
-fair-left n m total (broken d u) t f = (λ e. clash (cc), λ c e. let q : u ≡ t = cc in omega (arith, f .0, ap (λ v. v .left) q))
+fair-left : (m total : ℕ) (x : Rounded) (t : Tally) → RoundedFair m total x → ((x ≡ completed t) → t .left ≤ m) × ((e : round.End) → x ≡ broken e t → t .left ≤ m)
+fair-left m total (completed u) t f = (λ e. let q : u ≡ t = cc in omega (arith, f .0, ap (λ v. v .left) q), λ d e. clash (cc))
+fair-left m total (broken d u) t f = (λ e. clash (cc), λ c e. let q : u ≡ t = cc in omega (arith, f .0, ap (λ v. v .left) q))
 
 -- what is lent, one thing after another
 left-then : {s output s′ output′ s″ output″ : List ℕ} → Left s output s′ output′ → length s″ ≡ length s′ → length output″ ≡ length output′ → Left s output s″ output″
@@ -161,14 +162,14 @@ round-result {ws} {s} {output} {s′} {output′} {P} {x} e h = subst (RoundedAs
 -- The search has stopped, in s′.
 module _ {ws s₀ output₀ : List ℕ} {P : Program} {R : Relation} {k n : ℕ} {a : Tally} {s output : List ℕ} {st : State} {goal used answers cuts : ℕ} (h : Rounding ws s₀ output₀ P R k n a s output st goal used answers cuts)
     (s′ : List ℕ) (r : Searched) (told : SearchedAs P (h .well-formed) n k ws s′ (h .state) (h .fuel) r) where
-  fair : RoundedFair n (h .state .tally .left) (h .state .tally .room + length (page (h .state .tally .written))) (search P n k (h .fuel) (h .state))
-  fair = search-fair P n k _ (h .fuel) (h .state) (h .enough) refl
+  fair : RoundedFair (h .state .tally .left) (h .state .tally .room + length (page (h .state .tally .written))) (search P n k (h .fuel) (h .state))
+  fair = search-fair argument P n k _ (h .fuel) (h .state) (h .enough) refl
 
   pub round-stops : {why : Stop} {l : ℕ} {d : End} → r ≡ Stops why l → length s′ ≡ length s → ended d ≡ ran (end-of (stop-of why)) → RoundAs ws s₀ output₀ P R k a s′ output (Broken d (record { left = l; used = used; answers = answers }))
   unfolding SearchedAs
   round-stops {why} {l} {d} e len is =
       let q : (c : ℕ) × (search P n k (h .fuel) (h .state) ≡ broken (end-of (stop-of why)) (counted-to (h .state .tally) l c)) = rw e at told in
-      let few : l ≤ h .state .tally .left = fair-left n _ _ _ _ fair .1 _ (q .1) in
+      let few : l ≤ h .state .tally .left = fair-left _ _ _ _ fair .1 _ (q .1) in
       broken-is (h .same ∙ q .1) (left-then (h .lent) len refl) (fewer-left (q .0) (h .tally) (omega (arith, few, h .tally .left)) refl refl) is
 
   pub over-held : {last : State} {c : ℕ} → r ≡ Over last c → (p : Path) × Holds P ws s′ last p []
@@ -179,7 +180,7 @@ module _ {ws s₀ output₀ : List ℕ} {P : Program} {R : Relation} {k n : ℕ}
   unfolding SearchedAs
   round-over {last} {c} {s″} e len clean =
       let q : (search P n k (h .fuel) (h .state) ≡ completed (counted-to (h .state .tally) (last .left) c)) × ((p : Path) × Holds P ws s′ last p []) = rw e at told in
-      let few : last .left ≤ h .state .tally .left = fair-left n _ _ _ _ fair .0 (q .0) in
+      let few : last .left ≤ h .state .tally .left = fair-left _ _ _ _ fair .0 (q .0) in
       completed-is (h .same ∙ q .0) (left-then (h .lent) len refl) clean (fewer-left c (h .tally) (omega (arith, few, h .tally .left)) refl refl) refl
 
   pub round-answers : {last : State} {c : ℕ} → r ≡ Answer last c → Answers P (h .well-formed) n k ws s′ last c (h .state) (h .fuel)

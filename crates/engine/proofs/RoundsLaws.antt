@@ -5,6 +5,7 @@ use mathlib.Core.List.{List, []}
 use native.Mathlib.Omega.{arith}
 use lib.ListN.{length}
 use Rattle.rules.specs.Syntax.{Program, Relation}
+use Rattle.semantics.specs.Substitution.{argument}
 use Rattle.semantics.specs.Round as definition
 use Rattle.semantics.specs.Round.{Tally, Rounded, completed, broken, End, start, one-round, Result}
 use Rattle.semantics.specs.Run.{usable, page}
@@ -27,9 +28,9 @@ fewer : (P : Program) (R : Relation) (k : ℕ) (a : Tally) (x : Rounded) → one
 unfolding left-of
 fewer P R k a x e =
     let t : Tally = record { left = a .left; room = a .room; cuts = 0; written = a .written } in
-    go x (subst (RoundedFair (R .params) (a .left) (a .room + length (page (a .written)))) e (search-fair P (R .params) k (a .room + length (page (a .written))) (suc (a .left)) (start R t) (omega arith) refl))
+    go x (subst (RoundedFair (a .left) (a .room + length (page (a .written)))) e (search-fair argument P (R .params) k (a .room + length (page (a .written))) (suc (a .left)) (start R t) (omega arith) refl))
   where
-    go : (x : Rounded) → RoundedFair (R .params) (a .left) (a .room + length (page (a .written))) x → left-of x ≤ a .left
+    go : (x : Rounded) → RoundedFair (a .left) (a .room + length (page (a .written))) x → left-of x ≤ a .left
     go (completed t) f = f .0
     go (broken e t) f = f .0
 

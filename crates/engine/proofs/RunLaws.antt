@@ -14,10 +14,11 @@ use Rattle.rules.proofs.Stands.{stands-self}
 use Rattle.rules.proofs.Checked.{refused-said}
 use Rattle.rules.proofs.Accepted.{read-is-written, accepted-query}
 use Rattle.semantics.specs.Round.{Result, rounds}
-use Rattle.semantics.specs.Run.{Report, refusal, ran, returns, report-program, leave, run, usable, page}
-use Rattle.semantics.proofs.Words.{demand3-run}
+use Rattle.semantics.specs.Run.{Report, refusal, ran, returns, report-program, leave, run, run-as-written, usable, page}
+use Rattle.semantics.proofs.SameRuns.{run-same}
+use Rattle.semantics.proofs.Words.{demands-run}
 use Rattle.engine.specs.declared.Report as code
-use Rattle.engine.specs.Report.{ended, Kept}
+use Rattle.engine.specs.Report.{ended, Kept, Says}
 use Rattle.engine.specs.Running.{cleared, Turned, Admitted}
 use Rattle.engine.specs.Rounds.{Ready, ResultAs}
 use Rattle.engine.specs.Reference.{at}
@@ -40,22 +41,17 @@ module _ (words : List ℕ) (round-limit step-limit : ℕ) (output scratch : Lis
   comes-to : Report
   comes-to = returns words round-limit step-limit (length output) (length scratch)
 
+  -- What says the run by the code's passing of arguments says document 01's run, and the demands hold of that.
+  kept-said : (r : code.Report) (output′ scratch′ : List ℕ) → Says (run words round-limit step-limit output scratch) r output′ scratch′ → Kept words round-limit step-limit output scratch r output′ scratch′
+  kept-said r output′ scratch′ s =
+      let t : Says (run-as-written words round-limit step-limit output scratch) r output′ scratch′ = rw (run-same words round-limit step-limit output scratch) at s in
+      record { says = t; demands = rw (t .is-output, t .is-scratch) (demands-run words round-limit step-limit output scratch) }
+
   kept-refusal : (c p : ℕ) (r : code.Report) → Turned c p r → comes-to ≡ refusal c p → Kept words round-limit step-limit output scratch r output scratch
   unfolding comes-to
   kept-refusal c p r t e =
       let z : run words round-limit step-limit output scratch ≡ leave (refusal c p) output scratch = ap (λ x. leave x output scratch) e in
-      record {
-        says = rw z (record {
-          is-end = ap ended (t .is-end);
-          is-round = t .is-round;
-          is-steps = t .is-steps;
-          is-answers = t .is-answers;
-          is-words = t .is-words;
-          is-output = refl;
-          is-scratch = refl;
-        });
-        demand = λ x q. absurd (let y : refusal c p ≡ ran x = sym (ap (λ (w : _). w .report) z) ∙ q in let n : _≡_ {A = ℕ} 0 1 = cc in omega arith);
-      }
+      kept-said r output scratch (rw z (record { is-end = ap ended (t .is-end); is-round = t .is-round; is-steps = t .is-steps; is-answers = t .is-answers; is-words = t .is-words; is-output = refl; is-scratch = refl }))
 
   pub rounds-refused : (r : code.Report) → Turned 9 0 r → 255 < round-limit → Kept words round-limit step-limit output scratch r output scratch
   unfolding comes-to
@@ -118,16 +114,12 @@ module _ (words : List ℕ) (round-limit step-limit : ℕ) (output scratch : Lis
         let o : cleared output′ (r .words) ≡ page (x .answers) ++ replicate (length output - length (page (x .answers))) 0 =
         ap (λ p. p ++ replicate (length output′ - r .words) 0) (h .page-is) ∙ ap (λ m. page (x .answers) ++ replicate m 0) (ap (λ m. m - r .words) (h .lengths .output-length) ∙ ap (λ m. length output - m) (h .is-words)) in
         let y : length s′ - 0 ≡ length scratch = omega (arith, h .lengths .scratch-length) in
-        let after : run words round-limit step-limit output scratch .output ≡ cleared output′ (r .words) = rw z (sym o) in
-        record {
-          says = rw z (record {
-            is-end = h .is-end;
-            is-round = h .is-round;
-            is-steps = h .is-steps;
-            is-answers = h .is-answers;
-            is-words = h .is-words;
-            is-output = o;
-            is-scratch = ap (λ m. replicate m 0) y;
-          });
-          demand = λ v q. rw (← after) (demand3-run words round-limit step-limit output scratch v q);
-        }
+        kept-said r (cleared output′ (r .words)) (cleared s′ 0) (rw z (record {
+          is-end = h .is-end;
+          is-round = h .is-round;
+          is-steps = h .is-steps;
+          is-answers = h .is-answers;
+          is-words = h .is-words;
+          is-output = o;
+          is-scratch = ap (λ m. replicate m 0) y;
+        }))

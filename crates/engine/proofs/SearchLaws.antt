@@ -9,6 +9,7 @@ use Rattle.semantics.specs.Steps.{Outcome, done}
 use Rattle.semantics.specs.Path.{Path, ChoicePoint, Taken, goes, take-goal}
 use Rattle.semantics.specs.Answer.{answer}
 use Rattle.semantics.specs.Run.{page}
+use Rattle.semantics.specs.Substitution.{argument}
 use Rattle.semantics.specs.Round as round
 use Rattle.semantics.specs.Round.{Tally, Next, going, over, completed, broken, spend, end-of, give, after, onward, turn, search}
 use Rattle.semantics.proofs.Programs.{ProgramIn}
@@ -46,7 +47,7 @@ count-few cuts (suc c) = omega arith
 -- taking a goal costs a step at least
 take-spent : (k : ℕ) (P : Program) (p : Path) (cs : List ChoicePoint) (base : ℕ) (x : Goal) (left : ℕ) (v : Taken) (m : ℕ) → take-goal k P p cs base x left ≡ done v m → m < left
 take-spent k P p cs base x zero v m e = clash (cc)
-take-spent k P p cs base x (suc l) v m e = let h : m ≤ l = subst (Spent l (suc l)) e (taken-spent k P p cs base x l) in omega arith
+take-spent k P p cs base x (suc l) v m e = let h : m ≤ l = subst (Spent l (suc l)) e (taken-spent argument k P p cs base x l) in omega arith
 
 over-spent : (P : Program) (n k : ℕ) (state : round.State) (left : ℕ) (t : Tally) → after P n k state (take-goal k P (state .path) (state .choices) (state .task .0) (state .task .1) left) ≡ over (completed t) → 0 < left
 over-spent P n k state zero t e = clash (cc)
@@ -80,9 +81,9 @@ module _ {P : Program} {wf : ProgramIn P} {n k : ℕ} {ws s : List ℕ} {st : St
   total : ℕ
   total = g .state .tally .room + length (page (g .state .tally .written))
 
-  fair : NextFair n (g .state .tally .left) total (turn P n k (g .state))
+  fair : NextFair (g .state .tally .left) total (turn P n k (g .state))
   unfolding total
-  fair = turn-fair P n k (g .state .tally .left) total (g .state) refl refl
+  fair = turn-fair argument P n k (g .state .tally .left) total (g .state) refl refl
 
   -- the tally of the state under way, counted, is the first one's, counted
   tally-as : (l c : ℕ) → counted-to (g .state .tally) l c ≡ counted-to (state₀ .tally) l c
@@ -118,7 +119,7 @@ module _ {P : Program} {wf : ProgramIn P} {n k : ℕ} {ws s : List ℕ} {st : St
       let q : (state : round.State) × (turn P n k (g .state) ≡ going state) × TaskAt ws v (state .task) × Holds P ws s′ next (state .path) (state .choices) × (state .tally ≡ tallied (g .state .tally) (next .left) c) = rw e at told in
       let new : round.State = q .0 in
       let t = turn-of P n k (g .fuel) (g .state) (going new) (g .enough) (q .1) in
-      let falls : new .tally .left < g .state .tally .left = subst (NextFair n (g .state .tally .left) total) (q .1) fair .0 in
+      let falls : new .tally .left < g .state .tally .left = subst (NextFair (g .state .tally .left) total) (q .1) fair .0 in
       let keeps : StateFine P wf n k new = subst (NextWell P wf n k (open-of P wf n k (g .state)) (g .state .tally .written) (g .state .tally .cuts)) (q .1) (turn-keeps P wf n k (g .state) (g .under .fine)) .0 in
       let is : new .tally ≡ counted-to (state₀ .tally) (next .left) (count-cuts cuts c) = q .4 ∙ cuts-as (next .left) c in
       let left-is : new .tally .left ≡ next .left = ap (λ x. x .left) is in

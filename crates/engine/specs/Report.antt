@@ -8,18 +8,26 @@ use Rattle.rules.specs.Reading.{choose}
 use Rattle.semantics.specs.Steps as steps
 use Rattle.semantics.specs.Round as round
 use Rattle.semantics.specs.Run as run
-use Rattle.semantics.proofs.Words.{Promised}
-use Rattle.engine.specs.Taking.{bound-of}
+use Rattle.semantics.specs.Promise.{Demands}
+use Rattle.engine.specs.declared.Bound.{Bound}
+use Rattle.engine.specs.declared.Bound.the-variants.{Variables, Goals, Disjunctions, Constraints, Waiting}
 use Rattle.engine.specs.declared.End.{End}
 use Rattle.engine.specs.declared.End.the-variants.{Finished, Rounds, Steps, Output, Path, Refused}
 use Rattle.engine.specs.declared.Report.{Report}
+
+-- what each case of the code's enums says
+abbrev pub bound-of : Bound → steps.Bound
+bound-of Variables = steps.variables
+bound-of Goals = steps.goals
+bound-of Disjunctions = steps.disjunctions
+bound-of Constraints = steps.constraints
+bound-of Waiting = steps.waiting
 
 -- how a call ended: as a run does, or refused by number and place
 pub data Ended : Type 0 where
   ran : round.End → Ended
   turned-away : ℕ → ℕ → Ended
 
--- what each case of the code's enum says
 abbrev pub ended : End → Ended
 ended Finished = ran round.finished
 ended Rounds = ran round.rounds-used
@@ -43,26 +51,19 @@ pub record Says (x : run.Run) (r : Report) (output-after scratch-after : List �
   pub is-output : output-after ≡ x .output
   pub is-scratch : scratch-after ≡ x .scratch
 
--- The promise of `run`: it says what the definition says, and demand 3 holds of this very result and page.
+-- The promise of `run`: it says what document 01's run says, and the demands hold of this very result and page.
 pub record Kept (words : List ℕ) (round-limit step-limit : ℕ) (output scratch : List ℕ) (r : Report) (output-after scratch-after : List ℕ) : Type 0 where
-  pub says : Says (run.run words round-limit step-limit output scratch) r output-after scratch-after
-  pub demand : (x : round.Result) → run.run words round-limit step-limit output scratch .report ≡ run.ran x → Promised words round-limit step-limit output output-after x
+  pub says : Says (run.run-as-written words round-limit step-limit output scratch) r output-after scratch-after
+  pub demands : Demands words round-limit step-limit output scratch output-after scratch-after (run.run-as-written words round-limit step-limit output scratch .report)
 
 -- For callers in other languages a report is seven numbers: how the call ended (0 to 4 in the order of document 01, "How a run ends", 5 if refused), which bound of a path (1 to 5
 -- as "Bounds" lists them) or the refusal's number, the refusal's place, round, steps, answers, words. What does not apply is 0.
-abbrev pub bound-number : steps.Bound → ℕ
-bound-number steps.variables = 1
-bound-number steps.goals = 2
-bound-number steps.disjunctions = 3
-bound-number steps.constraints = 4
-bound-number steps.waiting = 5
-
 abbrev pub end-numbers : Ended → List ℕ
 end-numbers (ran round.finished) = 0 ∷ 0 ∷ 0 ∷ []
 end-numbers (ran round.rounds-used) = 1 ∷ 0 ∷ 0 ∷ []
 end-numbers (ran round.steps-used) = 2 ∷ 0 ∷ 0 ∷ []
 end-numbers (ran round.output-full) = 3 ∷ 0 ∷ 0 ∷ []
-end-numbers (ran (round.path-limit b)) = 4 ∷ bound-number b ∷ 0 ∷ []
+end-numbers (ran (round.path-limit b)) = 4 ∷ steps.bound-number b ∷ 0 ∷ []
 end-numbers (turned-away number place) = 5 ∷ number ∷ place ∷ []
 
 abbrev pub numbers : run.Report → List ℕ
@@ -81,7 +82,7 @@ call x output scratch lent =
     choose (leb 7 (length lent)) (λ _. record { result = 0; output = x .output; scratch = x .scratch; numbers = numbers (x .report) ++ drop 7 lent })
     (λ _. record { result = 1; output = output; scratch = scratch; numbers = lent })
 
--- The promise of `kindcanvas_run`, with demand 3 of the page.
+-- The promise of `kindcanvas_run`, with the demands of what was run.
 pub record Called (words : List ℕ) (round-limit step-limit : ℕ) (output scratch lent : List ℕ) (result : ℕ) (output-after scratch-after lent-after : List ℕ) : Type 0 where
-  pub is-call : call (run.run words round-limit step-limit output scratch) output scratch lent ≡ record { result = result; output = output-after; scratch = scratch-after; numbers = lent-after }
-  pub demand : result ≡ 0 → (x : round.Result) → run.run words round-limit step-limit output scratch .report ≡ run.ran x → Promised words round-limit step-limit output output-after x
+  pub is-call : call (run.run-as-written words round-limit step-limit output scratch) output scratch lent ≡ record { result = result; output = output-after; scratch = scratch-after; numbers = lent-after }
+  pub demands : result ≡ 0 → Demands words round-limit step-limit output scratch output-after scratch-after (run.run-as-written words round-limit step-limit output scratch .report)

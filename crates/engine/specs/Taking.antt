@@ -14,9 +14,9 @@ use Rattle.semantics.proofs.Programs.{ProgramIn}
 use Rattle.semantics.proofs.Cover.{TaskIn}
 use Rattle.engine.specs.Reference.{GoalAt, TaskAt}
 use Rattle.engine.specs.Memory.{Registers, saved, Stored}
+use Rattle.engine.specs.Report.{bound-of}
 use Rattle.engine.specs.declared.state.State.{State}
-use Rattle.engine.specs.declared.Bound.{Bound}
-use Rattle.engine.specs.declared.Bound.the-variants.{Variables, Goals, Disjunctions, Constraints, Waiting}
+use Rattle.engine.specs.declared.Bound.the-variants.{Waiting}
 use Rattle.engine.specs.declared.state.Stop.{Stop}
 use Rattle.engine.specs.declared.state.Stop.the-variants.{Steps, Path as PathLimit}
 use Rattle.engine.specs.declared.state.Way.{Way}
@@ -58,14 +58,7 @@ pub record Due (P : Program) (ws s : List ℕ) (st : State) (w : ℕ) (p : Path)
   pub sound : Sound (p .bindings) (p .kept) (p .made)
   pub task-in : TaskIn P (p .made) task
 
--- what each case of the code's enums says
-abbrev pub bound-of : Bound → steps.Bound
-bound-of Variables = steps.variables
-bound-of Goals = steps.goals
-bound-of Disjunctions = steps.disjunctions
-bound-of Constraints = steps.constraints
-bound-of Waiting = steps.waiting
-
+-- what each case of the code's enum says
 abbrev pub stop-of : Stop → steps.Stop
 stop-of Steps = steps.no-steps
 stop-of (PathLimit b) = steps.at-bound (bound-of b)

@@ -37,9 +37,9 @@ use rules::Verdict;
 ghost use mathlib.Core.Path.{_≡_};
 ghost use mathlib.Core.List.{[], _∷_};
 ghost use Prim.Native.Nat.{ℕ};
-ghost use Rattle.engine.specs.Report.{Called, Kept, bound-number, end-numbers, ended};
+ghost use Rattle.semantics.specs.Steps.{bound-number};
+ghost use Rattle.engine.specs.Report.{Called, Kept, bound-of, end-numbers, ended};
 ghost use Rattle.engine.specs.Running.{Admitted, Turned};
-ghost use Rattle.engine.specs.Taking.{bound-of};
 
 // Which of the five bounds on one path was met, in the order of document 01.
 pub enum Bound {

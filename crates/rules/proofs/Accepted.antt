@@ -12,7 +12,7 @@ use Rattle.rules.specs.Syntax.{Relation, Program}
 use Rattle.rules.specs.Written.{written}
 use Rattle.rules.specs.Reading.{Reading, found, refuse, read-relations, read-structure}
 use Rattle.rules.specs.Calls.{Fault, sound, fault, relations-fault}
-use Rattle.rules.specs.WellFormed.{WellFormed, RelationsGood}
+use Rattle.rules.specs.WellFormed.{WellFormed, RelationsGood, WrittenForm}
 use Rattle.rules.specs.Accept.{accepted, refused, judge, calls-read, read}
 use Rattle.rules.proofs.Combine.{require-found, and-true}
 use Rattle.rules.specs.Inner.{Stands}
@@ -20,13 +20,6 @@ use Rattle.rules.proofs.Stands.{stands-self, stands-whole}
 use Rattle.rules.proofs.Sound.{relations-sound}
 use Rattle.rules.proofs.Complete.{relations-complete}
 use Rattle.rules.proofs.CallLaws.{relations-calls, calls-relations}
-
--- the written form of a well-formed program, of 1 to 16,384 words
-pub record WrittenForm (ws : List ℕ) (P : Program) : Type 0 where
-  pub is-written : ws ≡ written P
-  pub well-formed : WellFormed P
-  pub some-words : 1 ≤ length ws
-  pub few-words : length ws ≤ 16384
 
 not-accepted : {C : Type 0} (P : Program) (c p : ℕ) → refused c p ≡ accepted P → C
 not-accepted P c p e = absurd (let z : _≡_ {A = ℕ} 0 1 = cc in omega arith)

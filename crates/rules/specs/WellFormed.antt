@@ -5,6 +5,7 @@ use mathlib.Core.Option.{Option, some, none}
 use mathlib.Core.List.{List, [], _∷_}
 use lib.ListN.{length, getElem?}
 use Rattle.rules.specs.Syntax.{Atom, symbol, number, empty, Term, var, atom, pair, Constraint, differ, typed, absento, Goal, Goals, equal, constrain, conj, disj, call, one, more, Relation, Program}
+use Rattle.rules.specs.Written.{written}
 
 -- payloads are below 2^28
 abbrev pub AtomGood : Atom → Type 0
@@ -81,3 +82,10 @@ pub record WellFormed (P : Program) : Type 0 where
   pub few : length P ≤ 256
   pub relations : RelationsGood P
   pub calls : RelationsCalls P P
+
+-- the written form of a well-formed program, of 1 to 16,384 words
+pub record WrittenForm (ws : List ℕ) (P : Program) : Type 0 where
+  pub is-written : ws ≡ written P
+  pub well-formed : WellFormed P
+  pub some-words : 1 ≤ length ws
+  pub few-words : length ws ≤ 16384

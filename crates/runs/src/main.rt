@@ -1,6 +1,7 @@
 // Runs on standard input, one after the other, each as four words and its bytes: round limit, step limit, output words, and how many bytes.
 // Prints what the listing program prints of each.
 use libc::STDIN_FILENO;
+use libc::STDOUT_FILENO;
 ghost use Prim.Native.Nat.{_≤_};
 ghost use lib.ListN.{length};
 
@@ -29,7 +30,9 @@ fn list_with(settings: &[u8; 16], bytes: &mut [u8]) {
     let room = setting(settings, 8) as usize;
     let size = show::at_most(setting(settings, 12) as usize, bytes.len());
     read_part(bytes, size);
-    show::list(&bytes[..size], rounds, steps, room);
+    let mut out = [0u8; 65536];
+    let count = show::text(&bytes[..size], rounds, steps, room, &mut out);
+    io::write_all(STDOUT_FILENO, &out[..count]);
 }
 
 // Whether there was one more.

@@ -10,7 +10,7 @@ use lib.ListN.{getElem?, length}
 use Rattle.rules.specs.Reading.{choose}
 use Rattle.rules.specs.Syntax.{Constraint, Goal, Program, Relation, Term, absento, call, conj, constrain, differ, disj, equal, more, one, typed}
 use Rattle.semantics.specs.Answer.{all-lines, answer, lines-of, look-through, parameters, trial-bindings, trial-lines}
-use Rattle.semantics.specs.Path.{ChoicePoint, Path, Taken, bound-to, called, cut, equal-taken, goals-count, goes, keeping, leaves, make-call, take-goal, taken, within}
+use Rattle.semantics.specs.Path.{ChoicePoint, Path, Taken, Passing, bound-to, called, cut, equal-taken, goals-count, goes, keeping, leaves, make-call, make-call-by, take-goal, taken, taken-by, within}
 use Rattle.semantics.specs.Review.{review, review-all, reviewed, trial-fails}
 use Rattle.semantics.specs.Round.{broken}
 use Rattle.semantics.specs.Steps.{Bound, Outcome, constraints, disjunctions, goals, most, variables}
@@ -46,23 +46,23 @@ equal-spent p cs left (some bs) l h = by-choose (Spent left (suc left)) (eqb (le
     spent-then left (suc left) (review-all bs (p .kept) (p .kept) l) _ (spent-up l l left (suc left) (review-all bs (p .kept) (p .kept) l) h (omega arith) (review-all-spent bs (p .kept) (p .kept) l)) (λ broken m i.
     by-choose (Spent left (suc left)) broken _ _ (λ _. i) (λ _. i)))
 
-make-spent : (p : Path) (cs : List ChoicePoint) (base : ℕ) (ts : List Term) (o : Option Relation) (left : ℕ) → Spent left (suc left) (make-call p cs base ts o left)
-make-spent p cs base ts none left = omega arith
-make-spent p cs base ts (some R) left = within-spent variables (p .made + R .vars) left _ (within-spent goals (suc (p .put)) left _ (omega arith))
+make-spent : (pass : Passing) (p : Path) (cs : List ChoicePoint) (base : ℕ) (ts : List Term) (o : Option Relation) (left : ℕ) → Spent left (suc left) (make-call-by pass p cs base ts o left)
+make-spent pass p cs base ts none left = omega arith
+make-spent pass p cs base ts (some R) left = within-spent variables (p .made + R .vars) left _ (within-spent goals (suc (p .put)) left _ (omega arith))
 
-pub taken-spent : (k : ℕ) (P : Program) (p : Path) (cs : List ChoicePoint) (base : ℕ) (g : Goal) (left : ℕ) → Spent left (suc left) (taken k P p cs base g left)
-taken-spent k P p cs base (equal s t) left =
+pub taken-spent : (pass : Passing) (k : ℕ) (P : Program) (p : Path) (cs : List ChoicePoint) (base : ℕ) (g : Goal) (left : ℕ) → Spent left (suc left) (taken-by pass k P p cs base g left)
+taken-spent pass k P p cs base (equal s t) left =
     spent-then left (suc left) (unify-terms (p .bindings) (shift base s) (shift base t) left) _
     (spent-up left left left (suc left) (unify-terms (p .bindings) (shift base s) (shift base t) left) (omega arith) (omega arith) (unify-spent left (p .bindings) [] (shift base s) (shift base t) left))
     (λ r l h. equal-spent p cs left r l h)
-taken-spent k P p cs base (constrain c) left = within-spent constraints (suc (length (p .kept))) left _
+taken-spent pass k P p cs base (constrain c) left = within-spent constraints (suc (length (p .kept))) left _
     (spent-then left (suc left) (review (p .bindings) (p .kept ++ (shift-constraint base c ∷ [])) (shift-constraint base c) left) _
     (spent-up left left left (suc left) (review (p .bindings) (p .kept ++ (shift-constraint base c ∷ [])) (shift-constraint base c) left) (omega arith) (omega arith) (review-spent (p .bindings) (p .kept ++ (shift-constraint base c ∷ [])) (shift-constraint base c) left))
     (λ broken l h. by-choose (Spent left (suc left)) broken _ _ (λ _. h) (λ _. h)))
-taken-spent k P p cs base (conj gs) left = within-spent goals (p .put + goals-count gs) left _ (omega arith)
-taken-spent k P p cs base (disj (one g)) left = within-spent goals (suc (p .put)) left _ (omega arith)
-taken-spent k P p cs base (disj (more g gs)) left = within-spent goals (suc (p .put)) left _ (within-spent disjunctions (suc (length cs)) left _ (omega arith))
-taken-spent k P p cs base (call r ts) left = by-choose (Spent left (suc left)) (ltb (p .calls) k) _ _ (λ _. make-spent p cs base ts (getElem? P r) left) (λ _. omega arith)
+taken-spent pass k P p cs base (conj gs) left = within-spent goals (p .put + goals-count gs) left _ (omega arith)
+taken-spent pass k P p cs base (disj (one g)) left = within-spent goals (suc (p .put)) left _ (omega arith)
+taken-spent pass k P p cs base (disj (more g gs)) left = within-spent goals (suc (p .put)) left _ (within-spent disjunctions (suc (length cs)) left _ (omega arith))
+taken-spent pass k P p cs base (call r ts) left = by-choose (Spent left (suc left)) (ltb (p .calls) k) _ _ (λ _. make-spent pass p cs base ts (getElem? P r) left) (λ _. omega arith)
 
 look-spent : (bs : Substitution) (ts : List Term) (left : ℕ) → Spent left left (look-through bs ts left)
 look-spent bs [] left = omega arith

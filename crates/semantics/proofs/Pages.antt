@@ -12,8 +12,9 @@ use Rattle.rules.specs.Reading.{Reading, found, kind-at, next, payload-at, requ
 use Rattle.rules.specs.Syntax.{Goal, Program, Term}
 use Rattle.semantics.specs.Demand.{Demand3, query-count}
 use Rattle.semantics.specs.Logic.{Tree}
-use Rattle.semantics.specs.Round.{Answer, Result, after}
-use Rattle.semantics.specs.Run.{answers-on, leave, page, ran, split-page}
+use Rattle.semantics.specs.Promise.{OnPage}
+use Rattle.semantics.specs.Round.{Answer, Result}
+use Rattle.semantics.specs.Run.{leave, page, ran, split-page}
 use Rattle.semantics.specs.Shows.{Each, Shows, deep, read-listed, read-query}
 use Rattle.semantics.proofs.Basics.{and-true, clash, each-map}
 
@@ -51,17 +52,12 @@ page-split (a ∷ later) (suc fuel) n h l =
     rw (append-assoc (a .1) (page later) (replicate n 0), split-first fuel (a .1) (page later ++ replicate n 0) (h .0))
     (ap (λ (ws : List (List ℕ)). a .1 ∷ ws) (page-split later fuel n (h .1) (omega (arith, length-append (a .1) (page later), h .0 .is-long))))
 
--- the output after a run: the answers on it are those of the result, and it keeps its length
-pub record OnPage (output after : List ℕ) (r : Result) : Type 0 where
-  pub answers-are : answers-on after ≡ map (λ (a : Answer). a .1) (r .answers)
-  pub same-length : length after ≡ length output
-
 pub on-page : (P : Program) (r : Result) → Demand3 P r → (output scratch : List ℕ) → length (page (r .answers)) ≤ length output → OnPage output (leave (ran r) output scratch .output) r
 on-page P r d output scratch fits =
     let n = length output - length (page (r .answers)) in
     let a = length-append (page (r .answers)) (replicate n 0) in
     let heads = each-map (λ (a : Answer) right. shown-headed (query-count P) (a .1) (right .shows-one .0) (right .shows-one .1)) (r .answers) (d .each-answer) in
     record {
-      answers-are = page-split (r .answers) (length (page (r .answers) ++ replicate n 0)) n heads (omega arith);
+      page-is = page-split (r .answers) (length (page (r .answers) ++ replicate n 0)) n heads (omega arith);
       same-length = a ∙ ap (λ (m : ℕ). length (page (r .answers)) + m) (length-replicate n 0) ∙ omega arith;
     }

@@ -10,7 +10,7 @@ use Rattle.rules.specs.Syntax.{Program, Relation}
 use Rattle.rules.specs.Written.{written}
 use Rattle.semantics.specs.Demand.{AnswerRight, Completed, Demand3, ShowsIn, ShowsIt, ShowsUpTo}
 use Rattle.semantics.specs.Logic.{Assignment, Gives, Holds, Tree}
-use Rattle.semantics.specs.Round.{Answer, End, Result, Rounded, Tally, after-cuts, after-round, broken, completed, finished, one-round, output-full, path-limit, result, rounds, rounds-used, start, steps-used}
+use Rattle.semantics.specs.Round.{Answer, End, Result, Rounded, Tally, after-cuts, after-round, broken, completed, finished, one-round, result, rounds, rounds-used, start}
 use Rattle.semantics.specs.Shows.{Each, Some}
 use Rattle.semantics.proofs.Basics.{clash, each-append, each-map, some-both, some-each, some-left, some-map, some-right}
 use Rattle.semantics.proofs.Cover.{Covers, _⇔_}
@@ -19,7 +19,7 @@ use Rattle.semantics.proofs.Programs.{ProgramIn}
 use Rattle.semantics.proofs.Sound.{sound-start}
 use Rattle.semantics.proofs.SubstitutionLaws.{complete}
 use Rattle.semantics.proofs.TermLaws.{from}
-use Rattle.semantics.proofs.Turn.{Breaks, Right, RoundedWell, StateFine, Written, open-of, search-well}
+use Rattle.semantics.proofs.Turn.{Breaks, Right, RoundedWell, StateFine, Written, completed-before, open-of, search-well}
 
 -- Round k, after the answers `before`. Whether it is completed or broken off, each answer that it writes is right.
 pub record RoundWrote (P : Program) (k : ℕ) (before written : List Answer) : Type 0 where
@@ -143,14 +143,7 @@ module _ (limit : ℕ) (P : Program) where
   }
 
   broken-demand : (e : End) (k : ℕ) (t : Tally) → Breaks e → History k (t .written) → Demand3 P (result limit e k t)
-  broken-demand e k t b = demand e k k t (below e b) (λ q. absurd (subst Breaks q b))
-    where
-      below : (e : End) → Breaks e → (j : ℕ) → Completed e k j → j < k
-      below finished b j c = absurd b
-      below rounds-used b j c = absurd b
-      below steps-used b j c = c
-      below output-full b j c = c
-      below (path-limit l) b j c = c
+  broken-demand e k t b = demand e k k t (completed-before e b k) (λ q. absurd (subst Breaks q b))
 
   after-demand : (k : ℕ) (before : List Answer) (then-on : Tally → Result) → History k before → ((t : Tally) → t .room < 268435456 → History (suc k) (t .written) → Demand3 P (then-on t)) → (r : Rounded) → RoundClaim P k before r → Demand3 P (after-round limit k r then-on)
   after-demand k before then-on h f (broken e t) (b, w) = broken-demand e k t b (history-grows h w)

@@ -1,8 +1,12 @@
--- The starred runs of document 01, "Runs to reproduce", and small runs for "Errors this trade has made", as one list of rows.
-use Prim.Native.Nat.{ℕ}
-use mathlib.Core.List.{List, [], _∷_}
+-- The starred runs of document 01, "Runs to reproduce", its run with 255 variables, and small runs for "Errors this trade has made", for the order of answers and lines, and for
+-- each bound of a path, as one list of rows.
+use Prim.Native.Nat.{ℕ, zero, suc}
+use mathlib.Core.List.{List, [], _∷_, _++_}
+use lib.ListN.{length}
 use Rattle.word.specs.Word.{word}
-use Rattle.semantics.specs.Round.{End, finished, rounds-used, steps-used, output-full, Answer, Result}
+use Rattle.rules.specs.Written.{part}
+use Rattle.semantics.specs.Steps as bound
+use Rattle.semantics.specs.Round.{End, finished, rounds-used, steps-used, output-full, path-limit, Answer, Result}
 
 -- a program's words, round limit, step limit, output length, and the result with a scratch that is long enough
 pub record Row : Type 0 where
@@ -60,6 +64,102 @@ K = word 13 9 ∷ word 2 1 ∷ word 2 2 ∷ word 6 6 ∷ word 4 1 ∷ word 0 0 �
 abbrev pub L : List ℕ
 L = word 13 7 ∷ word 2 1 ∷ word 2 2 ∷ word 9 4 ∷ word 1 7 ∷ word 4 1 ∷ word 0 0 ∷ word 0 1 ∷ []
 
+-- q equal to 1:1 or to 1:2: two answers in one round, the left alternative's first
+abbrev pub M : List ℕ
+M = word 13 9 ∷ word 2 1 ∷ word 2 1 ∷ word 11 6 ∷ word 5 2 ∷ word 0 0 ∷ word 1 1 ∷ word 5 2 ∷ word 0 0 ∷ word 1 2 ∷ []
+
+-- numbero(r) and differ(q, 5) in a conjunction, then numbero(q): taken and listed in this order, not by kind, by variable, or the new goals last
+abbrev pub N : List ℕ
+N = word 13 11 ∷ word 2 2 ∷ word 2 2 ∷ word 10 8 ∷ word 10 5 ∷ word 8 1 ∷ word 0 1 ∷ word 6 2 ∷ word 0 0 ∷ word 2 5 ∷ word 8 1 ∷ word 0 0 ∷ []
+
+-- numbero(q), differ(q, 5), numbero(y), then q equal to y: the third line has the words of the first and is dropped
+abbrev pub O : List ℕ
+O =
+    word 13 13 ∷ word 2 1 ∷ word 2 2 ∷ word 10 10 ∷ word 8 1 ∷ word 0 0 ∷ word 6 2 ∷ word 0 0 ∷ word 2 5 ∷ word 8 1 ∷ word 0 1 ∷ word 5 2 ∷ word 0 0 ∷ word 0 1
+    ∷ []
+
+-- "Relation 0 with 255 variables, calling itself: 7 calls fit, round 8 ends at the variable limit."
+abbrev pub P : List ℕ
+P = word 13 4 ∷ word 2 0 ∷ word 2 255 ∷ word 12 1 ∷ word 2 0 ∷ []
+
+-- a query with n variables calls a relation with 255 that calls itself: with 8 the eighth call just fits, with 9 it is one variable too many
+abbrev pub Q : ℕ → List ℕ
+Q n = word 13 4 ∷ word 2 0 ∷ word 2 n ∷ word 12 1 ∷ word 2 1 ∷ word 13 4 ∷ word 2 0 ∷ word 2 255 ∷ word 12 1 ∷ word 2 1 ∷ []
+
+-- relation 0 without variables, with this goal
+abbrev pub query : List ℕ → List ℕ
+query goal = part 13 (word 2 0 ∷ word 2 0 ∷ goal)
+
+-- the goal that calls it
+abbrev pub again : List ℕ
+again = word 12 1 ∷ word 2 0 ∷ []
+
+-- a goal inside so many conjunctions of one goal each
+abbrev pub conjunctions : ℕ → List ℕ → List ℕ
+conjunctions zero goal = goal
+conjunctions (suc n) goal = part 10 (conjunctions n goal)
+
+-- with each call 256 goals are put to wait, one at a step: the fourth call puts one too many
+abbrev pub R : List ℕ
+R = query (conjunctions 255 again)
+
+-- a goal inside so many disjunctions, each time the first alternative; the second, symbolo of the empty list, fails
+abbrev pub disjunctions : ℕ → List ℕ → List ℕ
+disjunctions zero goal = goal
+disjunctions (suc n) goal = part 11 (disjunctions n goal ++ (word 7 1 ∷ word 3 0 ∷ []))
+
+-- with each call 64 disjunctions have an alternative left: after four calls the next is one too many
+abbrev pub S : List ℕ
+S = query (disjunctions 64 again)
+
+-- so many constraints that hold, symbolo of 1:0, and then a goal
+abbrev pub symbols : ℕ → List ℕ → List ℕ
+symbols zero goal = goal
+symbols (suc n) goal = word 7 1 ∷ word 1 0 ∷ symbols n goal
+
+-- with each call 128 constraints: after four calls the next is one too many
+abbrev pub T : List ℕ
+T = query (part 10 (symbols 128 again))
+
+-- the pair of a term and the empty list
+abbrev pub with-empty : List ℕ → List ℕ
+with-empty term = word 4 (length term) ∷ (term ++ (word 3 0 ∷ []))
+
+-- a term inside so many of them, each time the first part
+abbrev pub deep : ℕ → List ℕ → List ℕ
+deep zero term = term
+deep (suc n) term = with-empty (deep n term)
+
+-- a relation, called with the empty list, has absento 7 in its parameter and calls itself with the parameter 128 pairs deeper: in the sixth call one node too many waits
+abbrev pub W : List ℕ
+W = query (word 12 2 ∷ word 2 1 ∷ word 3 0 ∷ []) ++ part 13 (word 2 1 ∷ word 2 1 ∷ part 10 (word 9 2 ∷ word 1 7 ∷ word 0 0 ∷ part 12 (word 2 1 ∷ deep 128 (word 0 0 ∷ []))))
+
+-- an alternative for each of symbolo and numbero of a symbol and a number: those that hold
+abbrev pub atoms-typed : List ℕ
+atoms-typed =
+    part 13 (word 2 1 ∷ word 2 1 ∷ part 11 (typed-as 7 (word 1 7) ++ (typed-as 7 (word 2 7) ++ (typed-as 8 (word 1 8) ++ typed-as 8 (word 2 8)))))
+  where
+    -- q equal to an atom, and of a type
+    typed-as : ℕ → ℕ → List ℕ
+    typed-as kind atom = part 10 (part 5 (word 0 0 ∷ atom ∷ []) ++ part kind (word 0 0 ∷ []))
+
+-- q equal to the pair (x, y), absento 7 in q, differ of (x, y) and ((y, 1:1), 2:2): names by first appearance, absento by first occurrence, right sides through the path's bindings
+abbrev pub in-order : List ℕ
+in-order =
+    word 13 20 ∷ word 2 1 ∷ word 2 3 ∷ word 10 17 ∷ word 5 4 ∷ word 0 0 ∷ word 4 1 ∷ word 0 1 ∷ word 0 2 ∷ word 9 2 ∷ word 1 7 ∷ word 0 0 ∷ word 6 8 ∷ word 4 1 ∷ word 0 1
+    ∷ word 0 2 ∷ word 4 3 ∷ word 4 1 ∷ word 0 2 ∷ word 1 1 ∷ word 2 2 ∷ []
+
+-- 1:1 equal to 1:2, and different from it
+abbrev pub atoms-equal : List ℕ
+atoms-equal = word 13 5 ∷ word 2 0 ∷ word 2 0 ∷ word 5 2 ∷ word 1 1 ∷ word 1 2 ∷ []
+
+abbrev pub atoms-differ : List ℕ
+atoms-differ = word 13 5 ∷ word 2 0 ∷ word 2 0 ∷ word 6 2 ∷ word 1 1 ∷ word 1 2 ∷ []
+
+-- symbolo(q), then q equal to q: nothing is bound, so nothing is reviewed again
+abbrev pub bound-nothing : List ℕ
+bound-nothing = word 13 8 ∷ word 2 1 ∷ word 2 1 ∷ word 10 5 ∷ word 7 1 ∷ word 0 0 ∷ word 5 2 ∷ word 0 0 ∷ word 0 0 ∷ []
+
 -- `15:1 1:7`
 abbrev pub seven : List ℕ
 seven = word 15 1 ∷ word 1 7 ∷ []
@@ -92,4 +192,21 @@ rows =
     ∷ row J 16 1000000 4096 finished 0 9 ((0, word 15 5 ∷ word 0 0 ∷ word 0 1 ∷ word 6 2 ∷ word 0 0 ∷ word 0 1 ∷ []) ∷ [])
     ∷ row K 16 1000000 4096 finished 0 15 ((0, word 15 1 ∷ word 0 0 ∷ []) ∷ [])
     ∷ row L 16 1000000 4096 finished 0 9 ((0, word 15 4 ∷ word 0 0 ∷ word 9 2 ∷ word 1 7 ∷ word 0 0 ∷ []) ∷ [])
+    ∷ row M 16 1000000 4096 finished 0 9 ((0, word 15 1 ∷ word 1 1 ∷ []) ∷ (0, word 15 1 ∷ word 1 2 ∷ []) ∷ [])
+    ∷ row M 16 1000000 3 output-full 0 9 ((0, word 15 1 ∷ word 1 1 ∷ []) ∷ [])
+    ∷ row M 16 8 4096 steps-used 0 8 ((0, word 15 1 ∷ word 1 1 ∷ []) ∷ [])
+    ∷ row N 16 1000000 4096 finished 0 17 ((0, word 15 9 ∷ word 0 0 ∷ word 0 1 ∷ word 8 1 ∷ word 0 1 ∷ word 6 2 ∷ word 0 0 ∷ word 2 5 ∷ word 8 1 ∷ word 0 0 ∷ []) ∷ [])
+    ∷ row O 16 1000000 4096 finished 0 23 ((0, word 15 6 ∷ word 0 0 ∷ word 8 1 ∷ word 0 0 ∷ word 6 2 ∷ word 0 0 ∷ word 2 5 ∷ []) ∷ [])
+    ∷ row atoms-typed 16 1000000 4096 finished 0 29 ((0, seven) ∷ (0, word 15 1 ∷ word 2 8 ∷ []) ∷ [])
+    ∷ row in-order 16 1000000 4096 finished 0 37 ((0, word 15 18 ∷ word 4 1 ∷ word 0 0 ∷ word 0 1 ∷ word 9 2 ∷ word 1 7 ∷ word 0 0 ∷ word 9 2 ∷ word 1 7 ∷ word 0 1 ∷ word 11 8 ∷ word 6 4 ∷ word 0 0 ∷ word 4 1 ∷ word 0 1 ∷ word 1 1 ∷ word 6 2 ∷ word 0 1 ∷ word 2 2 ∷ []) ∷ [])
+    ∷ row atoms-equal 16 1000000 4096 finished 0 2 []
+    ∷ row atoms-differ 16 1000000 4096 finished 0 4 ((0, word 15 0 ∷ []) ∷ [])
+    ∷ row bound-nothing 16 1000000 4096 finished 0 7 ((0, word 15 3 ∷ word 0 0 ∷ word 7 1 ∷ word 0 0 ∷ []) ∷ [])
+    ∷ row P 16 1000000 4096 (path-limit bound.variables) 8 43 []
+    ∷ row (Q 8) 16 1000000 4096 (path-limit bound.variables) 9 53 []
+    ∷ row (Q 9) 16 1000000 4096 (path-limit bound.variables) 8 43 []
+    ∷ row R 16 1000000 4096 (path-limit bound.goals) 4 3583 []
+    ∷ row S 16 1000000 4096 (path-limit bound.disjunctions) 4 2190 []
+    ∷ row T 16 1000000 4096 (path-limit bound.constraints) 4 3613 []
+    ∷ row W 16 1000000 4096 (path-limit bound.waiting) 6 8302 []
     ∷ []

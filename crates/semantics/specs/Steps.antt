@@ -14,6 +14,14 @@ most disjunctions = 256
 most constraints = 512
 most waiting = 512
 
+-- its place in that list
+abbrev pub bound-number : Bound → ℕ
+bound-number variables = 1
+bound-number goals = 2
+bound-number disjunctions = 3
+bound-number constraints = 4
+bound-number waiting = 5
+
 -- "Steps used up: the next step would exceed the limit. Path limit: the next step would exceed that bound"
 pub data Stop : Type 0 where
   no-steps : Stop

@@ -1,4 +1,4 @@
--- `run` does what the definition's `run` says, and demand 3 holds of its result.
+-- `run` says what document 01's run says, and the demands hold of it.
 use mathlib.Core.Path.{ap, _∙_}
 use mathlib.Core.List.{[]}
 use Rattle.rules.specs.Verdict.{no-said}

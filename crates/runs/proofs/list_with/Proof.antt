@@ -1,16 +1,10 @@
--- The part is as long as asked: reading keeps the length.
+-- The parts are as long as asked: reading keeps the length, and the text is within the bytes that are lent for it.
 use mathlib.Core.Path.{sym}
 use native.Mathlib.Omega.{arith}
 use lib.Seq.{length-take-le}
 use borrow.Author.Needs.{needs}
 use Rattle.runs.proofs.list_with.Statement.{statement}
 use Rattle.runs.proofs.list_with.Tie as tie
-use Rattle.runs.proofs.list_with.Reads as reads
-use Rattle.runs.proofs.list_with.Lts as lts
-use Rattle.runs.proofs.read_part.Reads as read-part-reads
-use Rattle.runs.proofs.setting.Reads as setting-reads
-use Rattle.show.proofs.at_most.Reads as at-most-reads
-use Rattle.show.proofs.list.Reads as list-reads
 
 setting-requires : tie.Need-setting-requires
 setting-requires c κs = search needs
@@ -36,14 +30,26 @@ at-most-requires c κs = search needs
 read-part-requires : tie.Need-read-part-requires
 read-part-requires c κs = search needs
 
-slice-reshare-prefix-list : tie.Need-slice-reshare-prefix-list
-slice-reshare-prefix-list c = search needs
+slice-reshare-prefix-text : tie.Need-slice-reshare-prefix-text
+slice-reshare-prefix-text c = search needs
 
-slice-aggregate-list : tie.Need-slice-aggregate-list
-slice-aggregate-list c = sym (length-take-le _ _ (omega arith))
+slice-aggregate-text : tie.Need-slice-aggregate-text
+slice-aggregate-text c = sym (length-take-le _ _ (omega arith))
 
-list-requires : tie.Need-list-requires
-list-requires c κs = search needs
+slice-aggregate-text-2 : tie.Need-slice-aggregate-text-2
+slice-aggregate-text-2 c = search needs
+
+text-requires : tie.Need-text-requires
+text-requires c κs = search needs
+
+array-share-prefix-out : tie.Need-array-share-prefix-out
+array-share-prefix-out c = search needs
+
+slice-aggregate-write-all : tie.Need-slice-aggregate-write-all
+slice-aggregate-write-all c = sym (length-take-le _ _ (omega arith))
+
+write-all-requires : tie.Need-write-all-requires
+write-all-requires c κs = search needs
 
 same-length : tie.Need-same-length
 same-length c = search needs
@@ -63,8 +69,12 @@ list-with-spec =
     cast-at-most
     at-most-requires
     read-part-requires
-    slice-reshare-prefix-list
-    slice-aggregate-list
-    list-requires
+    slice-reshare-prefix-text
+    slice-aggregate-text
+    slice-aggregate-text-2
+    text-requires
+    array-share-prefix-out
+    slice-aggregate-write-all
+    write-all-requires
     same-length
     returns)

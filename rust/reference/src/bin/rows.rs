@@ -27,7 +27,8 @@ use Rattle.rules.specs.Calls.{goal-fault, goals-fault, relations-fault}
 use Rattle.rules.specs.Accept.{read}
 use Rattle.semantics.specs.Steps.{variables, goals, disjunctions, constraints, waiting}
 use Rattle.semantics.specs.Round.{finished, rounds-used, steps-used, output-full, path-limit}
-use Rattle.semantics.specs.Run.{refusal, ran, returns}
+use Rattle.semantics.specs.Path.{as-written}
+use Rattle.semantics.specs.Run.{refusal, ran, returns-by}
 ";
 
 const UNFOLDING: &str = "unfolding read read-word read-leaf read-term read-one read-two read-terms read-absento read-call read-goal read-goals \
@@ -113,7 +114,7 @@ fn row(number: usize, case: &Case, result: &Result<Outcome, Refusal>) -> String 
         ),
     };
     format!(
-        "\nrow-{number} : returns ({}) {} {} {} {} ≡ {report}\n{UNFOLDING}\nrow-{number} = refl\n",
+        "\nrow-{number} : returns-by as-written ({}) {} {} {} {} ≡ {report}\n{UNFOLDING}\nrow-{number} = refl\n",
         list(&case.words),
         case.rounds,
         case.steps,

@@ -1,20 +1,22 @@
--- The words keep their number.
-use mathlib.Core.Path.{_≡_}
-use Prim.Native.Nat.{_≤_, _-_}
+-- Word after word, as the definition has them.
+use Prim.Native.Nat.{_+_, _*_, _-_, _<_, _≤_}
+use mathlib.Core.Path.{_≡_, refl}
 use native.Mathlib.Omega.{arith}
-use lib.ListN.{length, length-set}
+use lib.ListN.{length, length-set, take}
+use Rattle.show.specs.Listing.{whole-words}
+use Rattle.show.proofs.WordLaws.{word-more}
 use borrow.Author.Needs.{needs}
-use Rattle.show.proofs.read_words.Statement.{statement}
-use Rattle.show.proofs.read_words.Tie as tie
+use Rattle.show.proofs.words.read_words.Statement.{statement}
+use Rattle.show.proofs.words.read_words.Tie as tie
 
 abbrev Inv-loop : tie.InvT-loop
-Inv-loop bytes words₀ count i₀ words i = (i ≤ count) × (length words ≡ length words₀)
+Inv-loop bytes words₀ count i₀ words i = (i ≤ count) × (length words ≡ length words₀) × (take i words ≡ take i (whole-words bytes))
 
 abbrev μ-loop : tie.MeasureT-loop
 μ-loop bytes words₀ count i₀ words i = count - i
 
 loop-holds : tie.Need-loop-holds Inv-loop μ-loop
-loop-holds c = search needs
+loop-holds c = (omega arith, refl, refl)
 
 mul-at : tie.Need-mul-at Inv-loop μ-loop
 mul-at c = search needs
@@ -56,13 +58,18 @@ loop-less : tie.Need-loop-less Inv-loop μ-loop
 loop-less c = search needs
 
 loop-again : tie.Need-loop-again Inv-loop μ-loop
-loop-again c = (omega arith, simp length-set (omega arith))
+loop-again c =
+    let l = c .before .before .before .before .before .before in
+    let bytes = l .before .before .before .args .bytes .now in
+    let inside : l .loop .i < length (l .loop .words) = omega arith in
+    let whole : 4 * l .loop .i + 3 < length bytes = omega arith in
+    (omega arith, simp length-set (omega arith), word-more (l .loop .words) bytes (l .loop .i) _ (l .loop .inv .2) inside whole (c .word .ensures))
 
 same-length : tie.Need-same-length Inv-loop μ-loop
-same-length c = search needs
+same-length c = c .before .loop .inv .1
 
 returns : tie.Need-returns Inv-loop μ-loop
-returns c = search needs
+returns c = let e : c .before .loop .i ≡ c .before .before .before .before .args .count = omega arith in rw e at (c .before .loop .inv .2)
 
 pub read-words-spec : {M : Type 1} → statement M
 read-words-spec =

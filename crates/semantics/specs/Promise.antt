@@ -1,0 +1,54 @@
+-- What holds of every call: the demands, that the engine's promise cites.
+use Prim.Native.Nat.{_+_, _≤_, ℕ}
+use mathlib.Core.List.{List, map}
+use mathlib.Core.Logic.{_↔_}
+use mathlib.Core.Option.{some}
+use mathlib.Core.Path.{_≡_}
+use lib.ListN.{getD, getElem?, length}
+use Rattle.rules.specs.Syntax.{Program, Relation}
+use Rattle.rules.specs.WellFormed.{WrittenForm}
+use Rattle.semantics.specs.Demand.{Demand1, Demand2, Demand3}
+use Rattle.semantics.specs.Path.{Passing, as-written}
+use Rattle.semantics.specs.Round.{Answer, End, Result}
+use Rattle.semantics.specs.Run.{Report, answers-on, page, ran, refusal, usable}
+use Rattle.semantics.specs.Situation.{Situation}
+
+-- A result is that of the last round that the run came to: it names the end in whose situation the run is there, with the answers, steps and words as counted there.
+pub record EndRight (pass : Passing) (P : Program) (R : Relation) (limit round-limit total : ℕ) (r : Result) : Type 0 where
+  pub situation : Situation pass P R limit round-limit total (r .end)
+  pub round-is : r .round ≡ situation .round
+  pub answers-are : r .answers ≡ situation .tally .written
+  pub steps-are : r .steps + situation .tally .left ≡ limit
+  pub words-are : length (page (r .answers)) + situation .tally .room ≡ total
+
+-- the output after a run: the answers on it are those of the result, and it keeps its length
+pub record OnPage (output after : List ℕ) (r : Result) : Type 0 where
+  pub page-is : answers-on after ≡ map (λ (a : Answer). a .1) (r .answers)
+  pub same-length : length after ≡ length output
+
+-- The words are the written form of just one program, whose relation 0 is the query. Demands 2 and 3 hold of the result, its end, steps and words are as document 01 defines them, and its answers
+-- are those on the output.
+pub record Promised (words : List ℕ) (round-limit step-limit : ℕ) (output after : List ℕ) (r : Result) : Type 0 where
+  pub program : Program
+  pub is-written : WrittenForm words program
+  pub no-other : (Q : Program) → WrittenForm words Q → program ≡ Q
+  pub query : Relation
+  pub is-query : getElem? program 0 ≡ some query
+  pub published : (plenty : ℕ) → step-limit ≤ plenty → Demand2 as-written plenty program query step-limit (usable (length output)) r
+  pub demand : Demand3 program r
+  pub ends : EndRight as-written program query step-limit round-limit (usable (length output)) r
+  -- "Each is reported in just that situation."
+  pub just : (e : End) → (r .end ≡ e) ↔ Situation as-written program query step-limit round-limit (usable (length output)) e
+  pub on-output : OnPage output after r
+
+-- What becomes of the lent words. Refused: they "keep their contents". Else "scratch is all 0 and output beyond the last whole answer is 0 to its end".
+abbrev pub Lent : Report → List ℕ → List ℕ → List ℕ → List ℕ → Type 0
+Lent (refusal number place) output scratch after scratch-after = (after ≡ output) × (scratch-after ≡ scratch)
+Lent (ran r) output scratch after scratch-after =
+    (length after ≡ length output) × (length scratch-after ≡ length scratch) × ((i : ℕ) → length (page (r .answers)) ≤ i → getD after i 0 ≡ 0) × ((i : ℕ) → getD scratch-after i 0 ≡ 0)
+
+-- What a call returns is a result or a refusal as demand 1 says; of a result all that is promised holds; and the lent words are left so.
+pub record Demands (words : List ℕ) (round-limit step-limit : ℕ) (output scratch after scratch-after : List ℕ) (x : Report) : Type 0 where
+  pub accepts : Demand1 words round-limit (length scratch) x
+  pub runs : (r : Result) → x ≡ ran r → Promised words round-limit step-limit output after r
+  pub lent : Lent x output scratch after scratch-after

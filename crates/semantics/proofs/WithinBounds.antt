@@ -4,7 +4,7 @@ use mathlib.Core.Bool.{Bool, false, true}
 use mathlib.Core.List.{List, [], _++_, _∷_}
 use mathlib.Core.Option.{Option, none, some}
 use mathlib.Core.Path.{_∙_, _≡_, ap, refl, subst, sym}
-use native.Mathlib.Nat.{le-max-left, le-max-right, le-trans, max-eq-left, max-eq-right, max-le, max-zero}
+use native.Mathlib.Nat.{le-max-left, le-max-right, le-trans, max-eq-right, max-le, max-zero}
 use native.Mathlib.Omega.{arith}
 use lib.Dec.{eqb, leb, ltb}
 use lib.ListN.{getElem?, length, length-append}
@@ -15,7 +15,7 @@ use Rattle.semantics.specs.Answer.{answer}
 use Rattle.semantics.specs.Path.{ChoicePoint, Passing, Path, Taken, Task, cut, equal-taken, goals-count, goes, keeping, leaves, make-call-by, take-goal-by, taken-by, wait-all, waiting-on, within}
 use Rattle.semantics.specs.Review.{review, review-all}
 use Rattle.semantics.specs.Round.{Next, State, Tally, after, back, give, go-on, going, over, resume, spend, start, turn-by}
-use Rattle.semantics.specs.Situation.{Reached, call-uses, has, here, onto, so-many, takes-goal, uses}
+use Rattle.semantics.specs.Situation.{call-uses, has, so-many, takes-goal, uses}
 use Rattle.semantics.specs.Steps.{Bound, Outcome, and-then, constraints, disjunctions, done, goals, most, stop, variables, waiting}
 use Rattle.semantics.specs.Substitution.{Substitution, shift, shift-constraint}
 use Rattle.semantics.specs.Unify.{unify-terms}
@@ -29,7 +29,7 @@ for-each Q v g d c w disjunctions = d
 for-each Q v g d c w constraints = c
 for-each Q v g d c w waiting = w
 
-each-within : {v g d c : ℕ} → v ≤ 2048 → g ≤ 1024 → d ≤ 256 → c ≤ 512 → (b : Bound) → so-many v g d c b ≤ most b
+pub each-within : {v g d c : ℕ} → v ≤ 2048 → g ≤ 1024 → d ≤ 256 → c ≤ 512 → (b : Bound) → so-many v g d c b ≤ most b
 each-within {v} {g} {d} {c} i j m n = for-each (λ b. so-many v g d c b ≤ most b) i j m n (omega arith)
 
 one-fewer : (v g d c : ℕ) (b : Bound) → so-many v g d c b ≤ so-many v g (suc d) c b
@@ -159,7 +159,7 @@ module _ (k : ℕ) (first : Bound → ℕ) where
     pub path-within : Within (s .path) (s .choices)
     pub others-within : Others (s .choices)
 
-  abbrev NextWithin : Next → Type 0
+  abbrev pub NextWithin : Next → Type 0
   NextWithin (going s) = StateWithin s
   NextWithin (over r) = Unit {0}
 
@@ -191,7 +191,8 @@ module _ (k : ℕ) (first : Bound → ℕ) where
         given (done ws l) = by-choose NextWithin (leb (length ws) (t .room)) _ _ (λ q. back-within cs _ h) (λ q. tt)
     go-on-within p (task ∷ stack) cs t w h = record { path-within = record { each-bound = w .each-bound; few-calls = w .few-calls }; others-within = h }
 
-    turn-within : (s : State) → StateWithin s → NextWithin (turn-by pass P n k s)
+    -- a turn keeps it
+    pub turn-within : (s : State) → StateWithin s → NextWithin (turn-by pass P n k s)
     turn-within s w = go (takes-goal pass P n k s) (goal-took pass k P (s .path) (s .choices) (s .task .0) (s .task .1) (s .tally .left))
       where
         go : (o : Outcome Taken) → TookAs pass k P (s .path) (s .choices) (s .task .1) o → NextWithin (after P n k s o)
@@ -200,19 +201,9 @@ module _ (k : ℕ) (first : Bound → ℕ) where
         go (done cut l) x = back-within (s .choices) _ (w .others-within)
         go (done (goes p cs) l) x = let (u, v) = took-within (s .path) p (s .choices) cs (s .task .1) (w .path-within) (w .others-within) x in go-on-within p (p .stack) cs (spend (s .tally) l) u v
 
-    -- every state that is reached
-    pub reached-within : {s s′ : State} → Reached pass P n k s s′ → StateWithin s → StateWithin s′
-    reached-within here w = w
-    reached-within {s} (onto e x) w = reached-within x (subst NextWithin e (turn-within s w))
-
 -- what a round of the query R sets out with
 abbrev pub set-out : Relation → Bound → ℕ
 set-out R = so-many (R .vars) 1 0 0
 
 pub start-within : (k : ℕ) (R : Relation) (t : Tally) → StateWithin k (set-out R) (start R t)
 start-within k R t = record { path-within = record { each-bound = λ b. le-max-right (most b) (set-out R b); few-calls = omega arith }; others-within = tt }
-
--- "On one path: 2,048 variables, 1,024 goals put to wait .., 256 disjunctions with alternatives left, 512 constraints": no state of a round has more
-pub bounds-kept : (pass : Passing) (P : Program) (n k : ℕ) (R : Relation) (t : Tally) → R .vars ≤ most variables → {s : State} → Reached pass P n k (start R t) s → (b : Bound) → has (s .path) (s .choices) b ≤ most b
-bounds-kept pass P n k R t h {s} x b =
-    subst (λ (m : ℕ). has (s .path) (s .choices) b ≤ m) (max-eq-left (each-within h (omega arith) (omega arith) (omega arith) b)) (reached-within k (set-out R) pass P n x (start-within k R t) .path-within .each-bound b)

@@ -5,14 +5,15 @@ use mathlib.Core.Path.{_∙_, _≡_, ap, refl, sym}
 use Rattle.rules.specs.Syntax.{Program, Relation, atom, equal, symbol, var}
 use Rattle.rules.specs.Written.{goal-words, goals-words, term-words, terms-words}
 use Rattle.semantics.specs.Path.{Passing, as-written}
-use Rattle.semantics.specs.Round.{End, State, Tally, broken, finished, going, output-full, over, path-limit, rounds-by, rounds-used, spend, steps-used, turn-by}
-use Rattle.semantics.specs.Situation.{Situation, TurnBreaks}
+use Rattle.semantics.specs.Round.{End, State, Tally, broken, finished, going, output-full, over, path-limit, rounds-by, rounds-used, spend, steps-used}
+use Rattle.semantics.specs.Situation.{Situation, TurnBreaks, Turns}
 use Rattle.semantics.proofs.Basics.{clash}
 use Rattle.semantics.proofs.Ends.{ends-just}
+use Rattle.semantics.proofs.InRound.{turns-going}
 use Rattle.semantics.proofs.Situations.{from-breaks}
 
-pub going-breaks-none : (pass : Passing) (P : Program) (n k : ℕ) (s s′ : State) → turn-by pass P n k s ≡ going s′ → (e : End) (l : ℕ) → ¬ TurnBreaks pass P n k s e l
-going-breaks-none pass P n k s s′ g e l b = clash (let q : going s′ ≡ over (broken e (spend (s .tally) l)) = sym g ∙ from-breaks pass P n k s e l b in cc)
+pub going-breaks-none : (pass : Passing) (P : Program) (n k : ℕ) (s s′ : State) → Turns pass P n k s s′ → (e : End) (l : ℕ) → ¬ TurnBreaks pass P n k s e l
+going-breaks-none pass P n k s s′ g e l b = clash (let q : going s′ ≡ over (broken e (spend (s .tally) l)) = sym (turns-going pass P n k s g) ∙ from-breaks pass P n k s e l b in cc)
 
 -- and no turn is in two, or in one with other steps left
 pub one-break : (pass : Passing) (P : Program) (n k : ℕ) (s : State) (e e′ : End) (l l′ : ℕ) → TurnBreaks pass P n k s e l → TurnBreaks pass P n k s e′ l′ → (e ≡ e′) × (l ≡ l′)
@@ -33,7 +34,14 @@ stops-early : rounds-by 3 as-written (A ∷ []) A 0 0 2 3 [] .end ≡ steps-used
 unfolding term-words terms-words goal-words goals-words
 stops-early = refl
 
--- with 4 steps it is in the situation of finished alone, with 3 it is not
+-- with 4 steps it is in the situation of finished, with 3 in that of steps used up
+pub A-finishes : Situation as-written (A ∷ []) A 4 0 2 finished
+A-finishes = ends-just as-written (A ∷ []) A 4 0 2 finished .0 finishes
+
+pub A-stops : Situation as-written (A ∷ []) A 3 0 2 steps-used
+A-stops = ends-just as-written (A ∷ []) A 3 0 2 steps-used .0 stops-early
+
+-- so for each end there is a step limit with which it is not in its situation
 pub not-everywhere : (e : End) → (limit : ℕ) × ¬ Situation as-written (A ∷ []) A limit 0 2 e
 not-everywhere finished = (3, λ x. clash (let q : steps-used ≡ finished = sym stops-early ∙ ends-just as-written (A ∷ []) A 3 0 2 finished .1 x in cc))
 not-everywhere rounds-used = (4, λ x. clash (let q : finished ≡ rounds-used = sym finishes ∙ ends-just as-written (A ∷ []) A 4 0 2 rounds-used .1 x in cc))

@@ -34,14 +34,14 @@ pub record Promised (words : List ℕ) (round-limit step-limit : ℕ) (output af
   pub no-other : (Q : Program) → WrittenForm words Q → program ≡ Q
   pub query : Relation
   pub is-query : getElem? program 0 ≡ some query
-  pub published : (plenty : ℕ) → step-limit ≤ plenty → Demand2 as-written plenty program query step-limit (usable (length output)) r
+  pub published : (plenty : ℕ) → step-limit ≤ plenty → Demand2 as-written plenty program query step-limit round-limit (usable (length output)) r
   pub demand : Demand3 program r
   pub ends : EndRight as-written program query step-limit round-limit (usable (length output)) r
   -- "Each is reported in just that situation."
   pub just : (e : End) → (r .end ≡ e) ↔ Situation as-written program query step-limit round-limit (usable (length output)) e
   pub on-output : OnPage output after r
 
--- What becomes of the lent words. Refused: they "keep their contents". Else "scratch is all 0 and output beyond the last whole answer is 0 to its end".
+-- What becomes of the lent words. Refused: "output and scratch stay as lent". Else "scratch is all 0 and output beyond the last whole answer is 0 to its end".
 abbrev pub Lent : Report → List ℕ → List ℕ → List ℕ → List ℕ → Type 0
 Lent (refusal number place) output scratch after scratch-after = (after ≡ output) × (scratch-after ≡ scratch)
 Lent (ran r) output scratch after scratch-after =

@@ -9,10 +9,10 @@ use Rattle.semantics.specs.Run as run
 use Rattle.engine.specs.Report.{Kept, ended}
 use Rattle.engine.specs.declared.Report.{Report}
 use Rattle.semantics.specs.Path.{as-written}
-use Rattle.show.specs.Listing.{Listed, first-line, joined, line, report-answers, report-text, words-of}
+use Rattle.show.specs.Listing.{Listed, first-line, joined, line, printed-text, report-answers, report-text, words-of}
 use Rattle.show.specs.Writing.{Wrote}
 use Rattle.show.proofs.TextLaws.{behind, sets-start}
-use Rattle.show.proofs.WordLaws.{same-run}
+use Rattle.show.proofs.WordLaws.{read-short, same-run, start-decides}
 
 none-on-zeros : (n : ℕ) → run.answers-on (replicate n 0) ≡ []
 none-on-zeros zero = refl
@@ -47,9 +47,14 @@ file-text bytes {program} {output} {out} {after} {count} rounds steps n scratch 
     let words = words-of bytes in
     let same : report-text (run.run-as-written program rounds steps output scratch .report) ≡ report-text (run.run-as-written words rounds steps (replicate n 0) scratch .report) =
     ap (λ (ws : List ℕ). report-text (run.run-as-written ws rounds steps output scratch .report)) p
-    ∙ ap (λ (x : run.Run). report-text (x .report)) (same-run words rounds steps output scratch)
+    ∙ ap (λ (x : run.Run). report-text (x .report)) (same-run (take 16385 words) words rounds steps output scratch (read-short words))
     ∙ ap (λ (o : List ℕ). report-text (run.run-as-written words rounds steps o scratch .report)) o in
     laid (subst (λ (t : List ℕ). Wrote t 0 out count after) same w) h
   where
     laid : {text out after : List ℕ} {count : ℕ} → Wrote text 0 out count after → count ≤ 65536 → Listed text out count after
     laid {text} {out} w h = record { is-long = omega (arith, w .is-next); is-there = w .is-after ∙ sets-start text out; is-short = h }
+
+-- The listing program reads no more bytes than 65,540: it prints what it would print of the whole file.
+pub printed-start : (bytes : List ℕ) → printed-text (take 65540 bytes) ≡ printed-text bytes
+printed-start bytes =
+    ap (λ (x : run.Run). report-text (x .report)) (same-run (words-of (take 65540 bytes)) (words-of bytes) 16 1000000 (replicate 4096 0) (replicate 16384 0) (start-decides bytes))

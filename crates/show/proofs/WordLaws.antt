@@ -1,7 +1,7 @@
 -- The words of a file: those that are read decide as all of them do.
 use Prim.Native.Nat.{ℕ, zero, suc, _+_, _*_, _/_, _%_, _<_, min}
 use mathlib.Core.Bool.{Bool, true, false}
-use mathlib.Core.Path.{_≡_, refl, ap, _∙_}
+use mathlib.Core.Path.{_≡_, refl, sym, ap, _∙_}
 use mathlib.Core.List.{List, [], _∷_}
 use native.Mathlib.Nat.{min-comm, suc-add}
 use native.Mathlib.Numerals.{add-one}
@@ -9,8 +9,8 @@ use native.Mathlib.Omega.{arith}
 use lib.Dec.{eqb, leb}
 use lib.ListN.{length, getD, take, set}
 use lib.Seq.{take-all, take-suc, take-suc-set, length-take-le}
-use borrow.Author.Tests.{le-leb, leb-true, leb-false}
-use Rattle.rules.specs.Accept.{Accept, admit, read, read-with}
+use borrow.Author.Tests.{le-leb, lt-leb, leb-true, leb-false}
+use Rattle.rules.specs.Accept.{Accept, admit, read, refused}
 use Rattle.rules.specs.Reading.{choose}
 use Rattle.rules.specs.Settings.{settings-good}
 use Rattle.semantics.specs.Run as run
@@ -56,23 +56,41 @@ pub read-program : (bytes words : List ℕ) {count : ℕ} → count ≡ words-re
 read-program bytes words e h = h ∙ rw e (read-start bytes)
 
 -- more words than a program may have are refused, however many
-read-short : (ws : List ℕ) → read (take 16385 ws) ≡ read ws
+read-too-many : (ws : List ℕ) → 16384 < length ws → read ws ≡ refused 1 0
 unfolding read
+read-too-many ws l = rw (le-leb 1 (length ws) (omega arith), lt-leb (length ws) 16384 l)
+
+pub read-short : (ws : List ℕ) → read (take 16385 ws) ≡ read ws
 read-short ws = by-test (leb (length ws) 16384) refl
   where
     by-test : (b : Bool) → leb (length ws) 16384 ≡ b → read (take 16385 ws) ≡ read ws
     by-test true e = rw (take-all 16385 ws (omega (arith, leb-true (length ws) 16384 e)))
     by-test false e =
         let l : 16384 < length ws = leb-false (length ws) 16384 e in
-        rw (length-take-le 16385 ws (omega arith), e, le-leb 1 (length ws) (omega arith))
+        read-too-many (take 16385 ws) (omega (arith, length-take-le 16385 ws (omega arith))) ∙ sym (read-too-many ws l)
 
-pub same-run : (ws : List ℕ) (rounds steps : ℕ) (output scratch : List ℕ) → run.run-as-written (take 16385 ws) rounds steps output scratch ≡ run.run-as-written ws rounds steps output scratch
-same-run ws rounds steps output scratch =
-    ap (λ (a : Accept). run.leave (run.report-read-by as-written a rounds steps (length output)) output scratch) same-reading
+-- so a file is decided by the bytes of one word more than a program may have: longer ones are refused, whatever their count
+pub start-decides : (bytes : List ℕ) → read (words-of (take 65540 bytes)) ≡ read (words-of bytes)
+unfolding read
+start-decides bytes = by-length (leb (length bytes) 65540) refl
   where
-    by-test : (b : Bool) → admit b (take 16385 ws) ≡ admit b ws
-    by-test true = read-short ws
-    by-test false = refl
+    by-count : (b : Bool) → 65540 < length bytes → read (choose b (λ _. whole-words bytes) (λ _. [])) ≡ refused 1 0
+    by-count true l = read-too-many (whole-words bytes) (omega (arith, words-long bytes))
+    by-count false l = refl
 
-    same-reading : read-with rounds (length scratch) (take 16385 ws) ≡ read-with rounds (length scratch) ws
-    same-reading = by-test (settings-good rounds (length scratch))
+    by-length : (b : Bool) → leb (length bytes) 65540 ≡ b → read (words-of (take 65540 bytes)) ≡ read (words-of bytes)
+    by-length true e = rw (take-all 65540 bytes (leb-true (length bytes) 65540 e))
+    by-length false e =
+        let l : 65540 < length bytes = leb-false (length bytes) 65540 e in
+        let n : length (take 65540 bytes) ≡ 65540 = length-take-le 65540 bytes (omega arith) in
+        let whole : words-of (take 65540 bytes) ≡ whole-words (take 65540 bytes) = rw n in
+        rw whole (read-too-many (whole-words (take 65540 bytes)) (omega (arith, words-long (take 65540 bytes), n))) ∙ sym (by-count (eqb (length bytes % 4) 0) l)
+
+-- words that are read alike run alike
+pub same-run : (ws vs : List ℕ) (rounds steps : ℕ) (output scratch : List ℕ) → read ws ≡ read vs → run.run-as-written ws rounds steps output scratch ≡ run.run-as-written vs rounds steps output scratch
+same-run ws vs rounds steps output scratch e =
+    ap (λ (a : Accept). run.leave (run.report-read-by as-written a rounds steps (length output)) output scratch) (by-test (settings-good rounds (length scratch)))
+  where
+    by-test : (b : Bool) → admit b ws ≡ admit b vs
+    by-test true = e
+    by-test false = refl

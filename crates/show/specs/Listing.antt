@@ -95,7 +95,11 @@ report-text x = first-line (report-ended x) (run.counts x .round) (run.counts x 
 abbrev pub listing-text : List ℕ → ℕ → ℕ → ℕ → List ℕ
 listing-text bytes rounds steps room = report-text (run.run-as-written (words-of bytes) rounds steps (replicate (min room 4096) 0) (replicate 16384 0) .report)
 
--- The promise of `text`: how long the text is, and the text at the start of the lent bytes, as far as they reach, with what is behind it as lent.
+-- "with round limit 16, step limit 1,000,000 and 4,096 output words": what the listing program prints of the bytes that it has read
+abbrev pub printed-text : List ℕ → List ℕ
+printed-text bytes = listing-text bytes 16 1000000 4096
+
+-- The promise of `text` and `printed_text`: how long the text is, and the text at the start of the lent bytes, as far as they reach, with what is behind it as lent.
 pub record Listed (text out : List ℕ) (count : ℕ) (after : List ℕ) : Type 0 where
   pub is-long : count ≡ length text
   pub is-there : after ≡ take (length out) text ++ drop (length text) out

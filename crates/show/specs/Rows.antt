@@ -5,7 +5,7 @@ use Rattle.word.specs.Word.{word}
 use Rattle.semantics.specs.Round as round
 use Rattle.semantics.specs.Run as run
 use Rattle.semantics.specs.Steps as steps
-use Rattle.show.specs.Listing.{listing-text, report-text}
+use Rattle.show.specs.Listing.{listing-text, printed-text, report-text}
 
 -- a text by the definition, and its bytes
 pub record Row : Type 0 where
@@ -43,9 +43,9 @@ rows =
     -- `refused 6 at 1536`
     record { text = report-text (run.refusal 6 1536); bytes = 114 ∷ 101 ∷ 102 ∷ 117 ∷ 115 ∷ 101 ∷ 100 ∷ 32 ∷ 54 ∷ 32 ∷ 97 ∷ 116 ∷ 32 ∷ 49 ∷ 53 ∷ 51 ∷ 54 ∷ 10 ∷ [] } ∷
     -- `end finished round 0 steps 4 answers 1` / `15:1 1:7`
-    record { text = listing-text A 16 1000000 4096; bytes = 101 ∷ 110 ∷ 100 ∷ 32 ∷ 102 ∷ 105 ∷ 110 ∷ 105 ∷ 115 ∷ 104 ∷ 101 ∷ 100 ∷ 32 ∷ 114 ∷ 111 ∷ 117 ∷ 110 ∷ 100 ∷ 32 ∷ 48 ∷ 32 ∷ 115 ∷ 116 ∷ 101 ∷ 112 ∷ 115 ∷ 32 ∷ 52 ∷ 32 ∷ 97 ∷ 110 ∷ 115 ∷ 119 ∷ 101 ∷ 114 ∷ 115 ∷ 32 ∷ 49 ∷ 10 ∷ 49 ∷ 53 ∷ 58 ∷ 49 ∷ 32 ∷ 49 ∷ 58 ∷ 55 ∷ 10 ∷ [] } ∷
+    record { text = printed-text A; bytes = 101 ∷ 110 ∷ 100 ∷ 32 ∷ 102 ∷ 105 ∷ 110 ∷ 105 ∷ 115 ∷ 104 ∷ 101 ∷ 100 ∷ 32 ∷ 114 ∷ 111 ∷ 117 ∷ 110 ∷ 100 ∷ 32 ∷ 48 ∷ 32 ∷ 115 ∷ 116 ∷ 101 ∷ 112 ∷ 115 ∷ 32 ∷ 52 ∷ 32 ∷ 97 ∷ 110 ∷ 115 ∷ 119 ∷ 101 ∷ 114 ∷ 115 ∷ 32 ∷ 49 ∷ 10 ∷ 49 ∷ 53 ∷ 58 ∷ 49 ∷ 32 ∷ 49 ∷ 58 ∷ 55 ∷ 10 ∷ [] } ∷
     -- `refused 1 at 0`
-    record { text = listing-text (5 ∷ A) 16 1000000 4096; bytes = 114 ∷ 101 ∷ 102 ∷ 117 ∷ 115 ∷ 101 ∷ 100 ∷ 32 ∷ 49 ∷ 32 ∷ 97 ∷ 116 ∷ 32 ∷ 48 ∷ 10 ∷ [] } ∷
+    record { text = printed-text (5 ∷ A); bytes = 114 ∷ 101 ∷ 102 ∷ 117 ∷ 115 ∷ 101 ∷ 100 ∷ 32 ∷ 49 ∷ 32 ∷ 97 ∷ 116 ∷ 32 ∷ 48 ∷ 10 ∷ [] } ∷
     -- `refused 9 at 0`
     record { text = listing-text A 256 1000000 4096; bytes = 114 ∷ 101 ∷ 102 ∷ 117 ∷ 115 ∷ 101 ∷ 100 ∷ 32 ∷ 57 ∷ 32 ∷ 97 ∷ 116 ∷ 32 ∷ 48 ∷ 10 ∷ [] } ∷
     []

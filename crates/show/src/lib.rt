@@ -12,7 +12,7 @@ ghost use mathlib.Core.Path.{_≡_};
 ghost use Prim.Native.Nat.{_≤_, min};
 ghost use lib.ListN.{length, replicate};
 ghost use Rattle.semantics.specs.Run.{run-as-written};
-ghost use Rattle.show.specs.Listing.{Listed, listing-text, report-text, word-of};
+ghost use Rattle.show.specs.Listing.{Listed, listing-text, printed-text, report-text, word-of};
 ghost use Rattle.show.specs.Writing.{Wrote};
 
 // The word of four bytes, low byte first.
@@ -56,4 +56,11 @@ pub fn text(bytes: &[u8], rounds: u32, steps: u32, room: usize, out: &mut [u8]) 
     let mut output = [0u32; 4096];
     let lent = at_most(room, 4096);
     list(&words[..count], rounds, steps, &mut output[..lent], out)
+}
+
+// What the listing program prints of these bytes: their list with document 01's limits, as `text` writes it.
+pub fn printed_text(bytes: &[u8], out: &mut [u8]) -> usize
+    ensures { λ r. ⌜ Listed (printed-text (now (bytes .entry))) (now (out .entry)) r (now (out .exit)) ⌝ }
+{
+    text(bytes, 16, 1000000, 4096, out)
 }

@@ -53,16 +53,24 @@ fn code(text: &str, mark: &str) -> String {
     kept
 }
 
-/// The names that `ghost use` lines bring in, each with its module.
-fn ghost_names(code: &str) -> Result<BTreeMap<String, String>, String> {
-    let mut names = BTreeMap::new();
+/// The words of a name: `_≤_` is written around its operands, as `a ≤ b`, or whole.
+fn words_of(name: &str) -> impl Iterator<Item = &str> {
+    name.split('_').filter(|word| !word.is_empty())
+}
+
+/// The words that `ghost use` lines bring in, each with the modules of the names that have it.
+fn ghost_words(code: &str) -> Result<BTreeMap<String, Vec<String>>, String> {
+    let mut words: BTreeMap<String, Vec<String>> = BTreeMap::new();
     for (at, _) in code.match_indices("ghost use ") {
         let rest = &code[at + "ghost use ".len()..];
         let end = rest.find(';').ok_or("a ghost use without its end")?;
         let used = rest[..end].trim();
         let mut bring = |name: &str, module: &str| {
             let shown = name.split(" as ").last().unwrap_or(name).trim();
-            names.insert(shown.replace('_', ""), module.to_string());
+            for word in words_of(shown) {
+                let modules = words.entry(word.to_string()).or_default();
+                modules.push(module.to_string());
+            }
         };
         if let Some((module, list)) = used.split_once(".{") {
             let list = list.strip_suffix('}').ok_or(format!("ghost use {used}"))?;
@@ -75,7 +83,7 @@ fn ghost_names(code: &str) -> Result<BTreeMap<String, String>, String> {
             return Err(format!("ghost use {used}"));
         }
     }
-    Ok(names)
+    Ok(words)
 }
 
 /// The end of the part in braces that begins at `open`.
@@ -97,7 +105,7 @@ fn closing(code: &str, open: usize) -> Result<usize, String> {
 /// The public functions of a file of code. `pub(crate)` ones are private.
 pub fn contracts(text: &str) -> Result<Vec<Contract>, String> {
     let code = code(text, "//");
-    let names = ghost_names(&code)?;
+    let words = ghost_words(&code)?;
     let mut found = Vec::new();
     for (at, _) in code.match_indices("fn ") {
         let line = code[..at].rfind('\n').map_or(0, |end| end + 1);
@@ -114,8 +122,10 @@ pub fn contracts(text: &str) -> Result<Vec<Contract>, String> {
         }
         let rest = &code[at + 3..];
         let end = rest.find('(').ok_or("a function without parameters")?;
+        let function = rest[..end].trim();
+        let parameters = parameters(&rest[end..])?;
         let mut contract = Contract {
-            function: rest[..end].trim().to_string(),
+            function: function.to_string(),
             requires: false,
             ensures: false,
             imports: Vec::new(),
@@ -131,7 +141,8 @@ pub fn contracts(text: &str) -> Result<Vec<Contract>, String> {
                 _ => break,
             }
             let close = closing(&code, open)?;
-            for import in named(&code[open..close], &names) {
+            let clause = named(&code[open + 1..close], &words, &parameters);
+            for import in clause.map_err(|e| format!("{function}: {e}"))? {
                 if !contract.imports.contains(&import) {
                     contract.imports.push(import);
                 }
@@ -143,20 +154,54 @@ pub fn contracts(text: &str) -> Result<Vec<Contract>, String> {
     Ok(found)
 }
 
-/// The modules of the imported names in a clause, and those that are named in full.
-fn named(clause: &str, names: &BTreeMap<String, String>) -> Vec<String> {
-    let parts = |c: char| c.is_whitespace() || "(){}⌜⌝,;λ".contains(c);
-    let mut modules: Vec<String> = clause
-        .split(parts)
-        .filter_map(|word| {
-            names
-                .get(word.split('.').next().unwrap_or(word))
-                .or(names.get(word))
-        })
-        .cloned()
-        .collect();
-    modules.extend(in_full(clause));
-    modules
+/// The names of the parameters that `text` begins with, in parentheses.
+fn parameters(text: &str) -> Result<BTreeSet<String>, String> {
+    let end = text.find(')').ok_or("parameters without their end")?;
+    let list = text[1..end].split(',').map(str::trim);
+    Ok(list
+        .filter(|parameter| !parameter.is_empty())
+        .map(|parameter| parameter.split(':').next().unwrap_or(parameter).trim())
+        .map(|name| name.trim_start_matches("mut ").to_string())
+        .collect())
+}
+
+/// What the language itself has: the value of a place, products, functions, records and their fields' equations, the types of bound names.
+const OF_THE_LANGUAGE: [&str; 8] = ["now", "×", "→", "record", "=", ":", ".", "λ"];
+
+/// The modules of the imported names in a clause, and those that are named in full. A word that is neither imported nor a parameter, a bound name, a field or a number is a
+/// fault.
+fn named(
+    clause: &str,
+    words: &BTreeMap<String, Vec<String>>,
+    parameters: &BTreeSet<String>,
+) -> Result<Vec<String>, String> {
+    let spaced = clause.replace('λ', " λ ");
+    let parts = |c: char| c.is_whitespace() || "(){}⌜⌝,;".contains(c);
+    let written: Vec<&str> = spaced.split(parts).filter(|w| !w.is_empty()).collect();
+    // `λ r. …` binds r up to the clause's end, and `record { a = … }` has the field a
+    let bound = |word: &str| {
+        written
+            .windows(2)
+            .any(|w| w[0] == "λ" && w[1].trim_end_matches('.') == word)
+    };
+    let mut modules = in_full(clause);
+    for (i, word) in written.iter().enumerate() {
+        let field = word.starts_with('.') || written.get(i + 1) == Some(&"=");
+        let full = word.starts_with("Rattle·");
+        let number = word.chars().all(|c| c.is_ascii_digit());
+        if field || full || number || OF_THE_LANGUAGE.contains(word) {
+            continue;
+        }
+        let first = word.split('.').next().unwrap_or(word);
+        for part in words_of(first) {
+            match words.get(part) {
+                Some(of) => modules.extend(of.iter().cloned()),
+                None if parameters.contains(first) || bound(first) => {}
+                None => return Err(format!("{part} is in no ghost use")),
+            }
+        }
+    }
+    Ok(modules)
 }
 
 /// The paths of modules of crates that stand in some code.
@@ -178,8 +223,13 @@ fn in_full(code: &str) -> Vec<String> {
 pub fn imports(text: &str) -> Vec<String> {
     let code = code(text, "--");
     let used = code.lines().filter_map(|line| {
-        let line = line.trim_start();
-        let line = line.strip_prefix("pub ").unwrap_or(line);
+        let mut line = line.trim_start();
+        while let Some(rest) = ["pub ", "unfoldable ", "abbrev "]
+            .iter()
+            .find_map(|mark| line.strip_prefix(mark))
+        {
+            line = rest.trim_start();
+        }
         let path = line.strip_prefix("use ")?.trim_start();
         let end = path.find(|c: char| c == '{' || c.is_whitespace());
         Some(

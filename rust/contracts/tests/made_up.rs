@@ -77,6 +77,31 @@ fn public_functions_are_found_with_their_imports() {
     assert!(found[2].imports.is_empty());
 }
 
+/// Names that are written around their operands, and operators written whole.
+#[test]
+fn names_of_several_words_are_found() {
+    let text = "\
+ghost use mathlib.Core.Path.{_≡_};
+ghost use Rattle.house.specs.Gate.{_is_of_, _⊑_};
+
+pub fn enter(a: u32, b: u32) -> u32
+    ensures { λ r. ⌜ (a is r of b) × (r ≡ r) ⌝ }
+{
+    a
+}
+
+pub fn leave(a: u32, b: u32) -> u32
+    ensures { λ r. ⌜ (_⊑_ a b) × (r ≡ r) ⌝ }
+{
+    b
+}
+";
+    for contract in contracts(text).unwrap() {
+        let gate = "Rattle.house.specs.Gate".to_string();
+        assert!(contract.imports.contains(&gate), "{contract:?}");
+    }
+}
+
 #[test]
 fn imports_of_definitions_are_read() {
     let text = "\
@@ -84,6 +109,7 @@ fn imports_of_definitions_are_read() {
 use Prim.Native.Nat.{ℕ}
 use Rattle.house.specs.Door as door
   use Rattle.garden.specs.Gate.{Gate}
+unfoldable pub use Inner.*
 a : Rattle.garden.proofs.Path.Walks 0
 ";
     assert_eq!(
@@ -92,6 +118,7 @@ a : Rattle.garden.proofs.Path.Walks 0
             "Prim.Native.Nat",
             "Rattle.house.specs.Door",
             "Rattle.garden.specs.Gate",
+            "Inner.*",
             "Rattle.house.specs.Door",
             "Rattle.garden.specs.Gate",
             "Rattle.garden.proofs.Path.Walks"
@@ -148,6 +175,12 @@ fn what_cannot_be_read_is_a_fault() {
     assert!(resolve("Rattle.house.specs.Door", &none).is_err());
     assert!(resolve("Rattle.house.src.Door", &all).is_err());
     assert!(resolve("specs.Door", &all).is_err());
+    assert!(resolve("Inner.*", &all).is_err());
     assert_eq!(resolve("mathlib.Core.List", &none), Ok(Import::Leaf));
     assert!(contracts("pub fn f(x: u32) -> u32\n    ensures { ⌜ (x ⌝\n").is_err());
+    let unknown = "pub fn f(x: u32) -> u32\n    ensures { λ r. ⌜ Known x r ⌝ }\n{\n    x\n}\n";
+    assert_eq!(
+        contracts(unknown),
+        Err("f: Known is in no ghost use".to_string())
+    );
 }

@@ -44,6 +44,8 @@ fn tree() -> (Vec<(String, Contract)>, BTreeMap<Module, String>) {
             found.extend(said.into_iter().map(|c| (krate.clone(), c)));
         }
         for file in files(&folder.join("specs"), "antt") {
+            // A path names a module by its crate and one word, so a folder in specs/ would not be walked.
+            assert_eq!(file.parent(), Some(&*folder.join("specs")), "{file:?}");
             let module = Module {
                 krate: krate.clone(),
                 name: name(&file),

@@ -15,14 +15,14 @@ read-full-requires c κs = search needs
 array-share-prefix-bytes : tie.Need-array-share-prefix-bytes
 array-share-prefix-bytes c = search needs
 
-slice-aggregate-text : tie.Need-slice-aggregate-text
-slice-aggregate-text c = search needs
+slice-aggregate-printed-text : tie.Need-slice-aggregate-printed-text
+slice-aggregate-printed-text c = search needs
 
-slice-aggregate-text-2 : tie.Need-slice-aggregate-text-2
-slice-aggregate-text-2 c = search needs
+slice-aggregate-printed-text-2 : tie.Need-slice-aggregate-printed-text-2
+slice-aggregate-printed-text-2 c = search needs
 
-text-requires : tie.Need-text-requires
-text-requires c κs = search needs
+printed-text-requires : tie.Need-printed-text-requires
+printed-text-requires c κs = search needs
 
 array-share-prefix-out : tie.Need-array-share-prefix-out
 array-share-prefix-out c = search needs
@@ -43,9 +43,9 @@ main-spec =
     slice-aggregate-read-full
     read-full-requires
     array-share-prefix-bytes
-    slice-aggregate-text
-    slice-aggregate-text-2
-    text-requires
+    slice-aggregate-printed-text
+    slice-aggregate-printed-text-2
+    printed-text-requires
     array-share-prefix-out
     slice-aggregate-write-all
     write-all-requires

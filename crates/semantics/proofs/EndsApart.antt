@@ -8,7 +8,7 @@ use Rattle.semantics.specs.Path.{Passing, as-written}
 use Rattle.semantics.specs.Round.{End, State, Tally, broken, finished, going, output-full, over, path-limit, rounds-by, rounds-used, spend, steps-used}
 use Rattle.semantics.specs.Situation.{Situation, TurnBreaks, Turns}
 use Rattle.semantics.proofs.Basics.{clash}
-use Rattle.semantics.proofs.Ends.{ends-just}
+use Rattle.semantics.proofs.Ends.{ends-just, one-end}
 use Rattle.semantics.proofs.InRound.{turns-going}
 use Rattle.semantics.proofs.Situations.{from-breaks}
 
@@ -43,8 +43,8 @@ A-stops = ends-just as-written (A ∷ []) A 3 0 2 steps-used .0 stops-early
 
 -- so for each end there is a step limit with which it is not in its situation
 pub not-everywhere : (e : End) → (limit : ℕ) × ¬ Situation as-written (A ∷ []) A limit 0 2 e
-not-everywhere finished = (3, λ x. clash (let q : steps-used ≡ finished = sym stops-early ∙ ends-just as-written (A ∷ []) A 3 0 2 finished .1 x in cc))
-not-everywhere rounds-used = (4, λ x. clash (let q : finished ≡ rounds-used = sym finishes ∙ ends-just as-written (A ∷ []) A 4 0 2 rounds-used .1 x in cc))
-not-everywhere steps-used = (4, λ x. clash (let q : finished ≡ steps-used = sym finishes ∙ ends-just as-written (A ∷ []) A 4 0 2 steps-used .1 x in cc))
-not-everywhere output-full = (4, λ x. clash (let q : finished ≡ output-full = sym finishes ∙ ends-just as-written (A ∷ []) A 4 0 2 output-full .1 x in cc))
-not-everywhere (path-limit b) = (4, λ x. clash (let q : finished ≡ path-limit b = sym finishes ∙ ends-just as-written (A ∷ []) A 4 0 2 (path-limit b) .1 x in cc))
+not-everywhere finished = (3, λ x. clash (let q : steps-used ≡ finished = one-end as-written (A ∷ []) A 3 0 2 steps-used finished A-stops x in cc))
+not-everywhere rounds-used = (4, λ x. clash (let q : finished ≡ rounds-used = one-end as-written (A ∷ []) A 4 0 2 finished rounds-used A-finishes x in cc))
+not-everywhere steps-used = (4, λ x. clash (let q : finished ≡ steps-used = one-end as-written (A ∷ []) A 4 0 2 finished steps-used A-finishes x in cc))
+not-everywhere output-full = (4, λ x. clash (let q : finished ≡ output-full = one-end as-written (A ∷ []) A 4 0 2 finished output-full A-finishes x in cc))
+not-everywhere (path-limit b) = (4, λ x. clash (let q : finished ≡ path-limit b = one-end as-written (A ∷ []) A 4 0 2 finished (path-limit b) A-finishes x in cc))

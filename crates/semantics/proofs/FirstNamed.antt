@@ -14,46 +14,28 @@ use Rattle.rules.specs.Syntax.{Goal, Program, Relation, call, conj, constrain, 
 use Rattle.semantics.specs.Path.{ChoicePoint, Path, goals-count}
 use Rattle.semantics.specs.Situation.{CallMeets, GoalMeets, call-uses, so-many, uses}
 use Rattle.semantics.specs.Steps.{Bound, at-bound, bound-number, constraints, disjunctions, goals, most, variables, waiting}
+use Rattle.semantics.proofs.WithinBounds.{each-within, for-each}
 
 named : (b c : Bound) → at-bound b ≡ at-bound c → bound-number b ≡ bound-number c
 named b c e = let q : b ≡ c = cc in ap bound-number q
 
 -- what is listed before a bound fits, if so much of it does
+-- where the bounds listed before one fit, so do all that have a smaller number
+before-first : (u : Bound → ℕ) (c : Bound) → bound-number c < 1 → u c ≤ most c
+before-first u = for-each (λ c. bound-number c < 1 → u c ≤ most c) (λ h. absurd (omega arith)) (λ h. absurd (omega arith)) (λ h. absurd (omega arith)) (λ h. absurd (omega arith)) (λ h. absurd (omega arith))
+
 before-goals : (v g d n : ℕ) → v ≤ 2048 → (c : Bound) → bound-number c < 2 → so-many v g d n c ≤ most c
-before-goals v g d n i variables h = i
-before-goals v g d n i goals h = absurd (omega arith)
-before-goals v g d n i disjunctions h = absurd (omega arith)
-before-goals v g d n i constraints h = absurd (omega arith)
-before-goals v g d n i waiting h = absurd (omega arith)
+before-goals v g d n i = for-each (λ c. bound-number c < 2 → so-many v g d n c ≤ most c) (λ h. i) (λ h. absurd (omega arith)) (λ h. absurd (omega arith)) (λ h. absurd (omega arith)) (λ h. absurd (omega arith))
 
 before-disjunctions : (v g d n : ℕ) → v ≤ 2048 → g ≤ 1024 → (c : Bound) → bound-number c < 3 → so-many v g d n c ≤ most c
-before-disjunctions v g d n i j variables h = i
-before-disjunctions v g d n i j goals h = j
-before-disjunctions v g d n i j disjunctions h = absurd (omega arith)
-before-disjunctions v g d n i j constraints h = absurd (omega arith)
-before-disjunctions v g d n i j waiting h = absurd (omega arith)
+before-disjunctions v g d n i j = for-each (λ c. bound-number c < 3 → so-many v g d n c ≤ most c) (λ h. i) (λ h. j) (λ h. absurd (omega arith)) (λ h. absurd (omega arith)) (λ h. absurd (omega arith))
+
+before-constraints : (n : ℕ) (c : Bound) → bound-number c < 4 → so-many 0 0 0 n c ≤ most c
+before-constraints n = for-each (λ c. bound-number c < 4 → so-many 0 0 0 n c ≤ most c) (λ h. omega arith) (λ h. omega arith) (λ h. omega arith) (λ h. absurd (omega arith)) (λ h. absurd (omega arith))
 
 -- only constraints are kept
 before-all : (n : ℕ) → n ≤ 512 → (c : Bound) → so-many 0 0 0 n c ≤ most c
-before-all n i variables = omega arith
-before-all n i goals = omega arith
-before-all n i disjunctions = omega arith
-before-all n i constraints = i
-before-all n i waiting = omega arith
-
-before-constraints : (n : ℕ) (c : Bound) → bound-number c < 4 → so-many 0 0 0 n c ≤ most c
-before-constraints n variables h = omega arith
-before-constraints n goals h = omega arith
-before-constraints n disjunctions h = omega arith
-before-constraints n constraints h = absurd (omega arith)
-before-constraints n waiting h = absurd (omega arith)
-
-before-first : (c : Bound) (u : Bound → ℕ) → bound-number c < 1 → u c ≤ most c
-before-first variables u h = absurd (omega arith)
-before-first goals u h = absurd (omega arith)
-before-first disjunctions u h = absurd (omega arith)
-before-first constraints u h = absurd (omega arith)
-before-first waiting u h = absurd (omega arith)
+before-all n i = each-within (omega arith) (omega arith) (omega arith) i
 
 fits-or : (n m : ℕ) → (n ≤ m) ⊎ (m < n)
 fits-or n m = go (leb n m) refl
@@ -76,7 +58,7 @@ module _ (k : ℕ) (P : Program) (p : Path) (cs : List ChoicePoint) (base left :
     where
       called : (o : Option Relation) → CallMeets p o left (at-bound b) l → call-uses p o c ≤ most c
       called none m = absurd m
-      called (some R) (inl (o, e, q)) = before-first c (call-uses p (some R)) (omega (arith, named b variables e))
+      called (some R) (inl (o, e, q)) = before-first (call-uses p (some R)) c (omega (arith, named b variables e))
       called (some R) (inr (i, (o, e, q))) = before-goals (p .made + R .vars) (suc (p .put)) 0 0 i c (omega (arith, named b goals e))
 
   -- the first that is exceeded is named, with the goal's own step given back

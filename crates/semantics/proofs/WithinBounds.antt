@@ -12,7 +12,7 @@ use borrow.Author.Tests.{leb-true, ltb-true}
 use Rattle.rules.specs.Reading.{choose}
 use Rattle.rules.specs.Syntax.{Constraint, Goal, Goals, Program, Relation, Term, call, conj, constrain, disj, equal, more, one}
 use Rattle.semantics.specs.Answer.{answer}
-use Rattle.semantics.specs.Path.{ChoicePoint, Passing, Path, Taken, Task, cut, equal-taken, goals-count, goes, keeping, leaves, make-call-by, take-goal-by, taken-by, wait-all, waiting-on, within}
+use Rattle.semantics.specs.Path.{ChoicePoint, Passing, Path, Taken, Task, bound-to, called-by, cut, equal-taken, goals-count, goes, keeping, leaves, make-call-by, take-goal-by, taken-by, wait-all, waiting-on, within}
 use Rattle.semantics.specs.Review.{review, review-all}
 use Rattle.semantics.specs.Round.{Next, State, Tally, after, back, give, go-on, going, over, resume, spend, start, turn-by}
 use Rattle.semantics.specs.Situation.{call-uses, has, so-many, takes-goal, uses}
@@ -22,7 +22,7 @@ use Rattle.semantics.specs.Unify.{unify-terms}
 use Rattle.semantics.proofs.Basics.{by-choose}
 
 -- Each of the five bounds
-for-each : (Q : Bound → Type 0) → Q variables → Q goals → Q disjunctions → Q constraints → Q waiting → (b : Bound) → Q b
+pub for-each : (Q : Bound → Type 0) → Q variables → Q goals → Q disjunctions → Q constraints → Q waiting → (b : Bound) → Q b
 for-each Q v g d c w variables = v
 for-each Q v g d c w goals = g
 for-each Q v g d c w disjunctions = d
@@ -34,10 +34,6 @@ each-within {v} {g} {d} {c} i j m n = for-each (λ b. so-many v g d c b ≤ most
 
 one-fewer : (v g d c : ℕ) (b : Bound) → so-many v g d c b ≤ so-many v g (suc d) c b
 one-fewer v g d c = for-each (λ b. so-many v g d c b ≤ so-many v g (suc d) c b) (omega arith) (omega arith) (omega arith) (omega arith) (omega arith)
-
--- what was there, what is used, and what is there then
-abbrev Grown : (Bound → ℕ) → (Bound → ℕ) → (Bound → ℕ) → Bound → Type 0
-Grown before used now b = now b ≡ max (before b) (used b)
 
 stays : (n : ℕ) → n ≡ max n 0
 stays n = sym (max-zero n)
@@ -74,63 +70,54 @@ module _ (pass : Passing) (k : ℕ) (P : Program) (p : Path) (cs : List ChoicePo
   within-took : (g : Goal) (b : Bound) (n left : ℕ) (go : Unit {0} → Outcome Taken) → (n ≤ most b → TookAs g (go tt)) → TookAs g (within b n left go)
   within-took g b n left go h = by-choose (TookAs g) (leb n (most b)) go _ (λ q. h (leb-true n (most b) q)) (λ q. tt)
 
+  -- a goal that comes to so many of each, and the path that goes on from it
+  goes-with : (g : Goal) (p′ : Path) (cs′ : List ChoicePoint) (v n d c : ℕ) → uses k P p cs g ≡ so-many v n d c → ((b : Bound) → so-many v n d c b ≤ most b) →
+      p′ .made ≡ max (p .made) v → p′ .put ≡ max (p .put) n → length cs′ ≡ max (length cs) d → length (p′ .kept) ≡ max (length (p .kept)) c → (p .calls ≤ k → p′ .calls ≤ k) → Chooses p′ cs′ → Took g p′ cs′
+  goes-with g p′ cs′ v n d c e h made put choices kept calls chosen = record {
+    has-used = subst (λ (u : Bound → ℕ). (b : Bound) → has p′ cs′ b ≡ max (has p cs b) (u b)) (sym e) (for-each (λ b. has p′ cs′ b ≡ max (has p cs b) (so-many v n d c b)) made put choices kept refl);
+    uses-allowed = subst (λ (u : Bound → ℕ). (b : Bound) → u b ≤ most b) (sym e) h;
+    calls-allowed = calls;
+    chooses = chosen;
+  }
+
   equal-took : (s t : Term) (r : Option Substitution) (l : ℕ) → TookAs (equal s t) (equal-taken p cs r l)
   equal-took s t none l = tt
   equal-took s t (some bs) l =
       by-choose (TookAs (equal s t)) (eqb (length bs) (length (p .bindings))) _ _ (λ q. same (p .bindings))
       (λ q. then-took (equal s t) (review-all bs (p .kept) (p .kept) l) _ (λ broken m. by-choose (TookAs (equal s t)) broken _ _ (λ e. tt) (λ e. same bs)))
     where
-      same : (bs : Substitution) → Took (equal s t) (record { bindings = bs; made = p .made; stack = p .stack; put = p .put; kept = p .kept; calls = p .calls }) cs
-      same bs = record {
-        has-used = for-each (Grown (has p cs) (so-many 0 0 0 0) (has p cs)) (stays (p .made)) (stays (p .put)) (stays (length cs)) (stays (length (p .kept))) refl;
-        uses-allowed = each-within (omega arith) (omega arith) (omega arith) (omega arith);
-        calls-allowed = λ h. h;
-        chooses = no-new;
-      }
+      same : (bs : Substitution) → Took (equal s t) (bound-to p bs) cs
+      same bs = goes-with (equal s t) (bound-to p bs) cs 0 0 0 0 refl (each-within (omega arith) (omega arith) (omega arith) (omega arith)) (stays (p .made)) (stays (p .put)) (stays (length cs)) (stays (length (p .kept))) (λ h. h) no-new
 
-  constraint-took : (d c : Constraint) (l : ℕ) → suc (length (p .kept)) ≤ 512 → Took (constrain d) (keeping p c) cs
-  constraint-took d c l h = record {
-    has-used = for-each (Grown (has p cs) (so-many 0 0 0 (suc (length (p .kept)))) (has (keeping p c) cs)) (stays (p .made)) (stays (p .put)) (stays (length cs)) (longer ∙ grows (length (p .kept)) (suc (length (p .kept))) (omega arith)) refl;
-    uses-allowed = each-within (omega arith) (omega arith) (omega arith) h;
-    calls-allowed = λ h. h;
-    chooses = no-new;
-  }
+  constraint-took : (d c : Constraint) → suc (length (p .kept)) ≤ 512 → Took (constrain d) (keeping p c) cs
+  constraint-took d c h =
+      goes-with (constrain d) (keeping p c) cs 0 0 0 (suc (length (p .kept))) refl (each-within (omega arith) (omega arith) (omega arith) h) (stays (p .made)) (stays (p .put)) (stays (length cs))
+      (longer ∙ grows (length (p .kept)) (suc (length (p .kept))) (omega arith)) (λ h. h) no-new
     where
       longer : length (p .kept ++ (c ∷ [])) ≡ suc (length (p .kept))
       longer = omega (arith, length-append (p .kept) (c ∷ []))
 
   -- so many goals then were put to wait
   waits : (g : Goal) (stack : List Task) (n : ℕ) → uses k P p cs g ≡ so-many 0 n 0 0 → p .put ≤ n → n ≤ 1024 → Took g (waiting-on p stack n) cs
-  waits g stack n e i h = record {
-    has-used = subst (λ (u : Bound → ℕ). (b : Bound) → has (waiting-on p stack n) cs b ≡ max (has p cs b) (u b)) (sym e) (for-each (Grown (has p cs) (so-many 0 n 0 0) (has (waiting-on p stack n) cs)) (stays (p .made)) (grows (p .put) n i) (stays (length cs)) (stays (length (p .kept))) refl);
-    uses-allowed = subst (λ (u : Bound → ℕ). (b : Bound) → u b ≤ most b) (sym e) (each-within (omega arith) h (omega arith) (omega arith));
-    calls-allowed = λ h. h;
-    chooses = no-new;
-  }
+  waits g stack n e i h = goes-with g (waiting-on p stack n) cs 0 n 0 0 e (each-within (omega arith) h (omega arith) (omega arith)) (stays (p .made)) (grows (p .put) n i) (stays (length cs)) (stays (length (p .kept))) (λ h. h) no-new
 
   call-took : (base r : ℕ) (ts : List Term) (l : ℕ) → p .calls < k → (o : Option Relation) → uses k P p cs (call r ts) ≡ call-uses p o → TookAs (call r ts) (make-call-by pass p cs base ts o l)
   call-took base r ts l c none e = tt
-  call-took base r ts l c (some R) e = within-took (call r ts) variables (p .made + R .vars) l _ (λ i. within-took (call r ts) goals (suc (p .put)) l _ (λ j. record {
-    has-used = subst (λ (u : Bound → ℕ). (b : Bound) → so-many (p .made + R .vars) (suc (p .put)) (length cs) (length (p .kept)) b ≡ max (has p cs b) (u b)) (sym e)
-        (for-each (Grown (has p cs) (so-many (p .made + R .vars) (suc (p .put)) 0 0) (so-many (p .made + R .vars) (suc (p .put)) (length cs) (length (p .kept)))) (grows (p .made) (p .made + R .vars) (omega arith)) (grows (p .put) (suc (p .put)) (omega arith)) (stays (length cs)) (stays (length (p .kept))) refl);
-    uses-allowed = subst (λ (u : Bound → ℕ). (b : Bound) → u b ≤ most b) (sym e) (each-within i j (omega arith) (omega arith));
-    calls-allowed = λ h. omega arith;
-    chooses = no-new;
-  }))
+  call-took base r ts l c (some R) e =
+      within-took (call r ts) variables (p .made + R .vars) l _ (λ i. within-took (call r ts) goals (suc (p .put)) l _ (λ j.
+      goes-with (call r ts) (called-by pass p base ts R) cs (p .made + R .vars) (suc (p .put)) 0 0 e (each-within i j (omega arith) (omega arith)) (grows (p .made) (p .made + R .vars) (omega arith)) (grows (p .put) (suc (p .put)) (omega arith)) (stays (length cs)) (stays (length (p .kept))) (λ h. omega arith) no-new))
 
   taken-took : (base : ℕ) (g : Goal) (l : ℕ) → TookAs g (taken-by pass k P p cs base g l)
   taken-took base (equal s t) l = then-took (equal s t) (unify-terms (p .bindings) (shift base s) (shift base t) l) _ (equal-took s t)
   taken-took base (constrain d) l =
       let c = shift-constraint base d in
-      within-took (constrain d) constraints (suc (length (p .kept))) l _ (λ h. then-took (constrain d) (review (p .bindings) (p .kept ++ (c ∷ [])) c l) _ (λ broken m. by-choose (TookAs (constrain d)) broken _ _ (λ e. tt) (λ e. constraint-took d c l h)))
+      within-took (constrain d) constraints (suc (length (p .kept))) l _ (λ h. then-took (constrain d) (review (p .bindings) (p .kept ++ (c ∷ [])) c l) _ (λ broken m. by-choose (TookAs (constrain d)) broken _ _ (λ e. tt) (λ e. constraint-took d c h)))
   taken-took base (conj gs) l = within-took (conj gs) goals (p .put + goals-count gs) l _ (λ h. waits (conj gs) (wait-all base gs (p .stack)) (p .put + goals-count gs) refl (omega arith) h)
   taken-took base (disj (one g)) l = within-took (disj (one g)) goals (suc (p .put)) l _ (λ h. waits (disj (one g)) ((base, g) ∷ p .stack) (suc (p .put)) refl (omega arith) h)
-  taken-took base (disj (more g rest)) l = within-took (disj (more g rest)) goals (suc (p .put)) l _ (λ i. within-took (disj (more g rest)) disjunctions (suc (length cs)) l _ (λ j. record {
-    has-used = for-each (Grown (has p cs) (so-many 0 (suc (p .put)) (suc (length cs)) 0) (so-many (p .made) (suc (p .put)) (suc (length cs)) (length (p .kept)))) (stays (p .made)) (grows (p .put) (suc (p .put)) (omega arith)) (grows (length cs) (suc (length cs)) (omega arith)) (stays (length (p .kept))) refl;
-    uses-allowed = each-within (omega arith) i j (omega arith);
-    calls-allowed = λ h. h;
-    chooses = one-new base rest (λ b later. refl);
-  }))
+  taken-took base (disj (more g rest)) l =
+      within-took (disj (more g rest)) goals (suc (p .put)) l _ (λ i. within-took (disj (more g rest)) disjunctions (suc (length cs)) l _ (λ j.
+      goes-with (disj (more g rest)) (waiting-on p ((base, g) ∷ p .stack) (suc (p .put))) (record { path = p; base = base; rest = rest } ∷ cs) 0 (suc (p .put)) (suc (length cs)) 0 refl (each-within (omega arith) i j (omega arith))
+      (stays (p .made)) (grows (p .put) (suc (p .put)) (omega arith)) (grows (length cs) (suc (length cs)) (omega arith)) (stays (length (p .kept))) (λ h. h) (one-new base rest (λ b later. refl))))
   taken-took base (call r ts) l = by-test (ltb (p .calls) k) refl
     where
       by-test : (t : Bool) → ltb (p .calls) k ≡ t → TookAs (call r ts) (choose t (λ _. make-call-by pass p cs base ts (getElem? P r) l) (λ _. done cut l))

@@ -1,6 +1,6 @@
 //! Kindcanvas: a proved rule engine. A program states relations, and a run lists what they give.
 //!
-//! The engine is written and proved in Rattle and linked as static libraries; this crate gives it Rust's types. A
+//! The engine is written and proved in Rattle and linked as a static library; this crate gives it Rust's types. A
 //! [`Program`] is words that were checked, so running one cannot fail. Its [`Outcome`] has the answers and a [`Report`],
 //! which says how the run ended:
 //!

@@ -3,10 +3,10 @@ use mathlib.Core.Path.{refl}
 use mathlib.Core.List.{[]}
 use native.Mathlib.Omega.{arith}
 use lib.ListN.{length-set}
-use Rattle.engine.proofs.NumberLaws.{place-fits, called-short, called-run}
+use Rattle.exports.proofs.NumberLaws.{place-fits, called-short, called-run}
 use borrow.Author.Needs.{needs}
-use Rattle.engine.proofs.kindcanvas_run.Statement.{statement}
-use Rattle.engine.proofs.kindcanvas_run.Tie as tie
+use Rattle.exports.proofs.kindcanvas_run.Statement.{statement}
+use Rattle.exports.proofs.kindcanvas_run.Tie as tie
 
 returns : tie.Need-returns
 returns c = called-short _ _ _ _ _ _ (c .if1 .taken)

@@ -2,11 +2,11 @@
 use mathlib.Core.Path.{ap, _∙_}
 use Prim.Native.Nat.{_+_, _*_}
 use native.Mathlib.Omega.{arith}
-use Rattle.rules.specs.Verdict.{packed}
+use Rattle.exports.specs.Numbers.{packed}
 use Rattle.rules.proofs.Checked.{place-small}
 use borrow.Author.Needs.{needs}
-use Rattle.rules.proofs.kindcanvas_check.Statement.{statement}
-use Rattle.rules.proofs.kindcanvas_check.Tie as tie
+use Rattle.exports.proofs.kindcanvas_check.Statement.{statement}
+use Rattle.exports.proofs.kindcanvas_check.Tie as tie
 
 check-requires : tie.Need-check-requires
 check-requires c κs = search needs

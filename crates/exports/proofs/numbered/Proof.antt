@@ -1,10 +1,10 @@
 -- `numbered` tells an end in numbers.
 use mathlib.Core.Path.{refl, sym, ap}
 use mathlib.Core.List.{[], _∷_}
-use Rattle.engine.proofs.NumberLaws.{in-case}
+use Rattle.exports.proofs.NumberLaws.{in-case}
 use borrow.Author.Needs.{needs}
-use Rattle.engine.proofs.numbered.Statement.{statement}
-use Rattle.engine.proofs.numbered.Tie as tie
+use Rattle.exports.proofs.numbered.Statement.{statement}
+use Rattle.exports.proofs.numbered.Tie as tie
 
 enum-told : tie.Need-enum-told
 enum-told c = search needs

@@ -16,10 +16,11 @@ use Rattle.semantics.specs.Run as definition
 use Rattle.semantics.specs.Path.{as-written}
 use Rattle.semantics.specs.Run.{Run, run-as-written, returns-by, refusal, ran, report-read-by, report-program-by, leave, counts}
 use Rattle.semantics.proofs.Basics.{clash}
-use Rattle.engine.specs.Report.{end-numbers, ended, report-ended, numbers, call, Kept, Called}
+use Rattle.engine.specs.Report.{ended, report-ended, Kept}
 use Rattle.engine.specs.declared.End.{End}
 use Rattle.engine.specs.declared.Report.{Report}
-use Rattle.engine.specs.declared.EndNumbers.{EndNumbers}
+use Rattle.exports.specs.Numbers.{end-numbers, numbers, call, Called}
+use Rattle.exports.specs.declared.EndNumbers.{EndNumbers}
 
 -- an end in numbers, case by case
 pub in-case : (e d : End) (n : EndNumbers) (a b p : ℕ) → e ≡ d → end-numbers (ended d) ≡ a ∷ b ∷ p ∷ [] → (n .end ≡ a) × (n .which ≡ b) × (n .place ≡ p)
@@ -65,12 +66,12 @@ module _ (words : List ℕ) (round-limit step-limit : ℕ) (output scratch lent 
       omega (arith, z, place-of (returns-by as-written words round-limit step-limit (length output) (length scratch)) refl)
 
   -- too few words are lent
-  pub called-short : length lent < 7 → Called words round-limit step-limit output scratch lent 1 output scratch lent
+  pub called-short : length lent < 7 → Called words round-limit step-limit output scratch lent 0 output scratch lent
   called-short h = record { is-call = simp (lt-leb 7 (length lent) h); demands = λ e. absurd (omega arith) }
 
   pub called-run : (r : Report) (output′ scratch′ : List ℕ) (n : EndNumbers) → 7 ≤ length lent → Kept words round-limit step-limit output scratch r output′ scratch′
       → end-numbers (ended (r .end)) ≡ n .end ∷ n .which ∷ n .place ∷ []
-      → Called words round-limit step-limit output scratch lent 0 output′ scratch′ (set (set (set (set (set (set (set lent 0 (n .end)) 1 (n .which)) 2 (n .place)) 3 (r .round)) 4 (r .steps)) 5 (r .answers)) 6 (r .words))
+      → Called words round-limit step-limit output scratch lent 7 output′ scratch′ (set (set (set (set (set (set (set lent 0 (n .end)) 1 (n .which)) 2 (n .place)) 3 (r .round)) 4 (r .steps)) 5 (r .answers)) 6 (r .words))
   called-run r output′ scratch′ n h k e =
       record {
         is-call = answered (run-as-written words round-limit step-limit output scratch) output′ scratch′ _ (k .says .is-output) (k .says .is-scratch) (seven lent (n .end) (n .which) (n .place) (r .round) (r .steps) (r .answers) (r .words) h ∙ told);
@@ -93,5 +94,5 @@ module _ (words : List ℕ) (round-limit step-limit : ℕ) (output scratch lent 
           let q : n .end ∷ n .which ∷ n .place ∷ [] ≡ end-numbers (report-ended x) = sym e ∙ ap end-numbers (k .says .is-end) in
           rw (k .says .is-round, k .says .is-steps, k .says .is-answers, k .says .is-words) (ap (λ (ns : List ℕ). (ns ++ (counts x .round ∷ counts x .steps ∷ counts x .answers ∷ counts x .words ∷ [])) ++ drop 7 lent) q)
 
-      answered : (x : Run) (o s l : List ℕ) → o ≡ x .output → s ≡ x .scratch → l ≡ numbers (x .report) ++ drop 7 lent → call x output scratch lent ≡ record { result = 0; output = o; scratch = s; numbers = l }
+      answered : (x : Run) (o s l : List ℕ) → o ≡ x .output → s ≡ x .scratch → l ≡ numbers (x .report) ++ drop 7 lent → call x output scratch lent ≡ record { result = 7; output = o; scratch = s; numbers = l }
       answered x o s l p q u = rw (p, q, u) (simp (le-leb 7 (length lent) h))

@@ -5,12 +5,12 @@ use mathlib.Core.List.{List, [], _∷_}
 use Prim.Native.Nat.{ℕ}
 use lib.Dec.{eqb}
 use borrow.Author.Tests.{eqb-true}
 use Rattle.rules.specs.Accept.{Accept, accepted, refused, read, read-with}
-use Rattle.rules.specs.Table.{Example, examples}
+use Rattle.refusal_table.specs.Table.{Example, examples}
 use Rattle.rules.specs.Reading.{read-word, read-leaf, read-term, read-one, read-two, read-terms, read-goal, read-goals, read-absento, read-call, read-body, read-variables, read-relation, read-relations}
 use Rattle.rules.specs.Calls.{goal-fault, goals-fault, relations-fault}
 use Rattle.rules.specs.Written.{goal-words}
 use Rattle.rules.proofs.Combine.{and-true, false-true}
 
 -- the reading is this refusal
 is-refused : Accept → ℕ → ℕ → Bool

@@ -170,13 +170,13 @@ pub fn check(words: &[u32]) -> Result<(), Refusal> {
 /// afterwards. A refusal leaves both as lent.
 ///
 /// ```
-/// let program = kindcanvas::text::parse("13:5 2:1 2:1 5:2 0:0 1:7")?;
+/// let program = kindcanvas::words::parse("13:5 2:1 2:1 5:2 0:0 1:7")?;
 /// let mut output = [9; 4];
 /// let mut scratch = vec![9; kindcanvas::SCRATCH_WORDS];
 /// let report = kindcanvas::run(&program, 16, 1_000_000, &mut output, &mut scratch).unwrap();
 /// assert_eq!((report.steps, report.answers, report.words), (4, 1, 2));
-/// assert_eq!(kindcanvas::text::show(&output), "15:1 1:7 0:0 0:0");
-/// # Ok::<(), kindcanvas::text::TextError>(())
+/// assert_eq!(kindcanvas::words::show(&output), "15:1 1:7 0:0 0:0");
+/// # Ok::<(), kindcanvas::words::TextError>(())
 /// ```
 ///
 /// # Panics
@@ -250,7 +250,7 @@ mod tests {
 
     #[test]
     fn too_few_numbers() {
-        let program = text::parse("13:5 2:1 2:1 5:2 0:0 1:7").unwrap();
+        let program = words::parse("13:5 2:1 2:1 5:2 0:0 1:7").unwrap();
         let (mut output, mut scratch, mut numbers) = ([7; 10], vec![8; SCRATCH_WORDS], [9; 6]);
         let written = call(
             &program,

@@ -56,5 +56,5 @@ pub use engine::{check, run, Bound, Ending, Report, SCRATCH_WORDS, USABLE_WORDS}
 pub use program::{Limits, NoProgram, Outcome, ParseError, Program};
 pub use readable::Readable;
 pub use refusal::Refusal;
-/// Rule files as text.
-pub use text;
+/// Rule files in `k:p` notation.
+pub use words;

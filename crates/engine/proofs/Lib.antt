@@ -38,7 +38,6 @@ pub mod RoundLaws
 pub mod ClearLaws
 pub mod RoundsLaws
 pub mod RunLaws
-pub mod NumberLaws
 pub mod AddingLaws
 pub mod QueryLaws
 pub mod AnswerLaws

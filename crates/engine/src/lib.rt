@@ -35,10 +35,8 @@ use crate::rounds::rounds;
 use crate::table::fill;
 use rules::Verdict;
 ghost use mathlib.Core.Path.{_≡_};
-ghost use mathlib.Core.List.{[], _∷_};
-ghost use Prim.Native.Nat.{ℕ};
 ghost use Rattle.semantics.specs.Steps.{bound-number};
-ghost use Rattle.engine.specs.Report.{Called, Kept, bound-of, end-numbers, ended};
+ghost use Rattle.engine.specs.Report.{Kept, bound-of};
 ghost use Rattle.engine.specs.Running.{Admitted, Turned};
 
 // Which of the five bounds on one path was met, in the order of document 01.
@@ -136,58 +134,4 @@ fn run_accepted(
     clear(scratch, 0);
     clear(output, used);
     report
-}
-
-// An end in numbers: how, which bound or refusal, and where.
-struct EndNumbers {
-    end: u32,
-    which: u32,
-    place: usize,
-}
-
-fn numbered(end: End) -> EndNumbers
-    ensures { λ r. ⌜ end-numbers (ended end) ≡ r .end ∷ r .which ∷ r .place ∷ [] ⌝ }
-{
-    match end {
-        End::Finished => by_number(0, 0, 0),
-        End::Rounds => by_number(1, 0, 0),
-        End::Steps => by_number(2, 0, 0),
-        End::Output => by_number(3, 0, 0),
-        End::Path(bound) => by_number(4, bound.number(), 0),
-        End::Refused(number, place) => by_number(5, number, place),
-    }
-}
-
-fn by_number(end: u32, which: u32, place: usize) -> EndNumbers
-    ensures { λ r. ⌜ (r .end ≡ end) × (r .which ≡ which) × (r .place ≡ place) ⌝ }
-{
-    EndNumbers { end, which, place }
-}
-
-// For Rust and C: `run`, with its result as seven numbers at the start of `numbers`. 0, or 1 if `numbers` is too short: then nothing is run.
-#[no_mangle]
-pub extern "C" fn kindcanvas_run(
-    program: &[u32],
-    rounds: u32,
-    steps: u32,
-    output: &mut [u32],
-    scratch: &mut [u32],
-    numbers: &mut [u32],
-) -> u32
-    ensures { λ r. ⌜ Called (now (program .entry)) rounds steps (now (output .entry)) (now (scratch .entry)) (now (numbers .entry)) r (now (output .exit)) (now (scratch .exit)) (now (numbers .exit)) ⌝ }
-{
-    if numbers.len() < 7 {
-        return 1;
-    }
-    let report = run(program, rounds, steps, output, scratch);
-    let end = report.end;
-    let told = numbered(end);
-    numbers[0] = told.end;
-    numbers[1] = told.which;
-    numbers[2] = told.place as u32;
-    numbers[3] = report.round;
-    numbers[4] = report.steps;
-    numbers[5] = report.answers;
-    numbers[6] = report.words;
-    0
 }

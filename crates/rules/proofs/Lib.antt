@@ -5,7 +5,6 @@ pub mod Complete
 pub mod CallLaws
 pub mod Accepted
 pub mod Places
-pub mod TableHolds
 pub mod Readers
 pub mod Pass
 pub mod Checked

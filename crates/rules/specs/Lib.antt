@@ -7,5 +7,4 @@ pub mod Settings
 pub mod Accept
 pub mod WellFormed
 pub mod Verdict
-pub mod Table
 pub mod Inner

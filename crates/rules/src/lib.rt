@@ -5,7 +5,7 @@ mod structure;
 
 ghost use mathlib.Core.Path.{_≡_};
 ghost use Rattle.rules.specs.Accept.{read};
-ghost use Rattle.rules.specs.Verdict.{number-of, said, meaning, packed};
+ghost use Rattle.rules.specs.Verdict.{number-of, said, meaning};
 
 // The conditions 1 to 8 by which document 01 turns a program away.
 pub enum Condition {
@@ -62,16 +62,5 @@ pub fn check(program: &[u32]) -> Verdict
     match structure::read_relations(program) {
         Read::Refused(c, place) => Verdict::Refused(c, place),
         Read::Done(_) => calls::check_calls(program),
-    }
-}
-
-// For Rust and C: 0 if the program is accepted, else the number times 2^32 plus the place.
-#[no_mangle]
-pub extern "C" fn kindcanvas_check(program: &[u32]) -> u64
-    ensures { λ r. ⌜ r ≡ packed (said (read (now (program .entry)))) ⌝ }
-{
-    match check(program) {
-        Verdict::Accepted => 0,
-        Verdict::Refused(c, place) => (c.number() as u64) * 4294967296 + (place as u64),
     }
 }

@@ -72,7 +72,7 @@ fn public_contracts_are_found_with_their_definitions() {
     }
     for (function, module) in [
         ("engine::run", "semantics/specs/Round"),
-        ("engine::kindcanvas_run", "rules/specs/Reading"),
+        ("exports::kindcanvas_run", "rules/specs/Reading"),
         ("rules::check", "rules/specs/Calls"),
         ("word::kind", "word/specs/Word"),
     ] {

@@ -17,9 +17,9 @@ use Rattle.semantics.specs.Shows.{Each}
 use Rattle.semantics.specs.Path.{Path, ChoicePoint}
 use Rattle.semantics.specs.Run.{usable}
 use Rattle.semantics.specs.Answer.{vars-in, Line, parameters, query-terms, names-of, answer-words, look-through, all-lines, answer}
+use Rattle.semantics.specs.Invariant.{Sound}
 use Rattle.semantics.proofs.Basics.{compared, same, other}
 use Rattle.semantics.proofs.Names.{appear-all-has}
-use Rattle.semantics.proofs.Sound.{Sound}
 use Rattle.engine.specs.Reference.{at}
 use Rattle.engine.specs.Memory.{BindingsIn, Nameless, Stored}
 use Rattle.engine.specs.Walk.{Binds}

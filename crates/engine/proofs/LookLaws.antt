@@ -13,9 +13,10 @@ use Rattle.semantics.specs.Steps.{waiting, no-steps, at-bound, Outcome, done, s
 use Rattle.semantics.specs.Unify.{scan, never}
 use Rattle.semantics.specs.Shows.{Each}
 use Rattle.semantics.specs.Answer.{look-through}
+use Rattle.semantics.specs.Invariant.{Good}
 use Rattle.semantics.proofs.Basics.{clash}
 use Rattle.semantics.proofs.TermLaws.{term-size}
-use Rattle.semantics.proofs.SubstitutionLaws.{Good, Seen, walk-seen, size-pair}
+use Rattle.semantics.proofs.SubstitutionLaws.{Seen, walk-seen, size-pair}
 use Rattle.semantics.proofs.ScanLaws.{Leaf, ScanStep, hit, down, full, last, further, scan-step}
 use Rattle.engine.specs.Reference.{at, Stands}
 use Rattle.engine.specs.Walk.{Follows}

@@ -18,9 +18,10 @@ use Rattle.semantics.specs.Steps.{done}
 use Rattle.semantics.specs.Unify.{scan, scan-node, never}
 use Rattle.semantics.specs.Shows.{Each}
 use Rattle.semantics.specs.Answer.{member, index, appear, reify, vars-in, Line, lacks, line-in, line-words, any-same, same-words, lacks-each, trial-bindings, resolve-right}
+use Rattle.semantics.specs.Invariant.{Good}
 use Rattle.semantics.proofs.Basics.{one-of}
 use Rattle.semantics.proofs.TermLaws.{term-size}
-use Rattle.semantics.proofs.SubstitutionLaws.{Good, walk-some, walk-open, resolve-lookup, resolve-open}
+use Rattle.semantics.proofs.SubstitutionLaws.{walk-some, walk-open, resolve-lookup, resolve-open}
 use Rattle.engine.specs.Reference.{at, Stands}
 use Rattle.engine.specs.Memory.{Bound, Entry, BindingsIn}
 use Rattle.engine.specs.Walk.{Binds, Follows}

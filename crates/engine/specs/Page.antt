@@ -9,7 +9,7 @@ use Rattle.rules.specs.Syntax.{Atom, Term, var, atom, pair, Sort}
 use Rattle.rules.specs.Written.{part, atom-word, sort-kind}
 use Rattle.rules.specs.Inner.{Stands as Spells}
 use Rattle.semantics.specs.Answer.{Line, line-in, line-words, any-same}
-use Rattle.semantics.proofs.TermLaws.{term-size}
+use Rattle.semantics.specs.Invariant.{term-size}
 use Rattle.engine.specs.Follow.{Resolves}
 use Rattle.engine.specs.Names.{Names}
 use Rattle.engine.specs.Put.{Touched, Laid}

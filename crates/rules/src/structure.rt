@@ -4,7 +4,7 @@ use crate::Read;
 use crate::part::part_at;
 use word::Word;
 ghost use mathlib.Core.Path.{_≡_};
-ghost use Prim.Native.Nat.{ℕ, _+_, _-_, _*_, _≤_, _<_};
+ghost use Prim.Native.Nat.{_+_, _-_, _*_, _≤_, _<_};
 ghost use lib.ListN.{length};
 ghost use Rattle.rules.specs.Reading.{read-word, read-leaf, read-term, read-one, read-two, read-terms, read-absento, read-call, read-goal, read-goals, read-body, read-variables, read-relation, read-relations};
 ghost use Rattle.rules.specs.Inner.{told, outcome, filled-told, Settles};

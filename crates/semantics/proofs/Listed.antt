@@ -11,13 +11,13 @@ use borrow.Author.Tests.{eqb-true, not-false}
 use Rattle.rules.specs.Reading.{choose}
 use Rattle.rules.specs.Syntax.{Atom, Constraint, Goal, Goals, Program, Term, atom, constrain, differ, disj, empty, var}
 use Rattle.semantics.specs.Answer.{Line, any-same, differ-goals, is-sort, lacks, line-goal, line-in, line-words, lines-words, listed, not-all, reify-line, same-words}
+use Rattle.semantics.specs.Invariant.{Sat}
 use Rattle.semantics.specs.Logic.{Any, Assignment, Holds, Meets, Tree, any-first, any-later, any-one, constrain-holds, disj-holds, leaf, node, value}
 use Rattle.semantics.specs.Shows.{Each, any}
 use Rattle.semantics.specs.Substitution.{same-atom}
 use Rattle.semantics.proofs.Basics.{and-true, by-choose, clash, one-of}
 use Rattle.semantics.proofs.Fill.{Met}
 use Rattle.semantics.proofs.ReadBack.{LineFits, goal-determined}
-use Rattle.semantics.proofs.SubstitutionLaws.{Sat}
 use Rattle.semantics.proofs.TermLaws.{same-atom-false, same-atom-true}
 
 pub listed-each : (P : Line → Type 0) (names : List ℕ) (before : List (List ℕ)) (ls : List Line) → Each (λ l. line-in names l ≡ true → P l) ls → Each P (listed names before ls)

@@ -7,7 +7,7 @@ use lib.Dec.{eqb}
 use borrow.Author.Tests.{eqb-true}
 use Rattle.rules.specs.Accept.{Accept, accepted, refused, read, read-with}
 use Rattle.rules.specs.Table.{Example, examples}
-use Rattle.rules.specs.Reading.{read-word, read-leaf, read-term, read-one, read-two, read-terms, read-goal, read-goals, read-absento, read-call, read-body, read-variables, read-relation, read-relations}
+use Rattle.rules.specs.Reading.{read-word, read-leaf, read-term, read-one, read-two, read-terms, read-goal, read-goals, read-tag, read-absento, read-call, read-body, read-variables, read-relation, read-relations}
 use Rattle.rules.specs.Calls.{goal-fault, goals-fault, relations-fault}
 use Rattle.rules.specs.Written.{goal-words}
 use Rattle.rules.proofs.Combine.{and-true, false-true}
@@ -47,7 +47,7 @@ each-law (x ∷ xs) e =
     (refused-law (read-with (x .rounds) (x .scratch) (x .words)) (x .number) (x .place) (b .0), each-law xs (b .1))
 
 computed : all examples ≡ true
-unfolding all holds is-refused examples read read-word read-leaf read-term read-one read-two read-terms read-goal read-goals read-absento read-call read-body read-variables read-relation read-relations goal-fault goals-fault relations-fault goal-words
+unfolding all holds is-refused examples read read-word read-leaf read-term read-one read-two read-terms read-goal read-goals read-tag read-absento read-call read-body read-variables read-relation read-relations goal-fault goals-fault relations-fault goal-words
 computed = refl
 
 pub table-holds : Each Refused examples

@@ -8,7 +8,7 @@ use lib.Dec.{eqb, ltb, leb}
 use lib.ListN.{length, getD, length-append}
 use borrow.Author.Tests.{ltb-true, ltb-false, leb-true, leb-false, eqb-true, eqb-false}
 use Rattle.word.specs.Word.{payload, word}
-use Rattle.rules.specs.Syntax.{Atom, symbol, Term, pair, Goal, Goals, Relation, Program}
+use Rattle.rules.specs.Syntax.{Atom, Term, pair, Goal, Goals, Relation, Program}
 use Rattle.rules.specs.Written.{atom-word, term-words, terms-words, goal-words, goals-words, relation-words, written, part}
 use Rattle.rules.specs.Reading.{found, fill, kind-at, payload-at, after, read-word, read-leaf, read-term, read-one, read-two, read-terms, goal-kind, goal-parts, read-goal, read-goals, read-tag, read-absento, read-call, read-body, read-variables, read-relation, read-relations, two-terms, one-term, of-goals}
 use Rattle.rules.specs.WellFormed.{TagGood, TermGood, TermsGood, GoalGood, GoalsGood, RelationGood, RelationsGood}

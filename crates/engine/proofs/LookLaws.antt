@@ -8,10 +8,10 @@ use lib.Dec.{eqb}
 use lib.ListN.{length}
 use borrow.Author.Tests.{ne-eqb}
 use Rattle.rules.specs.Syntax.{Term, var, atom, pair}
+use Rattle.rules.specs.Lists.{Each}
 use Rattle.semantics.specs.Substitution.{Substitution, resolve, walk}
 use Rattle.semantics.specs.Steps.{waiting, no-steps, at-bound, Outcome, done, stop, and-then}
 use Rattle.semantics.specs.Unify.{scan, never}
-use Rattle.semantics.specs.Shows.{Each}
 use Rattle.semantics.specs.Answer.{look-through}
 use Rattle.semantics.specs.Invariant.{Good}
 use Rattle.semantics.proofs.Basics.{clash}

@@ -9,7 +9,7 @@ use lib.ListN.{length, set, length-set}
 use borrow.Author.Tests.{eq-eqb, ne-eqb}
 use Rattle.rules.specs.Reading.{choose, kind-at}
 use Rattle.rules.specs.Syntax.{Term, var, atom, pair}
-use Rattle.semantics.specs.Shows.{Each}
+use Rattle.rules.specs.Lists.{Each}
 use Rattle.semantics.specs.Substitution.{Substitution, lookup, resolve}
 use Rattle.semantics.specs.Invariant.{Without, Open, Good}
 use Rattle.semantics.proofs.Basics.{compared, same, other}

@@ -4,9 +4,9 @@ use mathlib.Core.Path.{_≡_}
 use mathlib.Core.List.{List}
 use lib.ListN.{length}
 use Rattle.rules.specs.Syntax.{Term, Constraint}
+use Rattle.rules.specs.Lists.{Each}
 use Rattle.semantics.specs.Substitution.{shift, Substitution}
 use Rattle.semantics.specs.Path.{bind-params}
-use Rattle.semantics.specs.Shows.{Each}
 use Rattle.semantics.specs.Invariant.{TermIn, Sound}
 use Rattle.engine.specs.Reference.{TermsAt, refer}
 use Rattle.engine.specs.Memory.{BindingsIn}

@@ -6,6 +6,7 @@ use Prim.Native.Nat.{ℕ}
 use lib.Dec.{eqb}
 use borrow.Author.Tests.{eqb-true}
 use Rattle.rules.specs.Accept.{Accept, accepted, refused, read, read-with}
+use Rattle.rules.specs.Lists.{Each}
 use Rattle.rules.specs.Table.{Example, examples}
 use Rattle.rules.specs.Reading.{read-word, read-leaf, read-term, read-one, read-two, read-terms, read-goal, read-goals, read-tag, read-absento, read-call, read-body, read-variables, read-relation, read-relations}
 use Rattle.rules.specs.Calls.{goal-fault, goals-fault, relations-fault}
@@ -24,13 +25,9 @@ all : List Example → Bool
 all [] = true
 all (x ∷ xs) = holds x && all xs
 
--- what is said of one example, and of each of a list
+-- what is said of an example
 abbrev pub Refused : Example → Type 0
 Refused x = read-with (x .rounds) (x .scratch) (x .words) ≡ refused (x .number) (x .place)
-
-abbrev pub Each : (Example → Type 0) → List Example → Type 0
-Each Q [] = Unit {0}
-Each Q (x ∷ xs) = Q x × Each Q xs
 
 refused-law : (r : Accept) (c p : ℕ) → is-refused r c p ≡ true → r ≡ refused c p
 unfolding is-refused

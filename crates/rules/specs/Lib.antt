@@ -7,5 +7,6 @@ pub mod Settings
 pub mod Accept
 pub mod WellFormed
 pub mod Verdict
+pub mod Lists
 pub mod Table
 pub mod Inner

@@ -6,6 +6,7 @@ use mathlib.Core.Logic.{_↔_, inl, inr}
 use mathlib.Core.Path.{_∙_, _≡_, ap, ap₂, refl, subst, sym}
 use native.Mathlib.Omega.{arith}
 use lib.ListN.{getD, length, length-append, length-map}
+use Rattle.rules.specs.Lists.{Each, Some}
 use Rattle.rules.specs.Reading.{Reading, choose, found}
 use Rattle.rules.specs.Syntax.{Constraint, Goal, Sort, Term, absento, atom, differ, numbers, pair, symbols, typed, var}
 use Rattle.rules.specs.Written.{terms-words}
@@ -14,7 +15,7 @@ use Rattle.semantics.specs.Invariant.{Good, Passes, Reaches, Sat, SortPa
 use Rattle.semantics.specs.Logic.{AllProper, Assignment, Holds, Proper, Tree, firsts, value}
 use Rattle.semantics.specs.Path.{Path}
 use Rattle.semantics.specs.Review.{clashes}
-use Rattle.semantics.specs.Shows.{Each, Shows, Some, any, read-answer}
+use Rattle.semantics.specs.Shows.{Shows, any, read-answer}
 use Rattle.semantics.specs.Steps.{done, goals}
 use Rattle.semantics.specs.Substitution.{Substitution, resolve, walk}
 use Rattle.semantics.proofs.Basics.{each-map}

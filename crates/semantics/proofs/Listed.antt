@@ -8,12 +8,13 @@ use native.Mathlib.Omega.{arith}
 use lib.Dec.{eqb}
 use lib.ListN.{length, length-append}
 use borrow.Author.Tests.{eqb-true, not-false}
+use Rattle.rules.specs.Lists.{Each}
 use Rattle.rules.specs.Reading.{choose}
 use Rattle.rules.specs.Syntax.{Atom, Constraint, Goal, Goals, Program, Term, atom, constrain, differ, disj, empty, var}
 use Rattle.semantics.specs.Answer.{Line, any-same, differ-goals, is-sort, lacks, line-goal, line-in, line-words, lines-words, listed, not-all, reify-line, same-words, stays}
 use Rattle.semantics.specs.Invariant.{Sat}
 use Rattle.semantics.specs.Logic.{Any, Assignment, Holds, Meets, Tree, any-first, any-later, any-one, constrain-holds, disj-holds, leaf, node, value}
-use Rattle.semantics.specs.Shows.{Each, any}
+use Rattle.semantics.specs.Shows.{any}
 use Rattle.semantics.specs.Substitution.{same-atom}
 use Rattle.semantics.proofs.Basics.{and-true, by-choose, clash, one-of}
 use Rattle.semantics.proofs.Fill.{Met}

@@ -8,6 +8,7 @@ use mathlib.Core.Path.{_≡_, refl}
 use lib.Dec.{eqb, leb}
 use lib.ListN.{length}
 use borrow.Author.Tests.{eqb-true, leb-true}
+use Rattle.rules.specs.Lists.{Each}
 use Rattle.rules.specs.Reading.{choose}
 use Rattle.rules.specs.Syntax.{Constraint, Term}
 use Rattle.semantics.specs.Invariant.{ConstraintIn, Passes, Sat, Sound, TermIn}
@@ -15,7 +16,6 @@ use Rattle.semantics.specs.Logic.{AllProper, Assignment, Meets, value}
 use Rattle.semantics.specs.Path.{ChoicePoint, Path, Taken, bound-to, cut, equal-taken, goes, keeping, leaves, take-constraint, take-equal}
 use Rattle.semantics.specs.Review.{review, review-all}
 use Rattle.semantics.specs.Round.{broken}
-use Rattle.semantics.specs.Shows.{Each}
 use Rattle.semantics.specs.Steps.{Outcome, and-then, done, stop}
 use Rattle.semantics.specs.Substitution.{Substitution}
 use Rattle.semantics.specs.Unify.{unify-terms}

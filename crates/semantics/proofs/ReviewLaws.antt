@@ -9,13 +9,13 @@ use native.Mathlib.Omega.{arith}
 use lib.Dec.{eqb}
 use lib.ListN.{length}
 use borrow.Author.Tests.{eq-eqb, eqb-false, eqb-true}
+use Rattle.rules.specs.Lists.{Each, Some}
 use Rattle.rules.specs.Reading.{choose}
 use Rattle.rules.specs.Syntax.{Atom, Constraint, Sort, Term, absento, atom, differ, empty, number, numbers, pair, symbol, symbols, typed, var}
 use Rattle.semantics.specs.Answer.{not-all, resolve-right, trial-bindings}
 use Rattle.semantics.specs.Invariant.{ConstraintIn, Good, In, Passes, Reaches, Sat, TermIn, Unforced, some-node}
 use Rattle.semantics.specs.Logic.{Assignment, Lacks, Meets, OfSort, Tree, leaf, node, value}
 use Rattle.semantics.specs.Review.{clashes, other-sort, reaches, review, review-all, reviewed, sort-fails, sort-of, trial-fails}
-use Rattle.semantics.specs.Shows.{Each, Some}
 use Rattle.semantics.specs.Steps.{done}
 use Rattle.semantics.specs.Substitution.{Substitution, resolve, walk}
 use Rattle.semantics.specs.Unify.{is-atom, is-var, unify-terms}

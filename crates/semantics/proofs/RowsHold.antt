@@ -4,9 +4,9 @@ use mathlib.Core.Path.{_≡_, refl, ap}
 use mathlib.Core.List.{List, [], _∷_, map}
 use mathlib.Core.Bool.{false, true}
 use lib.ListN.{length}
-use Rattle.semantics.specs.Shows.{Each}
 use Rattle.semantics.proofs.Basics.{each-map}
 use borrow.Author.Tests.{le-leb}
+use Rattle.rules.specs.Lists.{Each}
 use Rattle.rules.specs.Reading.{read-word, read-leaf, read-term, read-one, read-two, read-terms, read-tag, read-absento, read-call, read-goal, read-goals, read-body, read-variables, read-relation, read-relations}
 use Rattle.rules.specs.Written.{term-words, terms-words, goal-words, goals-words}
 use Rattle.rules.specs.Calls.{goal-fault, goals-fault, relations-fault}

@@ -5,13 +5,13 @@ use mathlib.Core.List.{List, [], _∷_}
 use mathlib.Core.Option.{none, some}
 use mathlib.Core.Path.{_≡_}
 use lib.ListN.{getElem?, length}
+use Rattle.rules.specs.Lists.{Each, Some}
 use Rattle.rules.specs.Syntax.{Constraint, Goal, Goals, Program, Relation, Sort, Term, absento, atom, call, conj, constrain, differ, disj, equal, more, one, pair, typed, var}
 use Rattle.rules.specs.WellFormed.{AtomGood, TagGood}
 use Rattle.semantics.specs.Logic.{Assignment, value}
 use Rattle.semantics.specs.Path.{ChoicePoint, Path, Task}
 use Rattle.semantics.specs.Review.{other-sort, sort-of}
 use Rattle.semantics.specs.Round.{State}
-use Rattle.semantics.specs.Shows.{Each, Some}
 use Rattle.semantics.specs.Substitution.{Substitution, lookup, resolve}
 use Rattle.semantics.specs.Unify.{is-atom}
 

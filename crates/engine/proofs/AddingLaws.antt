@@ -8,16 +8,15 @@ use native.Mathlib.Omega.{arith}
 use lib.ListN.{length, length-append, length-reverse}
 use Rattle.rules.specs.Syntax.{Atom, Term, var, atom, pair, Sort, Constraint, differ, absento}
 use Rattle.rules.specs.Written.{sort-kind}
+use Rattle.rules.specs.Lists.{Each}
 use Rattle.semantics.specs.Substitution.{Substitution, resolve, walk}
 use Rattle.semantics.specs.Steps.{waiting, no-steps, at-bound, Outcome, done, stop, and-then}
 use Rattle.semantics.specs.Unify.{scan, never, unify-terms}
-use Rattle.semantics.specs.Shows.{Each}
 use Rattle.semantics.specs.Answer.{appear, Line, not-all, resolve-right, look-through, trial-lines, typed-lines, lacks-each, lines-of, all-lines}
+use Rattle.semantics.specs.Invariant.{Good, Passes, Sound}
 use Rattle.semantics.proofs.TermLaws.{term-size}
-use Rattle.semantics.proofs.SubstitutionLaws.{Good, Seen, walk-seen}
+use Rattle.semantics.proofs.SubstitutionLaws.{Seen, walk-seen}
 use Rattle.semantics.proofs.UnifyLaws.{unify-some, no-news}
-use Rattle.semantics.proofs.ReviewLaws.{Passes}
-use Rattle.semantics.proofs.Sound.{Sound}
 use Rattle.engine.specs.Reference.{at, pos-of, KeepsAt}
 use Rattle.engine.specs.Memory.{BindingsIn, KeptIn}
 use Rattle.engine.specs.Walk.{NodeAt, Binds, Follows}

@@ -10,16 +10,16 @@ use lib.ListN.{length, take}
 use Rattle.rules.specs.Syntax.{Term, var, Constraint, Program}
 use Rattle.rules.specs.Written.{part}
 use Rattle.rules.specs.Inner.{Stands as Spells}
+use Rattle.rules.specs.Lists.{Each}
 use Rattle.rules.proofs.Stands.{stands-getD as spells-getD}
 use Rattle.semantics.specs.Substitution.{Substitution, resolve}
 use Rattle.semantics.specs.Steps.{waiting, no-steps, at-bound, Outcome, done, stop, and-then}
-use Rattle.semantics.specs.Shows.{Each}
 use Rattle.semantics.specs.Path.{Path, ChoicePoint}
 use Rattle.semantics.specs.Run.{usable}
 use Rattle.semantics.specs.Answer.{vars-in, Line, parameters, query-terms, names-of, answer-words, look-through, all-lines, answer}
+use Rattle.semantics.specs.Invariant.{Sound}
 use Rattle.semantics.proofs.Basics.{compared, same, other}
 use Rattle.semantics.proofs.Names.{appear-all-has}
-use Rattle.semantics.proofs.Sound.{Sound}
 use Rattle.engine.specs.Reference.{at}
 use Rattle.engine.specs.Memory.{BindingsIn, Nameless, Stored}
 use Rattle.engine.specs.Walk.{Binds}

@@ -10,11 +10,11 @@ use lib.ListN.{length, getElem?}
 use borrow.Author.Tests.{lt-ltb, le-ltb, le-leb, lt-leb}
 use Rattle.rules.specs.Syntax.{Term, call, Relation, Program}
 use Rattle.rules.specs.Reading.{after}
+use Rattle.rules.specs.Lists.{Each}
 use Rattle.semantics.specs.Substitution.{shift, Substitution, argument}
 use Rattle.semantics.specs.Path.{Path, ChoicePoint, bound-to, bind-params, called, take-call}
-use Rattle.semantics.specs.Shows.{Each}
-use Rattle.semantics.proofs.TermLaws.{TermIn, TermsIn, shift-in}
-use Rattle.semantics.proofs.Programs.{RelationIn}
+use Rattle.semantics.specs.Invariant.{TermIn, TermsIn, RelationIn}
+use Rattle.semantics.proofs.TermLaws.{shift-in}
 use Rattle.engine.specs.Reference.{at, pos-of, base-of, TaskAt}
 use Rattle.engine.specs.Memory.{Registers, TableIn, Stored, cell}
 use Rattle.engine.specs.Walk.{NodeAt}

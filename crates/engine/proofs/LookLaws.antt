@@ -8,14 +8,15 @@ use lib.Dec.{eqb}
 use lib.ListN.{length}
 use borrow.Author.Tests.{ne-eqb}
 use Rattle.rules.specs.Syntax.{Term, var, atom, pair}
+use Rattle.rules.specs.Lists.{Each}
 use Rattle.semantics.specs.Substitution.{Substitution, resolve, walk}
 use Rattle.semantics.specs.Steps.{waiting, no-steps, at-bound, Outcome, done, stop, and-then}
 use Rattle.semantics.specs.Unify.{scan, never}
-use Rattle.semantics.specs.Shows.{Each}
 use Rattle.semantics.specs.Answer.{look-through}
+use Rattle.semantics.specs.Invariant.{Good}
 use Rattle.semantics.proofs.Basics.{clash}
 use Rattle.semantics.proofs.TermLaws.{term-size}
-use Rattle.semantics.proofs.SubstitutionLaws.{Good, Seen, walk-seen, size-pair}
+use Rattle.semantics.proofs.SubstitutionLaws.{Seen, walk-seen, size-pair}
 use Rattle.semantics.proofs.ScanLaws.{Leaf, ScanStep, hit, down, full, last, further, scan-step}
 use Rattle.engine.specs.Reference.{at, Stands}
 use Rattle.engine.specs.Walk.{Follows}

@@ -15,7 +15,8 @@ use Rattle.semantics.specs.Steps.{Outcome, done, stop, no-steps, at-bound, wait
 use Rattle.semantics.specs.Unify.{unify-terms}
 use Rattle.semantics.specs.Review.{review, review-all}
 use Rattle.semantics.specs.Path.{Path, ChoicePoint, leaves, goes, bound-to, keeping, take-equal, take-constraint}
-use Rattle.semantics.proofs.TermLaws.{TermIn, ConstraintIn, shift-in, shift-constraint-in}
+use Rattle.semantics.specs.Invariant.{TermIn, ConstraintIn}
+use Rattle.semantics.proofs.TermLaws.{shift-in, shift-constraint-in}
 use Rattle.engine.specs.Reference.{TermAt, pos-of, base-of, Stands, TaskAt, VarsC, KeepsAt}
 use Rattle.engine.specs.Memory.{kept-at, Stored}
 use Rattle.engine.specs.Unify.{Meets, Went, UnifiedAs}

@@ -16,11 +16,11 @@ use Rattle.semantics.specs.Run.{usable, page}
 use Rattle.semantics.specs.Substitution.{argument}
 use Rattle.semantics.specs.Round as round
 use Rattle.semantics.specs.Round.{Tally, Next, going, over, Rounded, completed, broken, end-of, output-full, spend, write, back, give, resume, onward, search, start, one-round}
+use Rattle.semantics.specs.Invariant.{ProgramIn, Fine, ChoicesFine, StateFine}
 use Rattle.semantics.proofs.Basics.{clash}
 use Rattle.semantics.proofs.StepLaws.{Spent}
 use Rattle.semantics.proofs.Counts.{answer-spent}
-use Rattle.semantics.proofs.Programs.{ProgramIn, program-in}
-use Rattle.semantics.proofs.Turn.{Fine, ChoicesFine, StateFine}
+use Rattle.semantics.proofs.Programs.{program-in}
 use Rattle.semantics.proofs.Fair.{RoundedFair, search-fair}
 use Rattle.semantics.proofs.Whole.{start-fine}
 use Rattle.engine.specs.Reference.{pos-of}

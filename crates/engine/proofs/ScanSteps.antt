@@ -12,7 +12,8 @@ use Rattle.rules.specs.Syntax.{Atom, Term, var, atom, pair}
 use Rattle.semantics.specs.Substitution.{Substitution, walk}
 use Rattle.semantics.specs.Steps.{waiting, at-bound, Outcome, stop}
 use Rattle.semantics.specs.Unify.{scan, is-var, is-atom}
-use Rattle.semantics.proofs.SubstitutionLaws.{Good, followed-follow, walk-followed, size, size-walk, size-parts}
+use Rattle.semantics.specs.Invariant.{Good}
+use Rattle.semantics.proofs.SubstitutionLaws.{followed-follow, walk-followed, size, size-walk, size-parts}
 use Rattle.semantics.proofs.ScanLaws.{Leaf}
 use Rattle.engine.specs.Reference.{at, AtomIs, pos-of, base-of, Stands}
 use Rattle.engine.specs.Walk.{NodeAt, Follows}

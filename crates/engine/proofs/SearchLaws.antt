@@ -12,12 +12,12 @@ use Rattle.semantics.specs.Run.{page}
 use Rattle.semantics.specs.Substitution.{argument}
 use Rattle.semantics.specs.Round as round
 use Rattle.semantics.specs.Round.{Tally, Next, going, over, completed, broken, spend, end-of, give, after, onward, turn, search}
-use Rattle.semantics.proofs.Programs.{ProgramIn}
+use Rattle.semantics.specs.Invariant.{ProgramIn, Fine, StateFine}
 use Rattle.semantics.proofs.Basics.{clash}
 use Rattle.semantics.proofs.StepLaws.{Spent}
 use Rattle.semantics.proofs.Counts.{taken-spent}
 use Rattle.semantics.proofs.Fair.{NextFair, turn-fair}
-use Rattle.semantics.proofs.Turn.{Fine, StateFine, NextWell, TakenWell, GoesOn, open-of, goal-well, turn-keeps}
+use Rattle.semantics.proofs.Turn.{NextWell, TakenWell, GoesOn, open-of, goal-well, turn-keeps}
 use Rattle.engine.specs.Reference.{TaskAt}
 use Rattle.engine.specs.Taking.{Holds, Due, stop-of}
 use Rattle.engine.specs.Turning.{tallied, NextAs}

@@ -9,7 +9,7 @@ use Rattle.rules.specs.Syntax.{Term, Program}
 use Rattle.semantics.specs.Substitution.{Substitution}
 use Rattle.semantics.specs.Steps.{Outcome}
 use Rattle.semantics.specs.Path.{Path, ChoicePoint, bound-to}
-use Rattle.semantics.proofs.SubstitutionLaws.{Good}
+use Rattle.semantics.specs.Invariant.{Good}
 use Rattle.engine.specs.Reference.{Stands}
 use Rattle.engine.specs.Memory.{Registers, BindingsIn, PathIn, Grown, ChoicesIn, Stored}
 use Rattle.engine.specs.Walk.{Binds}

@@ -14,8 +14,9 @@ use Rattle.rules.specs.Syntax.{Atom, Term, var, atom, pair}
 use Rattle.semantics.specs.Substitution.{Substitution, walk}
 use Rattle.semantics.specs.Steps.{waiting, no-steps, at-bound, done, stop}
 use Rattle.semantics.specs.Unify.{scan, is-var, bind, Looked, fails, agrees, binds, parts, look, Pairs, unify-pair, unify}
+use Rattle.semantics.specs.Invariant.{Fits}
 use Rattle.semantics.proofs.ScanLaws.{scan-spent}
-use Rattle.semantics.proofs.SubstitutionLaws.{Fits, walk-followed}
+use Rattle.semantics.proofs.SubstitutionLaws.{walk-followed}
 use Rattle.semantics.proofs.UnifyLaws.{Told, look-ok, bind-ok}
 use Rattle.semantics.proofs.UnifyLaws as laws
 use Rattle.engine.specs.Reference.{at, AtomIs, base-of, Stands}

@@ -12,8 +12,9 @@ use Rattle.word.specs.Word.{kind, payload}
 use Rattle.rules.specs.Reading.{choose, kind-at}
 use Rattle.rules.specs.Syntax.{Atom, symbol, number, empty, Term, var, atom, pair}
 use Rattle.semantics.specs.Substitution.{Substitution, lookup, walk-for, walk}
+use Rattle.semantics.specs.Invariant.{Open, Good}
 use Rattle.semantics.proofs.Basics.{clash}
-use Rattle.semantics.proofs.SubstitutionLaws.{Open, Followed, Good, walk-for-open, walk-for-some, followed-follow, walk-for-enough, walk-followed, walk-some}
+use Rattle.semantics.proofs.SubstitutionLaws.{Followed, walk-for-open, walk-for-some, followed-follow, walk-for-enough, walk-followed, walk-some}
 use Rattle.engine.specs.Reference.{at, AtomIs, pos-of, base-of, Stands}
 use Rattle.engine.specs.Memory.{Bound, Entry, BindingsIn}
 use Rattle.engine.specs.Walk.{NodeAt, Follows}

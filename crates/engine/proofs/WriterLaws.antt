@@ -13,14 +13,15 @@ use borrow.Author.Tests.{eqb-true}
 use Rattle.rules.specs.Reading.{choose}
 use Rattle.rules.specs.Syntax.{Atom, Term, var, atom, pair}
 use Rattle.rules.specs.Written.{term-words}
+use Rattle.rules.specs.Lists.{Each}
 use Rattle.semantics.specs.Substitution.{Substitution, lookup, resolve, walk}
 use Rattle.semantics.specs.Steps.{done}
 use Rattle.semantics.specs.Unify.{scan, scan-node, never}
-use Rattle.semantics.specs.Shows.{Each}
 use Rattle.semantics.specs.Answer.{member, index, appear, reify, vars-in, Line, lacks, line-in, line-words, any-same, same-words, lacks-each, trial-bindings, resolve-right}
+use Rattle.semantics.specs.Invariant.{Good}
 use Rattle.semantics.proofs.Basics.{one-of}
 use Rattle.semantics.proofs.TermLaws.{term-size}
-use Rattle.semantics.proofs.SubstitutionLaws.{Good, walk-some, walk-open, resolve-lookup, resolve-open}
+use Rattle.semantics.proofs.SubstitutionLaws.{walk-some, walk-open, resolve-lookup, resolve-open}
 use Rattle.engine.specs.Reference.{at, Stands}
 use Rattle.engine.specs.Memory.{Bound, Entry, BindingsIn}
 use Rattle.engine.specs.Walk.{Binds, Follows}

@@ -7,8 +7,7 @@ use Rattle.rules.specs.Syntax.{Term, Constraint}
 use Rattle.semantics.specs.Substitution.{Substitution}
 use Rattle.semantics.specs.Steps.{waiting, no-steps, at-bound, Outcome, done, stop}
 use Rattle.semantics.specs.Answer.{Line}
-use Rattle.semantics.proofs.LineLaws.{Unforced}
-use Rattle.semantics.proofs.ReviewLaws.{Passes}
+use Rattle.semantics.specs.Invariant.{Unforced, Passes}
 use Rattle.engine.specs.Reference.{KeepsAt}
 use Rattle.engine.specs.Memory.{BindingsIn}
 use Rattle.engine.specs.Walk.{Binds}

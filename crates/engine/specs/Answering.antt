@@ -7,7 +7,7 @@ use Rattle.rules.specs.Syntax.{Program}
 use Rattle.semantics.specs.Steps.{waiting, no-steps, at-bound, Outcome, done, stop}
 use Rattle.semantics.specs.Path.{Path, ChoicePoint}
 use Rattle.semantics.specs.Run.{usable}
-use Rattle.semantics.proofs.Sound.{Sound}
+use Rattle.semantics.specs.Invariant.{Sound}
 use Rattle.engine.specs.Taking.{Holds}
 use Rattle.engine.specs.declared.state.State.{State}
 use Rattle.engine.specs.declared.answer.Answered.{Answered}

@@ -4,11 +4,10 @@ use mathlib.Core.Path.{_≡_}
 use mathlib.Core.List.{List}
 use lib.ListN.{length}
 use Rattle.rules.specs.Syntax.{Term, Constraint}
+use Rattle.rules.specs.Lists.{Each}
 use Rattle.semantics.specs.Substitution.{shift, Substitution}
 use Rattle.semantics.specs.Path.{bind-params}
-use Rattle.semantics.specs.Shows.{Each}
-use Rattle.semantics.proofs.TermLaws.{TermIn}
-use Rattle.semantics.proofs.Sound.{Sound}
+use Rattle.semantics.specs.Invariant.{TermIn, Sound}
 use Rattle.engine.specs.Reference.{TermsAt, refer}
 use Rattle.engine.specs.Memory.{BindingsIn}
 use Rattle.engine.specs.Trail.{Apart}

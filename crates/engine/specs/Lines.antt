@@ -8,7 +8,7 @@ use Rattle.rules.specs.Reading.{choose}
 use Rattle.rules.specs.Syntax.{Atom, Term, Sort}
 use Rattle.rules.specs.Written.{atom-word, sort-kind, goal-words}
 use Rattle.semantics.specs.Answer.{index, reify, Line, is-sort, lacks, not-all, differ-goal}
-use Rattle.semantics.proofs.TermLaws.{term-size}
+use Rattle.semantics.specs.Invariant.{term-size}
 use Rattle.engine.specs.Reference.{at}
 use Rattle.engine.specs.Follow.{Resolves}
 use Rattle.engine.specs.declared.line.Listed.{Listed}

@@ -5,12 +5,12 @@ use mathlib.Core.Bool.{false}
 use mathlib.Core.List.{List, [], map}
 use lib.ListN.{length}
 use Rattle.rules.specs.Syntax.{Term}
+use Rattle.rules.specs.Lists.{Each}
 use Rattle.semantics.specs.Substitution.{Substitution, resolve}
 use Rattle.semantics.specs.Steps.{waiting, no-steps, at-bound, done, stop}
 use Rattle.semantics.specs.Unify.{scan, never}
-use Rattle.semantics.specs.Shows.{Each}
 use Rattle.semantics.specs.Answer.{look-through}
-use Rattle.semantics.proofs.TermLaws.{term-size}
+use Rattle.semantics.specs.Invariant.{term-size}
 use Rattle.engine.specs.Walk.{Binds}
 use Rattle.engine.specs.Keep.{Kept}
 use Rattle.engine.specs.declared.look.Looked.{Looked}

@@ -1,15 +1,15 @@
 -- The lines of an answer under way: which of them stay, and where they stand in the output.
 use Prim.Native.Nat.{ℕ, _+_, _≤_, _<_}
 use mathlib.Core.Path.{_≡_}
-use mathlib.Core.Bool.{true, _&&_, not}
+use mathlib.Core.Bool.{true}
 use mathlib.Core.List.{List, [], _∷_, _++_}
 use lib.ListN.{length}
 use Rattle.rules.specs.Reading.{choose}
 use Rattle.rules.specs.Syntax.{Atom, Term, var, atom, pair, Sort}
 use Rattle.rules.specs.Written.{part, atom-word, sort-kind}
 use Rattle.rules.specs.Inner.{Stands as Spells}
-use Rattle.semantics.specs.Answer.{Line, line-in, line-words, any-same}
-use Rattle.semantics.proofs.TermLaws.{term-size}
+use Rattle.semantics.specs.Answer.{Line, line-words, stays}
+use Rattle.semantics.specs.Invariant.{term-size}
 use Rattle.engine.specs.Follow.{Resolves}
 use Rattle.engine.specs.Names.{Names}
 use Rattle.engine.specs.Put.{Touched, Laid}
@@ -21,7 +21,7 @@ joined (w ∷ ws) = w ++ joined ws
 
 -- the words of the lines that stay, after one line more
 unfoldable pub add-line : List ℕ → List (List ℕ) → Line → List (List ℕ)
-add-line names done l = choose (line-in names l && not (any-same (line-words names l) done)) (λ _. done ++ (line-words names l ∷ [])) (λ _. done)
+add-line names done l = choose (stays names done l) (λ _. done ++ (line-words names l ∷ [])) (λ _. done)
 
 -- and after several
 unfoldable pub add-lines : List ℕ → List (List ℕ) → List Line → List (List ℕ)

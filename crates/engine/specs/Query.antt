@@ -7,7 +7,7 @@ use Rattle.rules.specs.Syntax.{var}
 use Rattle.rules.specs.Written.{part, terms-words}
 use Rattle.semantics.specs.Substitution.{Substitution, resolve}
 use Rattle.semantics.specs.Answer.{vars-in, reify, query-terms}
-use Rattle.semantics.proofs.TermLaws.{term-size}
+use Rattle.semantics.specs.Invariant.{term-size}
 use Rattle.engine.specs.Walk.{Binds}
 use Rattle.engine.specs.Names.{Names}
 use Rattle.engine.specs.Put.{Laid}

@@ -8,8 +8,7 @@ use Rattle.semantics.specs.Path.{Path, ChoicePoint}
 use Rattle.semantics.specs.Answer.{answer}
 use Rattle.semantics.specs.Round as round
 use Rattle.semantics.specs.Round.{Tally, completed, broken, end-of, give, onward, search}
-use Rattle.semantics.proofs.Programs.{ProgramIn}
-use Rattle.semantics.proofs.Turn.{Fine, ChoicesFine, StateFine}
+use Rattle.semantics.specs.Invariant.{ProgramIn, Fine, ChoicesFine, StateFine}
 use Rattle.engine.specs.Reference.{TaskAt}
 use Rattle.engine.specs.Taking.{Holds, stop-of}
 use Rattle.engine.specs.declared.state.State.{State}

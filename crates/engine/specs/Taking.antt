@@ -9,9 +9,7 @@ use Rattle.semantics.specs.Steps as steps
 use Rattle.semantics.specs.Steps.{Outcome, done, stop}
 use Rattle.semantics.specs.Path.{Task, Path, ChoicePoint, Taken, leaves, cut, goes}
 use Rattle.semantics.specs.Round.{Tally, Next, going, over, completed}
-use Rattle.semantics.proofs.Sound.{Sound}
-use Rattle.semantics.proofs.Programs.{ProgramIn}
-use Rattle.semantics.proofs.Cover.{TaskIn}
+use Rattle.semantics.specs.Invariant.{Sound, ProgramIn, TaskIn}
 use Rattle.engine.specs.Reference.{GoalAt, TaskAt}
 use Rattle.engine.specs.Memory.{Registers, saved, Stored}
 use Rattle.engine.specs.Report.{bound-of}

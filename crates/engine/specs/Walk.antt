@@ -6,7 +6,7 @@ use lib.ListN.{length}
 use Rattle.rules.specs.Reading.{kind-at, payload-at}
 use Rattle.rules.specs.Syntax.{Term}
 use Rattle.semantics.specs.Substitution.{Substitution}
-use Rattle.semantics.proofs.SubstitutionLaws.{Good}
+use Rattle.semantics.specs.Invariant.{Good}
 use Rattle.engine.specs.Reference.{at, pos-of, Stands}
 use Rattle.engine.specs.Memory.{BindingsIn}
 use Rattle.engine.specs.declared.walk.Walked.{Walked}

@@ -22,7 +22,7 @@ ghost use Rattle.rules.specs.Syntax.{Atom, Term, Sort, Constraint, differ, type
 ghost use Rattle.rules.specs.Written.{sort-kind};
 ghost use Rattle.semantics.specs.Substitution.{Substitution};
 ghost use Rattle.semantics.specs.Answer.{lines-of, all-lines};
-ghost use Rattle.semantics.proofs.Sound.{Sound};
+ghost use Rattle.semantics.specs.Invariant.{Sound};
 ghost use Rattle.engine.specs.Reference.{KeepsAt};
 ghost use Rattle.engine.specs.Walk.{Binds, Follows};
 ghost use Rattle.engine.specs.Review.{Kept};

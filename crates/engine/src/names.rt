@@ -12,7 +12,7 @@ ghost use Prim.Native.Nat.{ℕ, _≤_, _<_, _+_};
 ghost use lib.ListN.{length};
 ghost use Rattle.rules.specs.Syntax.{Term, var};
 ghost use Rattle.semantics.specs.Answer.{appear, vars-in};
-ghost use Rattle.semantics.proofs.TermLaws.{term-size};
+ghost use Rattle.semantics.specs.Invariant.{term-size};
 ghost use Rattle.engine.specs.Follow.{Resolves};
 ghost use Rattle.engine.specs.Names.{Names, Named};
 

@@ -12,7 +12,7 @@ ghost use lib.ListN.{length};
 ghost use Rattle.rules.specs.Syntax.{Term, var};
 ghost use Rattle.rules.specs.Written.{part, term-words};
 ghost use Rattle.semantics.specs.Answer.{member, index, reify, vars-in};
-ghost use Rattle.semantics.proofs.TermLaws.{term-size};
+ghost use Rattle.semantics.specs.Invariant.{term-size};
 ghost use Rattle.engine.specs.Follow.{Resolves};
 ghost use Rattle.engine.specs.Names.{Names};
 ghost use Rattle.engine.specs.Put.{WordPut, Laid, Placed};

@@ -15,7 +15,7 @@ ghost use Rattle.rules.specs.Syntax.{var};
 ghost use Rattle.rules.specs.Written.{term-words};
 ghost use Rattle.semantics.specs.Substitution.{Substitution, resolve};
 ghost use Rattle.semantics.specs.Answer.{appear, reify, vars-in, names-of, parameters};
-ghost use Rattle.semantics.proofs.TermLaws.{term-size};
+ghost use Rattle.semantics.specs.Invariant.{term-size};
 ghost use Rattle.engine.specs.Walk.{Binds};
 ghost use Rattle.engine.specs.Names.{Names, Named};
 ghost use Rattle.engine.specs.Put.{Placed};

@@ -7,7 +7,7 @@ ghost use mathlib.Core.Path.{_≡_};
 ghost use Prim.Native.Nat.{ℕ, _<_};
 ghost use Rattle.rules.specs.Syntax.{Program};
 ghost use Rattle.semantics.specs.Round as definition;
-ghost use Rattle.semantics.proofs.Programs.{ProgramIn};
+ghost use Rattle.semantics.specs.Invariant.{ProgramIn};
 ghost use Rattle.engine.specs.Searching.{count-cuts, Searching, SearchedAs};
 
 // One more if a branch was cut.

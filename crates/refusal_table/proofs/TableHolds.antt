@@ -6,8 +6,9 @@ use Prim.Native.Nat.{ℕ}
 use lib.Dec.{eqb}
 use borrow.Author.Tests.{eqb-true}
 use Rattle.rules.specs.Accept.{Accept, accepted, refused, read, read-with}
+use Rattle.rules.specs.Lists.{Each}
 use Rattle.refusal_table.specs.Table.{Example, examples}
-use Rattle.rules.specs.Reading.{read-word, read-leaf, read-term, read-one, read-two, read-terms, read-goal, read-goals, read-absento, read-call, read-body, read-variables, read-relation, read-relations}
+use Rattle.rules.specs.Reading.{read-word, read-leaf, read-term, read-one, read-two, read-terms, read-goal, read-goals, read-tag, read-absento, read-call, read-body, read-variables, read-relation, read-relations}
 use Rattle.rules.specs.Calls.{goal-fault, goals-fault, relations-fault}
 use Rattle.rules.specs.Written.{goal-words}
 use Rattle.rules.proofs.Combine.{and-true, false-true}
@@ -24,13 +25,9 @@ all : List Example → Bool
 all [] = true
 all (x ∷ xs) = holds x && all xs
 
--- what is said of one example, and of each of a list
+-- what is said of an example
 abbrev pub Refused : Example → Type 0
 Refused x = read-with (x .rounds) (x .scratch) (x .words) ≡ refused (x .number) (x .place)
-
-abbrev pub Each : (Example → Type 0) → List Example → Type 0
-Each Q [] = Unit {0}
-Each Q (x ∷ xs) = Q x × Each Q xs
 
 refused-law : (r : Accept) (c p : ℕ) → is-refused r c p ≡ true → r ≡ refused c p
 unfolding is-refused
@@ -47,7 +44,7 @@ each-law (x ∷ xs) e =
     (refused-law (read-with (x .rounds) (x .scratch) (x .words)) (x .number) (x .place) (b .0), each-law xs (b .1))
 
 computed : all examples ≡ true
-unfolding all holds is-refused examples read read-word read-leaf read-term read-one read-two read-terms read-goal read-goals read-absento read-call read-body read-variables read-relation read-relations goal-fault goals-fault relations-fault goal-words
+unfolding all holds is-refused examples read read-word read-leaf read-term read-one read-two read-terms read-goal read-goals read-tag read-absento read-call read-body read-variables read-relation read-relations goal-fault goals-fault relations-fault goal-words
 computed = refl
 
 pub table-holds : Each Refused examples

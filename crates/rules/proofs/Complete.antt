@@ -7,10 +7,10 @@ use lib.Dec.{eqb}
 use lib.ListN.{length, getD, length-append}
 use borrow.Author.Tests.{lt-ltb, le-ltb, le-leb, lt-leb, eq-eqb, ne-eqb}
 use Rattle.word.specs.Word.{word}
-use Rattle.rules.specs.Syntax.{symbol, number, empty, Term, var, atom, pair, symbols, numbers, Constraint, differ, typed, absento, Goal, Goals, equal, constrain, conj, disj, call, one, more, Relation, Program}
-use Rattle.rules.specs.Written.{term-words, terms-words, constraint-words, goal-words, goals-words, relation-words, written, part}
-use Rattle.rules.specs.Reading.{found, kind-at, payload-at, read-word, read-leaf, read-term, read-one, read-two, read-terms, goal-parts, read-goal, read-goals, read-absento, read-call, read-body, read-variables, read-relation, read-relations, two-terms, one-term, of-goals}
-use Rattle.rules.specs.WellFormed.{TermGood, TermsGood, ConstraintGood, GoalGood, GoalsGood, RelationGood, RelationsGood}
+use Rattle.rules.specs.Syntax.{Atom, symbol, number, empty, Term, var, atom, pair, symbols, numbers, Constraint, differ, typed, absento, Goal, Goals, equal, constrain, conj, disj, call, one, more, Relation, Program}
+use Rattle.rules.specs.Written.{atom-word, term-words, terms-words, constraint-words, goal-words, goals-words, relation-words, written, part}
+use Rattle.rules.specs.Reading.{found, kind-at, payload-at, read-word, read-leaf, read-term, read-one, read-two, read-terms, goal-parts, read-goal, read-goals, read-tag, read-absento, read-call, read-body, read-variables, read-relation, read-relations, two-terms, one-term, of-goals}
+use Rattle.rules.specs.WellFormed.{TagGood, TermGood, TermsGood, ConstraintGood, GoalGood, GoalsGood, RelationGood, RelationsGood}
 use Rattle.rules.specs.Inner.{Stands}
 use Rattle.rules.proofs.Stands.{stands-split, term-some, goal-some, goals-some, kind-of, payload-of}
 
@@ -106,6 +106,12 @@ unfolding read-word
 word-complete k ws at end p e l r =
     simp (lt-ltb at end r, eq-eqb (kind-at ws at) k (kind-of ws at k p e l), payload-of ws at k p e l)
 
+tag-complete : (ws : List ℕ) (at end : ℕ) (a : Atom) → getD ws at 0 ≡ atom-word a → TagGood a → at < end → read-tag ws at end ≡ found a (at + 1)
+unfolding read-tag
+tag-complete ws at end (symbol p) e g r = simp (word-complete 1 ws at end p e g r)
+tag-complete ws at end (number p) e g r = absurd g
+tag-complete ws at end empty e g r = absurd g
+
 goal-word : (words : ℕ) (ws : List ℕ) (vars at end k n : ℕ) → getD ws at 0 ≡ word k n → 5 ≤ k → k ≤ 12 → at + 1 + n ≤ end → end ≤ 268435456
     → read-goal (suc words) ws vars at end ≡ goal-parts words ws vars k (at + 1) (at + 1 + n) (λ a e. read-goals words ws vars a e)
 unfolding read-goal
@@ -162,18 +168,16 @@ unfolding Stands read-absento
 constraint-complete words ws vars at end (differ s t) g h r = two-goal words ws vars at end 6 s t g h r (omega arith) (omega arith)
 constraint-complete words ws vars at end (typed symbols t) g h r = one-goal words ws vars at end 7 t g h r (omega arith) (omega arith)
 constraint-complete words ws vars at end (typed numbers t) g h r = one-goal words ws vars at end 8 t g h r (omega arith) (omega arith)
-constraint-complete words ws vars at end (absento (symbol p) t) g h r =
+constraint-complete words ws vars at end (absento a t) g h r =
     let n : ℕ = length (term-words t) in
     let stop : ℕ = at + 1 + suc n in
     let i = inner words vars at end (suc n) r in
-    let w : read-word 1 ws (at + 1) (at + 1 + suc n) ≡ found p (at + 1 + 1) = word-complete 1 ws (at + 1) (at + 1 + suc n) p (h .1 .0) (g .0) (omega arith) in
+    let w : read-tag ws (at + 1) (at + 1 + suc n) ≡ found a (at + 1 + 1) = tag-complete ws (at + 1) (at + 1 + suc n) a (h .1 .0) (g .0) (omega arith) in
     let o : read-one words ws vars (at + 1 + 1) (at + 1 + suc n) ≡ found t (at + 1 + suc n) =
     one-complete words ws vars (at + 1 + 1) (at + 1 + suc n) t (g .1) (h .1 .1)
     (record { deep = omega (arith, i .deep); few = i .few; short = i .short; fits = omega arith }) (omega arith) in
     goal-word words ws vars at end 9 (suc n) (h .0) (omega arith) (omega arith) (omega (arith, r .fits)) (r .short)
-    ∙ simp (w, o) (ap (found (constrain (absento (symbol p) t))) (ends-at at (suc n)))
-constraint-complete words ws vars at end (absento (number p) t) g h r = absurd (g .0)
-constraint-complete words ws vars at end (absento empty t) g h r = absurd (g .0)
+    ∙ simp (w, o) (ap (found (constrain (absento a t))) (ends-at at (suc n)))
 
 -- what is read of goals with less depth
 ReadsGoal : ℕ → List ℕ → ℕ → Type 0

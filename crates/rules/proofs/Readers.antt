@@ -7,11 +7,11 @@ use lib.Dec.{eqb, ltb}
 use lib.ListN.{length}
 use borrow.Author.Tests.{lt-ltb, le-ltb, le-leb, lt-leb, eq-eqb, ne-eqb, ltb-true}
 use Rattle.rules.specs.Syntax.{symbol, Term, var, atom, pair, empty, absento, constrain, call, more}
-use Rattle.rules.specs.Reading.{Reading, found, next, require, fill, kind-at, payload-at, read-word, read-leaf, read-term, read-one, read-two, read-terms, read-absento, read-call, goal-parts, read-goal, read-goals, read-body, read-variables, read-relation, read-relations, two-terms, one-term, of-goals}
+use Rattle.rules.specs.Reading.{Reading, found, next, require, fill, kind-at, payload-at, read-word, read-leaf, read-term, read-one, read-two, read-terms, read-tag, read-absento, read-call, goal-parts, read-goal, read-goals, read-body, read-variables, read-relation, read-relations, two-terms, one-term, of-goals}
 use Rattle.rules.specs.Inner.{Outcome, ends, stops, told, filled-told, Settles, PartAt}
 use Rattle.rules.proofs.Combine.{ended, next-stops, told-map, require-found, fill-settles}
 use Rattle.rules.proofs.Stands.{term-some, goal-some}
-use Rattle.rules.proofs.Sound.{term-sound, goal-sound, relation-sound}
+use Rattle.rules.proofs.Sound.{term-sound, tag-sound, goal-sound, relation-sound}
 
 -- any depth over a need is one more than some depth
 pub settle : {A : Type 0} (r : ℕ → Reading A) (need : ℕ) (o : Outcome) → ((g : ℕ) → need < suc g → o ≡ told (r (suc g))) → Settles r need o
@@ -166,16 +166,19 @@ terms-next ws vars at end n l h o r = settle (λ f. read-terms f ws vars at end)
     simp (lt-ltb at end l) (next-ends (read-term g ws vars at end) _ n o (h g (omega arith)) (λ t _. next-map (read-terms g ws vars n end) (λ ts. t ∷ ts) o (r g (omega (arith, a .past, a .within))))))
 
 -- absento and call
-pub absento-stops : (ws : List ℕ) (vars at end c q : ℕ) → stops c q ≡ told (read-word 1 ws at end) → Settles (λ f. read-absento f ws vars at end) (end - at) (stops c q)
-unfolding read-absento
-absento-stops ws vars at end c q h f d = next-stops (read-word 1 ws at end) _ c q h
+pub tag-told : (ws : List ℕ) (at end : ℕ) (o : Outcome) → o ≡ told (read-word 1 ws at end) → o ≡ told (read-tag ws at end)
+unfolding read-tag
+tag-told ws at end o h = next-map (read-word 1 ws at end) symbol o h
 
-pub absento-rest : (ws : List ℕ) (vars at end n : ℕ) (o : Outcome) → ends n ≡ told (read-word 1 ws at end) → Settles (λ f. read-one f ws vars n end) (end - n) o
+pub absento-stops : (ws : List ℕ) (vars at end c q : ℕ) → stops c q ≡ told (read-tag ws at end) → Settles (λ f. read-absento f ws vars at end) (end - at) (stops c q)
+unfolding read-absento
+absento-stops ws vars at end c q h f d = next-stops (read-tag ws at end) _ c q h
+
+pub absento-rest : (ws : List ℕ) (vars at end n : ℕ) (o : Outcome) → ends n ≡ told (read-tag ws at end) → Settles (λ f. read-one f ws vars n end) (end - n) o
     → Settles (λ f. read-absento f ws vars at end) (end - at) o
 unfolding read-absento
 absento-rest ws vars at end n o h r f d =
-    let w = word-read 1 ws at end n h in
-    next-ends (read-word 1 ws at end) _ n o h (λ p _. next-map (read-one f ws vars n end) (λ t. constrain (absento (symbol p) t)) o (r f (omega (arith, w .to))))
+    next-ends (read-tag ws at end) _ n o h (λ a e. next-map (read-one f ws vars n end) (λ t. constrain (absento a t)) o (r f (omega (arith, tag-sound ws at end a n e .to))))
 
 pub call-stops : (ws : List ℕ) (vars at end c q : ℕ) → stops c q ≡ told (read-word 2 ws at end) → Settles (λ f. read-call f ws vars at end) (end - at) (stops c q)
 unfolding read-call

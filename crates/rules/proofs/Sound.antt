@@ -8,10 +8,10 @@ use lib.Dec.{eqb, ltb, leb}
 use lib.ListN.{length, getD, length-append}
 use borrow.Author.Tests.{ltb-true, ltb-false, leb-true, leb-false, eqb-true, eqb-false}
 use Rattle.word.specs.Word.{payload, word}
-use Rattle.rules.specs.Syntax.{Term, pair, Goal, Goals, Relation, Program}
-use Rattle.rules.specs.Written.{term-words, terms-words, goal-words, goals-words, relation-words, written, part}
-use Rattle.rules.specs.Reading.{found, fill, kind-at, payload-at, after, read-word, read-leaf, read-term, read-one, read-two, read-terms, goal-kind, goal-parts, read-goal, read-goals, read-absento, read-call, read-body, read-variables, read-relation, read-relations, two-terms, one-term, of-goals}
-use Rattle.rules.specs.WellFormed.{TermGood, TermsGood, GoalGood, GoalsGood, RelationGood, RelationsGood}
+use Rattle.rules.specs.Syntax.{Atom, Term, pair, Goal, Goals, Relation, Program}
+use Rattle.rules.specs.Written.{atom-word, term-words, terms-words, goal-words, goals-words, relation-words, written, part}
+use Rattle.rules.specs.Reading.{found, fill, kind-at, payload-at, after, read-word, read-leaf, read-term, read-one, read-two, read-terms, goal-kind, goal-parts, read-goal, read-goals, read-tag, read-absento, read-call, read-body, read-variables, read-relation, read-relations, two-terms, one-term, of-goals}
+use Rattle.rules.specs.WellFormed.{TagGood, TermGood, TermsGood, GoalGood, GoalsGood, RelationGood, RelationsGood}
 use Rattle.rules.proofs.Combine.{found-not-refused, found-carries, require-found, choose-found, next-found, fill-found, and-true}
 use Rattle.rules.specs.Inner.{Stands}
 use Rattle.rules.proofs.Stands.{stands-at, stands-append, is-word}
@@ -162,6 +162,12 @@ word-sound k ws at end p n e =
     found-carries (λ p n. Found ws at end (word k p ∷ []) (p < 268435456) n × (n ≡ at + 1)) (q₂ .1)
     (one-word ws at end (word k (payload-at ws at)) _ (is-word _ k (eqb-true _ _ (q₂ .0))) (ltb-true _ _ (q₁ .0)) (payload-small _), refl)
 
+pub tag-sound : (ws : List ℕ) (at end : ℕ) (a : Atom) (n : ℕ) → read-tag ws at end ≡ found a n → Found ws at end (atom-word a ∷ []) (TagGood a) n
+unfolding read-tag
+tag-sound ws at end a n e =
+    let p = next-found (read-word 1 ws at end) _ a n e in
+    found-carries (λ a n. Found ws at end (atom-word a ∷ []) (TagGood a) n) (p .rest) (word-sound 1 ws at end (p .value) (p .to) (p .first) .0)
+
 abbrev pub FoundGoal : List ℕ → ℕ → ℕ → ℕ → Goal → ℕ → Type 0
 FoundGoal ws vars at end g n = Found ws at end (goal-words g) (GoalGood vars g) n
 
@@ -205,12 +211,12 @@ parts-sound words ws vars at end ih v l u g n e =
     (either-goal ws vars at end 7 8 k _ _ (p .to) (one-term true (p .value)) (one-term false (p .value)) (λ t. one-term t (p .value)) refl refl refl refl refl refl refl refl (leb-false k 6 z₆) (leb-true k 8 z) v (f .0) (f .1)))
     (λ z₈ e₂. choose-found (eqb k 9) _ _ _ e₂
     (λ z e₃.
-    let p = next-found (read-word 1 ws from to) _ g n e₃ in
+    let p = next-found (read-tag ws from to) _ g n e₃ in
     let q = next-found (read-one words ws vars (p .to) to) _ g n (p .rest) in
-    let f = word-sound 1 ws from to (p .value) (p .to) (p .first) in
+    let f = tag-sound ws from to (p .value) (p .to) (p .first) in
     let h = one-sound words ws vars (p .to) to (q .value) (q .to) (q .first) in
     found-carries (λ g n. FoundGoal ws vars at end g n) (q .rest)
-    (parted ws 9 at end _ _ (q .to) (eqb-true k 9 z) v (joined ws from to _ _ _ _ (p .to) (q .to) (f .0) (h .0)) (h .1)))
+    (parted ws 9 at end _ _ (q .to) (eqb-true k 9 z) v (joined ws from to _ _ _ _ (p .to) (q .to) f (h .0)) (h .1)))
     (λ z₉ e₃. choose-found (leb k 11) _ _ _ e₃
     (λ z e₄.
     let p = next-found (read-goals words ws vars from to) _ g n e₄ in

@@ -8,7 +8,7 @@ ghost use mathlib.Core.Path.{_≡_};
 ghost use mathlib.Core.List.{List, _∷_};
 ghost use Prim.Native.Nat.{ℕ, _+_};
 ghost use lib.ListN.{length, getElem?};
-ghost use Rattle.rules.specs.Syntax.{Term, Goal, call, Program};
+ghost use Rattle.rules.specs.Syntax.{Term, call, Program};
 ghost use Rattle.rules.specs.Written.{term-words};
 ghost use Rattle.rules.specs.Calls.{relations-fault};
 ghost use Rattle.rules.specs.Accept.{judge};

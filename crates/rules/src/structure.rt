@@ -4,9 +4,9 @@ use crate::Read;
 use crate::part::part_at;
 use word::Word;
 ghost use mathlib.Core.Path.{_≡_};
-ghost use Prim.Native.Nat.{ℕ, _+_, _-_, _*_, _≤_, _<_};
+ghost use Prim.Native.Nat.{_+_, _-_, _*_, _≤_, _<_};
 ghost use lib.ListN.{length};
-ghost use Rattle.rules.specs.Reading.{read-word, read-leaf, read-term, read-one, read-two, read-terms, read-absento, read-call, read-goal, read-goals, read-body, read-variables, read-relation, read-relations};
+ghost use Rattle.rules.specs.Reading.{read-word, read-leaf, read-term, read-one, read-two, read-terms, read-tag, read-absento, read-call, read-goal, read-goals, read-body, read-variables, read-relation, read-relations};
 ghost use Rattle.rules.specs.Inner.{told, outcome, filled-told, Settles};
 
 // A word of one kind at `at`, before `end`.
@@ -132,12 +132,20 @@ fn read_terms(program: &[u32], vars: usize, start: usize, end: usize) -> Read
     Read::Done(at)
 }
 
+// The tag of an absento.
+fn read_tag(program: &[u32], at: usize, end: usize) -> Read
+    requires { ⌜ end ≤ length (now program) ⌝ }
+    ensures { λ r. ⌜ outcome r ≡ told (read-tag (now (program .entry)) at end) ⌝ }
+{
+    read_word(program, Word::SYMBOL, at, end)
+}
+
 // The tag and the term of an absento.
 fn read_absento(program: &[u32], vars: usize, at: usize, end: usize) -> Read
     requires { ⌜ end ≤ length (now program) ⌝ }
     ensures { λ r. ⌜ Settles (λ f. read-absento f (now (program .entry)) vars at end) (end - at) (outcome r) ⌝ }
 {
-    match read_word(program, Word::SYMBOL, at, end) {
+    match read_tag(program, at, end) {
         Read::Refused(c, place) => Read::Refused(c, place),
         Read::Done(next) => read_one(program, vars, next, end),
     }

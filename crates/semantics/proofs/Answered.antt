@@ -6,14 +6,16 @@ use mathlib.Core.Logic.{_↔_, inl, inr}
 use mathlib.Core.Path.{_∙_, _≡_, ap, ap₂, refl, subst, sym}
 use native.Mathlib.Omega.{arith}
 use lib.ListN.{getD, length, length-append, length-map}
+use Rattle.rules.specs.Lists.{Each, Some}
 use Rattle.rules.specs.Reading.{Reading, choose, found}
 use Rattle.rules.specs.Syntax.{Constraint, Goal, Sort, Term, absento, atom, differ, numbers, pair, symbols, typed, var}
 use Rattle.rules.specs.Written.{terms-words}
 use Rattle.semantics.specs.Answer.{Line, all-lines, answer, answer-words, index, line-goal, line-in, lines-words, listed, look-through, names-of, parameters, query-terms, reify, reify-line, vars-in}
+use Rattle.semantics.specs.Invariant.{Good, Passes, Reaches, Sat, SortPasses, Sound, TermIn}
 use Rattle.semantics.specs.Logic.{AllProper, Assignment, Holds, Proper, Tree, firsts, value}
 use Rattle.semantics.specs.Path.{Path}
 use Rattle.semantics.specs.Review.{clashes}
-use Rattle.semantics.specs.Shows.{Each, Shows, Some, any, read-answer}
+use Rattle.semantics.specs.Shows.{Shows, any, read-answer}
 use Rattle.semantics.specs.Steps.{done, goals}
 use Rattle.semantics.specs.Substitution.{Substitution, resolve, walk}
 use Rattle.semantics.proofs.Basics.{each-map}
@@ -23,11 +25,9 @@ use Rattle.semantics.proofs.Listed.{MayFit, all-listed, goal-met, liste
 use Rattle.semantics.proofs.Names.{appear-all-few, appear-all-has, inner, inner-outer, line-fits, met-outer, outer, terms-fit, values-outer}
 use Rattle.semantics.proofs.Narrow.{Solves}
 use Rattle.semantics.proofs.ReadBack.{answer-back, line-goals}
-use Rattle.semantics.proofs.ReviewLaws.{Passes, Reaches, SortPasses, clashes-true, sort-true}
-use Rattle.semantics.proofs.Sound.{Sound}
+use Rattle.semantics.proofs.ReviewLaws.{clashes-true, sort-true}
 use Rattle.semantics.proofs.StepLaws.{done-value, through}
-use Rattle.semantics.proofs.SubstitutionLaws.{Good, Sat, Seen, complete, in-more, resolve-in, sat-complete, value-resolve, walk-seen}
-use Rattle.semantics.proofs.TermLaws.{TermIn}
+use Rattle.semantics.proofs.SubstitutionLaws.{Seen, complete, in-more, resolve-in, sat-complete, value-resolve, walk-seen}
 
 same-read : {A B : Type 0} {o : Reading (A × B)} {a c : A} {b d : B} {m n : ℕ} → o ≡ found (a, b) m → o ≡ found (c, d) n → (a ≡ c) × (b ≡ d)
 same-read {A} {B} {a} {c} {b} {d} p q = let e : _≡_ {A = A × B} (a, b) (c, d) = cc in (ap (λ (r : A × B). r .0) e, ap (λ (r : A × B). r .1) e)

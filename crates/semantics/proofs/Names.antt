@@ -9,19 +9,19 @@ use lib.Dec.{eqb}
 use lib.ListN.{getD, length, length-append}
 use borrow.Author.Tests.{eq-eqb, eqb-true}
 use Rattle.word.specs.Word.{kind}
+use Rattle.rules.specs.Lists.{Each}
 use Rattle.rules.specs.Reading.{choose}
 use Rattle.rules.specs.Syntax.{Sort, Term, atom, pair, var}
 use Rattle.rules.specs.Written.{goal-words, goals-words, term-words, terms-words}
 use Rattle.semantics.specs.Answer.{Line, appear, appear-all, bindings-in, differ-goal, differ-goals, index, is-sort, lacks, line-in, line-words, member, not-all, reify, reify-bindings, reify-line, vars-in}
+use Rattle.semantics.specs.Invariant.{In, Sat, TermIn}
 use Rattle.semantics.specs.Logic.{Assignment, node, value}
-use Rattle.semantics.specs.Shows.{Each, any}
+use Rattle.semantics.specs.Shows.{any}
 use Rattle.semantics.proofs.Basics.{and-true, by-choose, clash, or-right}
 use Rattle.semantics.proofs.Fill.{LineGood, Met, member-left}
 use Rattle.semantics.proofs.LineLaws.{LineIn}
 use Rattle.rules.specs.WellFormed.{TermGood}
 use Rattle.semantics.proofs.ReadBack.{EquationFits, LineFits, TermFits, TermsFit}
-use Rattle.semantics.proofs.SubstitutionLaws.{In, Sat}
-use Rattle.semantics.proofs.TermLaws.{TermIn}
 
 abbrev pub outer : List ℕ → Assignment → Assignment
 outer names β x = β (index x names)

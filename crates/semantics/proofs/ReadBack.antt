@@ -1,20 +1,20 @@
 -- What is written is read back: the terms and the goals of an answer, by the reader of crate rules and its law that good terms and goals are read back.
-use Prim.Native.Nat.{_+_, _-_, _<_, _≤_, suc, zero, ℕ}
+use Prim.Native.Nat.{_+_, _<_, _≤_, suc, zero, ℕ}
 use mathlib.Core.List.{List, [], _++_, _∷_}
 use mathlib.Core.Path.{_∙_, _≡_, ap, sym}
 use native.Mathlib.Omega.{arith}
 use lib.ListN.{length, length-append}
 use borrow.Author.Tests.{eq-eqb, le-ltb, lt-ltb}
-use Rattle.word.specs.Word.{word}
 use Rattle.rules.specs.Inner.{Stands}
+use Rattle.rules.specs.Lists.{Each}
 use Rattle.rules.specs.Reading.{found, kind-at, payload-at, read-goal}
-use Rattle.rules.specs.Syntax.{Goal, Goals, Term}
+use Rattle.rules.specs.Syntax.{Goal, Term}
 use Rattle.rules.specs.WellFormed.{GoalGood, GoalsGood, TagGood, TermGood}
 use Rattle.rules.specs.Written.{goal-words, part, terms-words, term-words}
 use Rattle.rules.proofs.Complete.{goal-complete, term-complete}
 use Rattle.rules.proofs.Stands.{goal-some, kind-of, payload-of, stands-self, stands-split}
-use Rattle.semantics.specs.Answer.{Line, differ-goal, differ-goals, is-sort, lacks, line-goal, line-words, lines-words, not-all, reify-line}
-use Rattle.semantics.specs.Shows.{Each, any, deep, read-answer, read-listed, read-query}
+use Rattle.semantics.specs.Answer.{Line, differ-goals, is-sort, lacks, line-goal, line-words, lines-words, not-all, reify-line}
+use Rattle.semantics.specs.Shows.{any, deep, read-answer, read-listed, read-query}
 
 -- the payloads of a term's words fit
 abbrev pub TermFits : Term → Type 0

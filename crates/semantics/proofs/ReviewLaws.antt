@@ -9,40 +9,24 @@ use native.Mathlib.Omega.{arith}
 use lib.Dec.{eqb}
 use lib.ListN.{length}
 use borrow.Author.Tests.{eq-eqb, eqb-false, eqb-true}
+use Rattle.rules.specs.Lists.{Each, Some}
 use Rattle.rules.specs.Reading.{choose}
 use Rattle.rules.specs.Syntax.{Atom, Constraint, Sort, Term, absento, atom, differ, empty, number, numbers, pair, symbol, symbols, typed, var}
 use Rattle.semantics.specs.Answer.{not-all, resolve-right, trial-bindings}
+use Rattle.semantics.specs.Invariant.{ConstraintIn, Good, In, Passes, Reaches, Sat, TermIn, Unforced, some-node}
 use Rattle.semantics.specs.Logic.{Assignment, Lacks, Meets, OfSort, Tree, leaf, node, value}
 use Rattle.semantics.specs.Review.{clashes, other-sort, reaches, review, review-all, reviewed, sort-fails, sort-of, trial-fails}
-use Rattle.semantics.specs.Shows.{Each, Some}
 use Rattle.semantics.specs.Steps.{done}
 use Rattle.semantics.specs.Substitution.{Substitution, resolve, walk}
 use Rattle.semantics.specs.Unify.{is-atom, is-var, unify-terms}
 use Rattle.semantics.proofs.Basics.{and-true, clash, one-of, or-right}
 use Rattle.semantics.proofs.Fill.{some-filled}
-use Rattle.semantics.proofs.LineLaws.{Unforced, all-met-open, differ-listing}
+use Rattle.semantics.proofs.LineLaws.{all-met-open, differ-listing}
 use Rattle.semantics.proofs.ScanLaws.{is-atom-heads, scan-alone}
 use Rattle.semantics.proofs.StepLaws.{done-value, through}
-use Rattle.semantics.proofs.SubstitutionLaws.{Good, In, Sat, Seen, complete, sat-complete, value-resolve, walk-seen}
-use Rattle.semantics.proofs.TermLaws.{ConstraintIn, TermIn, atom-inside, some-node}
+use Rattle.semantics.proofs.SubstitutionLaws.{Seen, complete, sat-complete, value-resolve, walk-seen}
+use Rattle.semantics.proofs.TermLaws.{atom-inside}
 use Rattle.semantics.proofs.UnifyLaws.{Unifier, no-news, unify-none, unify-some}
-
--- a type of another sort than k reaches the open variable x
-abbrev pub Reaches : Substitution → Sort → ℕ → Constraint → Type 0
-Reaches bs k x (differ s t) = ⊥
-Reaches bs k x (typed l t) = (other-sort k l ≡ true) × (resolve bs t ≡ var x)
-Reaches bs k x (absento a t) = ⊥
-
-abbrev pub SortPasses : Substitution → List Constraint → Sort → Term → Type 0
-SortPasses bs cs k (var x) = ¬ Some (Reaches bs k x) cs
-SortPasses bs cs k (atom a) = sort-of k a ≡ true
-SortPasses bs cs k (pair s t) = ⊥
-
--- a constraint that passes its review, among the constraints cs of its path
-abbrev pub Passes : Substitution → List Constraint → Constraint → Type 0
-Passes bs cs (differ s t) = Unforced bs s t
-Passes bs cs (typed k t) = SortPasses bs cs k (resolve bs t)
-Passes bs cs (absento a t) = some-node (is-atom a) (resolve bs t) ≡ false
 
 -- the sorts
 pub sort-true : (k : Sort) (a : Atom) → sort-of k a ≡ true → OfSort k (leaf a)

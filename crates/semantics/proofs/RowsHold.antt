@@ -4,10 +4,10 @@ use mathlib.Core.Path.{_≡_, refl, ap}
 use mathlib.Core.List.{List, [], _∷_, map}
 use mathlib.Core.Bool.{false, true}
 use lib.ListN.{length}
-use Rattle.semantics.specs.Shows.{Each}
 use Rattle.semantics.proofs.Basics.{each-map}
 use borrow.Author.Tests.{le-leb}
-use Rattle.rules.specs.Reading.{read-word, read-leaf, read-term, read-one, read-two, read-terms, read-absento, read-call, read-goal, read-goals, read-body, read-variables, read-relation, read-relations}
+use Rattle.rules.specs.Lists.{Each}
+use Rattle.rules.specs.Reading.{read-word, read-leaf, read-term, read-one, read-two, read-terms, read-tag, read-absento, read-call, read-goal, read-goals, read-body, read-variables, read-relation, read-relations}
 use Rattle.rules.specs.Written.{term-words, terms-words, goal-words, goals-words}
 use Rattle.rules.specs.Calls.{goal-fault, goals-fault, relations-fault}
 use Rattle.rules.specs.Accept.{read}
@@ -21,7 +21,7 @@ computed r = returns-by as-written (r .words) (r .round-limit) (r .step-limit) (
 
 -- the one computed test
 pub rows-hold : map computed rows ≡ map (λ r. ran (r .expected)) rows
-unfolding read read-word read-leaf read-term read-one read-two read-terms read-absento read-call read-goal read-goals read-body read-variables read-relation read-relations term-words terms-words goal-words goals-words goal-fault goals-fault relations-fault
+unfolding read read-word read-leaf read-term read-one read-two read-terms read-tag read-absento read-call read-goal read-goals read-body read-variables read-relation read-relations term-words terms-words goal-words goals-words goal-fault goals-fault relations-fault
 rows-hold = refl
 
 -- what a row says: a run with these settings, of any lent output of that length and any scratch that is long enough, leaves just this

@@ -13,6 +13,7 @@ use borrow.Author.Tests.{eqb-true}
 use Rattle.rules.specs.Reading.{choose, found}
 use Rattle.rules.specs.Syntax.{Term, atom, pair, var}
 use Rattle.semantics.specs.Answer.{resolve-right, trial-bindings}
+use Rattle.semantics.specs.Invariant.{Fits, Good, In, Open, Sat, TermIn}
 use Rattle.semantics.specs.Logic.{Assignment, leaf, node, value}
 use Rattle.semantics.specs.Steps.{Outcome, Stop, at-bound, done, most, stop, waiting}
 use Rattle.semantics.specs.Substitution.{Substitution, resolve, same-atom, walk}
@@ -20,8 +21,8 @@ use Rattle.semantics.specs.Unify.{Goes, Looked, Pairs, agrees, bind, bin
 use Rattle.semantics.proofs.Basics.{by-choose, clash, compared, each-append, each-reverse, other, same}
 use Rattle.semantics.proofs.ScanLaws.{is-var-heads, scan-alone, scan-more, scan-spent}
 use Rattle.semantics.proofs.StepLaws.{More, Spent, more-bound, more-done, more-then, spent-then, spent-up}
-use Rattle.semantics.proofs.SubstitutionLaws.{Fits, Followed, Good, In, Open, Sat, resolve-atom, resolve-open, resolve-pair, value-resolve, value-walk, walk-followed, walk-in}
-use Rattle.semantics.proofs.TermLaws.{TermIn, inside, inside-pair, not-inside, same-atom-false, same-atom-true}
+use Rattle.semantics.proofs.SubstitutionLaws.{Followed, resolve-atom, resolve-open, resolve-pair, value-resolve, value-walk, walk-followed, walk-in}
+use Rattle.semantics.proofs.TermLaws.{inside, inside-pair, not-inside, same-atom-false, same-atom-true}
 
 -- the pairs of terms that are to be equal
 abbrev pub Equal : Assignment → Pairs → Type 0

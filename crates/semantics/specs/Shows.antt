@@ -2,23 +2,13 @@
 use Prim.Native.Nat.{_*_, _+_, suc, zero, ℕ}
 use mathlib.Core.Bool.{_&&_}
 use mathlib.Core.List.{List, [], _∷_, map}
-use mathlib.Core.Logic.{_⊎_}
 use mathlib.Core.Path.{_≡_}
 use lib.Dec.{eqb, ltb}
 use lib.ListN.{length}
+use Rattle.rules.specs.Lists.{Each}
 use Rattle.rules.specs.Reading.{Reading, choose, found, kind-at, next, payload-at, read-goal, read-term, refuse, require}
 use Rattle.rules.specs.Syntax.{Goal, Term}
 use Rattle.semantics.specs.Logic.{AllProper, Assignment, Holds, Tree, value}
-
--- every element of a list
-abbrev pub Each : {A : Type 0} → (A → Type 0) → List A → Type 0
-Each Q [] = Unit {0}
-Each Q (x ∷ xs) = Q x × Each Q xs
-
--- some element
-abbrev pub Some : {A : Type 0} → (A → Type 0) → List A → Type 0
-Some Q [] = ⊥
-Some Q (x ∷ xs) = Q x ⊎ Some Q xs
 
 -- Answers are read as programs are, by the reader of crate rules; their variables are bounded by nothing but the 28 bits of a payload
 abbrev pub any : ℕ

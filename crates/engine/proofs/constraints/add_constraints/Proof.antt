@@ -5,7 +5,7 @@ use native.Mathlib.Omega.{arith}
 use borrow.Author.Needs.{needs}
 use Rattle.rules.specs.Syntax.{Constraint}
 use Rattle.semantics.specs.Substitution.{Substitution}
-use Rattle.semantics.proofs.Sound.{Sound}
+use Rattle.semantics.specs.Invariant.{Sound}
 use Rattle.engine.specs.Review.{Kept}
 use Rattle.engine.specs.Page.{Writing}
 use Rattle.engine.proofs.AddingLaws.{Adding, adding-start, adding-long, adding-writing, adding-next, adding-end, adding-still, adding-room, adding-stops, adding-bound, adding-on}

@@ -6,7 +6,7 @@ use borrow.Author.Needs.{needs}
 use lib.ListN.{length}
 use Rattle.rules.specs.Syntax.{Program}
 use Rattle.semantics.specs.Round as definition
-use Rattle.semantics.proofs.Programs.{ProgramIn}
+use Rattle.semantics.specs.Invariant.{ProgramIn}
 use Rattle.engine.specs.Searching.{Searching}
 use Rattle.engine.proofs.SearchLaws.{Going, going-start, search-due, searched-stops, searched-over, over-some, searched-goal, searched-answer}
 use Rattle.engine.proofs.search.search.Statement.{statement}

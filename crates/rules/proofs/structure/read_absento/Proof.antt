@@ -4,8 +4,8 @@ use borrow.Author.Needs.{needs}
 use Rattle.rules.proofs.structure.read_absento.Statement.{statement}
 use Rattle.rules.proofs.structure.read_absento.Tie as tie
 
-read-word-requires : tie.Need-read-word-requires
-read-word-requires c κs = search needs
+read-tag-requires : tie.Need-read-tag-requires
+read-tag-requires c κs = search needs
 
 enum-known-c : tie.Need-enum-known-c
 enum-known-c c = search needs
@@ -17,12 +17,12 @@ read-one-requires : tie.Need-read-one-requires
 read-one-requires c κs = search needs
 
 returns : tie.Need-returns
-returns c = absento-stops _ _ _ _ _ _ (rw (c .before .c .given .1) at (c .before .before .before .read-word .ensures))
+returns c = absento-stops _ _ _ _ _ _ (rw (c .before .c .given .1) at (c .before .before .before .read-tag .ensures))
 
 returns-2 : tie.Need-returns-2
-returns-2 c = absento-rest _ _ _ _ _ _ (rw (c .before .before .next .given .1) at (c .before .before .before .before .read-word .ensures)) (c .read-one .ensures)
+returns-2 c = absento-rest _ _ _ _ _ _ (rw (c .before .before .next .given .1) at (c .before .before .before .before .read-tag .ensures)) (c .read-one .ensures)
 
 pub read-absento-spec : {M : Type 1} → statement M
 read-absento-spec =
     tie.close
-    (tie.spec read-word-requires enum-known-c enum-known-next read-one-requires returns returns-2)
+    (tie.spec read-tag-requires enum-known-c enum-known-next read-one-requires returns returns-2)

@@ -13,7 +13,6 @@ use Rattle.semantics.specs.Steps.{waiting, no-steps, at-bound, Outcome, done, s
 use Rattle.semantics.specs.Unify.{scan, never, unify-terms}
 use Rattle.semantics.specs.Shows.{Each}
 use Rattle.semantics.specs.Answer.{appear, Line, not-all, resolve-right, look-through, trial-lines, typed-lines, lacks-each, lines-of, all-lines}
-use Rattle.semantics.proofs.TermLaws.{term-size}
 use Rattle.semantics.proofs.SubstitutionLaws.{Good, Seen, walk-seen}
 use Rattle.semantics.proofs.UnifyLaws.{unify-some, no-news}
 use Rattle.semantics.proofs.ReviewLaws.{Passes}
@@ -24,7 +23,7 @@ use Rattle.engine.specs.Walk.{NodeAt, Binds, Follows}
 use Rattle.engine.specs.Trail.{Trailed, Undone, Apart}
 use Rattle.engine.specs.Unify.{Went, UnifiedAs}
 use Rattle.engine.specs.Keep.{AllKept}
-use Rattle.engine.specs.Look.{LookedAs, Looks, rights, Small, ThroughAs}
+use Rattle.engine.specs.Look.{look-says, LookedAs, Looks, rights, ThroughAs}
 use Rattle.engine.specs.Lines.{Equations, LineAs, as-differ}
 use Rattle.engine.specs.Put.{Touched}
 use Rattle.engine.specs.Page.{Page, add-line, add-lines, Writing, Extended, occurrences, AddsAbsent, AddsTyped}
@@ -119,45 +118,42 @@ right-length : (bs : Substitution) (cs : List (ℕ × Term)) → length (resolve
 right-length bs [] = refl
 right-length bs (b ∷ cs) = ap suc (right-length bs cs)
 
-equations-line : {ws s : List ℕ} {pairs mark count : ℕ} (es : List (ℕ × Term)) → 0 < length es → Equations ws s pairs mark 0 es → count ≡ length es → mark + count ≤ 2048 → LineAs ws s pairs (Differ mark count) (not-all es)
+equations-line : {ws s : List ℕ} {mark count : ℕ} (es : List (ℕ × Term)) → 0 < length es → Equations ws s mark 0 es → count ≡ length es → mark + count ≤ 2048 → LineAs ws s (Differ mark count) (not-all es)
 equations-line [] l h n f = absurd (omega arith)
 equations-line (b ∷ cs) l h n f = as-differ b cs h n f
 
-module _ {ws s s₂ : List ℕ} {bs : Substitution} {u v : Term} {trail n steps rest : ℕ} (t : Tried ws s s₂ bs u v trail n steps rest) (r : Looked) (told : ThroughAs bs (rights (reverse (t .new))) rest r) where
+module _ {ws s s₂ : List ℕ} {bs : Substitution} {u v : Term} {trail n steps rest : ℕ} (t : Tried ws s s₂ bs u v trail n steps rest) where
   pub tried-line-is : Line
   tried-line-is = not-all (resolve-right bs (reverse (t .new)))
 
-  lines-tried : lines-of bs (differ u v) steps ≡ and-then (look-through bs (rights (reverse (t .new))) rest) (λ _ l. done (not-all (resolve-right bs (reverse (t .new))) ∷ []) l)
-  lines-tried = ap (λ o. and-then o (λ x l. trial-lines bs x l)) (t .joins) ∙ ap (λ cs. and-then (look-through bs (rights cs) rest) (λ _ l. done (not-all (resolve-right bs cs) ∷ []) l)) (trial-new (t .new) bs)
-
-  pub tried-line : {after : ℕ} → r ≡ looked.Done after → LineAs ws s₂ rest (Differ trail (n - trail)) tried-line-is
-  unfolding ThroughAs tried-line-is
-  tried-line {after} e =
-      let q : (look-through bs (rights (reverse (t .new))) rest ≡ done tt after) × Each (Small bs rest) (rights (reverse (t .new))) = rw e at told in
+  pub tried-line : LineAs ws s₂ (Differ trail (n - trail)) tried-line-is
+  unfolding tried-line-is
+  tried-line =
       let h = t .looks in
       let l : length (resolve-right bs (reverse (t .new))) ≡ length (reverse (t .new)) = right-length bs (reverse (t .new)) in
-      equations-line (resolve-right bs (reverse (t .new))) (omega (arith, length-reverse (t .new), t .some-new)) (equations-kept rest trail 0 (reverse (t .new)) (h .held) (h .kept) (q .1)) (h .count-is ∙ sym l) (h .few)
+      equations-line (resolve-right bs (reverse (t .new))) (omega (arith, length-reverse (t .new), t .some-new)) (equations-kept trail 0 (reverse (t .new)) (h .held) (h .kept)) (h .count-is ∙ sym l) (h .few)
 
-  module _ {out : List ℕ} {first end place : ℕ} (g : Writing s out first end place) where
+  module _ (r : Looked) (told : ThroughAs bs (rights (reverse (t .new))) rest r) {out : List ℕ} {first end place : ℕ} (g : Writing s out first end place) where
+    lines-tried : lines-of bs (differ u v) steps ≡ and-then (look-says {A = Unit {0}} tt r) (λ _ l. done (tried-line-is ∷ []) l)
+    unfolding ThroughAs tried-line-is
+    lines-tried =
+        ap (λ o. and-then o (λ x l. trial-lines bs x l)) (t .joins) ∙ ap (λ cs. and-then (look-through bs (rights cs) rest) (λ _ l. done (not-all (resolve-right bs cs) ∷ []) l)) (trial-new (t .new) bs)
+        ∙ ap (λ o. and-then o (λ _ l. done (not-all (resolve-right bs (reverse (t .new))) ∷ []) l)) told
+
     kept-back : {out′ : List ℕ} (o : Outcome (List Line)) {x : Added} → AddedSays g out′ o x → lines-of bs (differ u v) steps ≡ o → Touched (g .before) out′ (g .begin) end → AddedAs ws s s₂ g out′ bs (lines-of bs (differ u v) steps) x
     kept-back {out′} o {x} y e z = record { says = subst (λ p. AddedSays g out′ p x) (sym e) y; bindings-in = t .looks .held .bindings-in; apart = t .apart; touched = z }
 
-    looked-is : (o : Outcome (Unit {0})) → look-through bs (rights (reverse (t .new))) rest ≡ o → lines-of bs (differ u v) steps ≡ and-then o (λ _ l. done (not-all (resolve-right bs (reverse (t .new))) ∷ []) l)
-    looked-is o e = lines-tried ∙ ap (λ z. and-then z (λ _ l. done (not-all (resolve-right bs (reverse (t .new))) ∷ []) l)) e
-
     pub tried-steps : r ≡ looked.StepsOut → AddedAs ws s s₂ g out bs (lines-of bs (differ u v) steps) StepsOut
-    unfolding ThroughAs AddedSays
-    tried-steps e = kept-back (stop no-steps 0) (refl, refl) (looked-is (stop no-steps 0) (rw e at told)) (g .page .touched)
+    unfolding AddedSays
+    tried-steps e = kept-back (stop no-steps 0) (refl, refl) (rw e at lines-tried) (g .page .touched)
 
     pub tried-path : {after : ℕ} → r ≡ looked.PathOut after → AddedAs ws s s₂ g out bs (lines-of bs (differ u v) steps) (PathOut after)
-    unfolding ThroughAs AddedSays
-    tried-path {after} e = kept-back (stop (at-bound waiting) after) (refl, refl) (looked-is (stop (at-bound waiting) after) (rw e at told)) (g .page .touched)
+    unfolding AddedSays
+    tried-path {after} e = kept-back (stop (at-bound waiting) after) (refl, refl) (rw e at lines-tried) (g .page .touched)
 
     pub tried-done : {after : ℕ} {out′ : List ℕ} {next : ℕ} → r ≡ looked.Done after → Page (g .before) out′ (g .begin) first end next (g .head) (add-line (g .names) (g .lines) tried-line-is) → AddedAs ws s s₂ g out′ bs (lines-of bs (differ u v) steps) (Done next after)
-    unfolding ThroughAs AddedSays add-lines tried-line-is
-    tried-done {after} e p =
-        let q : (look-through bs (rights (reverse (t .new))) rest ≡ done tt after) × Each (Small bs rest) (rights (reverse (t .new))) = rw e at told in
-        kept-back (done (tried-line-is ∷ []) after) (refl, p) (looked-is (done tt after) (q .0)) (p .touched)
+    unfolding AddedSays add-lines
+    tried-done {after} e p = kept-back (done (tried-line-is ∷ []) after) (refl, p) (rw e at lines-tried) (p .touched)
 
 -- A term that was looked through, with the lines that its constraint comes to
 
@@ -178,31 +174,24 @@ module _ {ws s : List ℕ} {bs : Substitution} {out : List ℕ} {first end place
 
   pub term-done : {rest : ℕ} {out′ : List ℕ} {next : ℕ} → r ≡ looked.Done rest → Extended g out′ next lines → AddedAs ws s s g out′ bs term-lines (Done next rest)
   unfolding LookedAs AddedSays
-  term-done {rest} e p =
-      let q : (scan never bs [] t steps ≡ done false rest) × (term-size (resolve bs t) + rest < steps) = rw e at told in
-      untouched (done false rest) (q .0) (refl, p) (p .touched)
+  term-done {rest} e p = untouched (done false rest) (rw e at told) (refl, p) (p .touched)
 
 -- an absence
 module _ {ws s : List ℕ} {w : ℕ} {bs : Substitution} {a : Atom} {t : Term} (held : Binds ws s bs) (h : KeepsAt ws w (absento a t)) where
   pub absento-follows : Follows ws s bs (w + 2) t
   absento-follows = record { binds = held; stands = absento-term ws w a t h }
 
-  module _ {out : List ℕ} {first end place steps : ℕ} (g : Writing s out first end place) (r : Looked) (told : LookedAs bs t steps r) {rest : ℕ} (e : r ≡ looked.Done rest) {bits k p : ℕ} (node : NodeAt ws (w + 1) bits k p) where
-    pub absento-adds : AddsAbsent ws s out bits (w + 2) first end place steps
-    unfolding LookedAs
-    absento-adds =
-        let q : (scan never bs [] t steps ≡ done false rest) × (term-size (resolve bs t) + rest < steps) = rw e at told in
-        let l : term-size (resolve bs t) + rest < steps = q .1 in
-        record {
-          writing = g;
-          tag-of = a;
-          is-tag = atom-word-is bits a (absento-tag ws w a t h node);
-          term = resolve bs t;
-          here = record { bindings = bs; term = t; follows = absento-follows; is = refl };
-          small = omega arith;
-        }
+  module _ {out : List ℕ} {first end place : ℕ} (g : Writing s out first end place) {bits k p : ℕ} (node : NodeAt ws (w + 1) bits k p) where
+    pub absento-adds : AddsAbsent ws s out bits (w + 2) first end place
+    absento-adds = record {
+      writing = g;
+      tag-of = a;
+      is-tag = atom-word-is bits a (absento-tag ws w a t h node);
+      term = resolve bs t;
+      here = record { bindings = bs; term = t; follows = absento-follows; is = refl };
+    }
 
-    pub absento-page : {out′ : List ℕ} {place′ : ℕ} → ((k : AddsAbsent ws s out bits (w + 2) first end place steps) → Extended (k .writing) out′ place′ (lacks-each (k .tag-of) (occurrences (k .term))))
+    pub absento-page : {out′ : List ℕ} {place′ : ℕ} → ((k : AddsAbsent ws s out bits (w + 2) first end place) → Extended (k .writing) out′ place′ (lacks-each (k .tag-of) (occurrences (k .term))))
         → Extended g out′ place′ (lacks-each a (appear [] (resolve bs t)))
     unfolding absento-adds
     absento-page {out′} {place′} f = subst (Page (g .before) out′ (g .begin) first end place′ (g .head)) (absent-once (g .names) a (g .lines) (resolve bs t)) (f absento-adds)

@@ -28,8 +28,8 @@ use Rattle.engine.specs.Review.{Kept}
 use Rattle.engine.specs.Names.{top-from, word-from, Distinct, Names, Named}
 use Rattle.engine.specs.Put.{Touched, Laid, Placed, all-laid, some-missing}
 use Rattle.engine.specs.Page.{joined, add-lines, Wholes, Page, Writing}
-use Rattle.engine.specs.Query.{Small, Known, query-words, Query, Ends, EndedAs}
-use Rattle.engine.specs.Look.{Small as LookSmall, ThroughAs}
+use Rattle.engine.specs.Query.{Known, query-words, Query, Ends, EndedAs}
+use Rattle.engine.specs.Look.{ThroughAs}
 use Rattle.engine.specs.Adding.{AddedSays, AddedAs}
 use Rattle.engine.specs.Taking.{Holds, registers}
 use Rattle.engine.specs.Answering.{Answering, AnswerLeft, AnswerSays, AnsweredAs}
@@ -219,20 +219,16 @@ module _ {P : Program} {ws s output : List ℕ} {st : State} {p : Path} {cs : Li
         let d : look-through bs (parameters 0 params) (st .left) ≡ stop (at-bound waiting) left = rw e at h in
         record { leaves-lent = as-before; says = rw d (refl, refl) }
 
-    pub answer-small : {left : ℕ} → r ≡ looked.Done left → Small bs params (st .left)
-    unfolding ThroughAs
-    answer-small {left} e = let d : ThroughAs bs (parameters 0 params) (st .left) (looked.Done left) = rw e at h in λ x l. each-parameter (LookSmall bs (st .left)) 0 params x (d .1) (omega arith) (omega arith)
-
     pub answer-on : {left : ℕ} → r ≡ looked.Done left → answer p params (st .left) ≡ and-then (all-lines bs (p .kept) left) (λ ls m. done (answer-words bs params ls) m)
     unfolding ThroughAs
     answer-on {left} e =
         let d : ThroughAs bs (parameters 0 params) (st .left) (looked.Done left) = rw e at h in
-        ap (λ o. and-then o (λ _ l. and-then (all-lines bs (p .kept) l) (λ ls m. done (answer-words bs params ls) m))) (d .0)
+        ap (λ o. and-then o (λ _ l. and-then (all-lines bs (p .kept) l) (λ ls m. done (answer-words bs params ls) m))) d
 
   -- with names
   module _ {s₁ : List ℕ} {top : ℕ} (m : Named s s₁ top names) where
-    pub answer-query : Small bs params (st .left) → Query ws s₁ params (st .left) bs names
-    answer-query small = record { top = top; binds = binds-named m answer-binds; named = m .given; known = query-known bs params; small = small }
+    pub answer-query : Query ws s₁ params bs names
+    answer-query = record { top = top; binds = binds-named m answer-binds; named = m .given; known = query-known bs params }
 
     pub answer-kept : Kept ws s₁ bs (p .kept) (st .trail) (st .kept)
     answer-kept =
@@ -334,52 +330,48 @@ module _ {P : Program} {ws s output : List ℕ} {st : State} {p : Path} {cs : Li
           }
 
 -- The same from what the calls promise, one after the other.
-module _ {P : Program} {ws s output : List ℕ} {st : State} {p : Path} {cs : List ChoicePoint} {params used : ℕ} (a : Answering P ws s output st p cs params used)
-    (r : Looked) (look : (bs : Substitution) → Binds ws s bs → ThroughAs bs (parameters 0 params) (st .left) r) where
-  pub steps-out-now : r ≡ looked.StepsOut → AnsweredAs P ws s output s output st p cs used (answer p params (st .left)) answered.StepsOut
-  steps-out-now e = answer-steps a r (look (p .bindings) (answer-binds a)) e
+module _ {P : Program} {ws s output : List ℕ} {st : State} {p : Path} {cs : List ChoicePoint} {params used : ℕ} (a : Answering P ws s output st p cs params used) where
+  module _ (r : Looked) (look : (bs : Substitution) → Binds ws s bs → ThroughAs bs (parameters 0 params) (st .left) r) where
+    pub steps-out-now : r ≡ looked.StepsOut → AnsweredAs P ws s output s output st p cs used (answer p params (st .left)) answered.StepsOut
+    steps-out-now e = answer-steps a r (look (p .bindings) (answer-binds a)) e
 
-  pub path-out-now : {left : ℕ} → r ≡ looked.PathOut left → AnsweredAs P ws s output s output st p cs used (answer p params (st .left)) (answered.PathOut left)
-  path-out-now e = answer-path a r (look (p .bindings) (answer-binds a)) e
+    pub path-out-now : {left : ℕ} → r ≡ looked.PathOut left → AnsweredAs P ws s output s output st p cs used (answer p params (st .left)) (answered.PathOut left)
+    path-out-now e = answer-path a r (look (p .bindings) (answer-binds a)) e
 
-  module _ (left : ℕ) (e : r ≡ looked.Done left) where
-    pub small-now : Small (p .bindings) params (st .left)
-    small-now = answer-small a r (look (p .bindings) (answer-binds a)) e
+  module _ {s₁ : List ℕ} {top : ℕ} (name : (bs : Substitution) → Binds ws s bs → Names s 0 [] → Named s s₁ top (names-of bs params)) where
+    pub named-now : Named s s₁ top (names-of (p .bindings) params)
+    named-now = name (p .bindings) (answer-binds a) (unnamed (a .stored .nameless))
 
-    module _ {s₁ : List ℕ} {top : ℕ} (name : (bs : Substitution) → Binds ws s bs → Names s 0 [] → Small bs params (st .left) → Named s s₁ top (names-of bs params)) where
-      pub named-now : Named s s₁ top (names-of (p .bindings) params)
-      named-now = name (p .bindings) (answer-binds a) (unnamed (a .stored .nameless)) small-now
+    pub query-now : Query ws s₁ params (p .bindings) (names-of (p .bindings) params)
+    query-now = answer-query a named-now
 
-      pub query-now : Query ws s₁ params (st .left) (p .bindings) (names-of (p .bindings) params)
-      query-now = answer-query a named-now small-now
+    module _ {out₁ : List ℕ} {end place : ℕ} (begin : (bs : Substitution) (names : List ℕ) → Query ws s₁ params bs names → Page output out₁ (used + 1) place end place (query-words bs names 0 params) []) where
+      pub page-now : Page output out₁ (used + 1) place end place (query-words (p .bindings) (names-of (p .bindings) params) 0 params) []
+      page-now = begin (p .bindings) (names-of (p .bindings) params) query-now
 
-      module _ {out₁ : List ℕ} {end place : ℕ}
-          (begin : (bs : Substitution) (names : List ℕ) → Query ws s₁ params (st .left) bs names → Page output out₁ (used + 1) place end place (query-words bs names 0 params) []) where
-        pub page-now : Page output out₁ (used + 1) place end place (query-words (p .bindings) (names-of (p .bindings) params) 0 params) []
-        page-now = begin (p .bindings) (names-of (p .bindings) params) query-now
+      abbrev pub writing-now : Writing s₁ out₁ place end place
+      writing-now = answer-writing a named-now page-now
 
-        abbrev pub writing-now : Writing s₁ out₁ place end place
-        writing-now = answer-writing a named-now page-now
+      module _ {s₂ out₂ : List ℕ} {left : ℕ} (d : Added)
+          (add : (g : Writing s₁ out₁ place end place) (bs : Substitution) (ks : List Constraint) (made : ℕ) → Kept ws s₁ bs ks (st .trail) (st .kept) → Sound bs ks made → AddedAs ws s₁ s₂ g out₂ bs (all-lines bs ks left) d) where
+        added-now : AddedAs ws s₁ s₂ writing-now out₂ (p .bindings) (all-lines (p .bindings) (p .kept) left) d
+        added-now = add writing-now (p .bindings) (p .kept) (p .made) (answer-kept a named-now) (a .sound)
 
-        module _ {s₂ out₂ : List ℕ} (d : Added)
-            (add : (g : Writing s₁ out₁ place end place) (bs : Substitution) (ks : List Constraint) (made : ℕ) → Kept ws s₁ bs ks (st .trail) (st .kept) → Sound bs ks made → AddedAs ws s₁ s₂ g out₂ bs (all-lines bs ks left) d) where
-          added-now : AddedAs ws s₁ s₂ writing-now out₂ (p .bindings) (all-lines (p .bindings) (p .kept) left) d
-          added-now = add writing-now (p .bindings) (p .kept) (p .made) (answer-kept a named-now) (a .sound)
+        pub apart-now : Apart s₁ s₂
+        apart-now = added-now .apart
 
-          pub apart-now : Apart s₁ s₂
-          apart-now = added-now .apart
+        pub touched-now : Touched output out₂ (used + 1) end
+        touched-now = added-now .touched
 
-          pub touched-now : Touched output out₂ (used + 1) end
-          touched-now = added-now .touched
+        pub names-now : Names s₂ top (names-of (p .bindings) params)
+        names-now = answer-named a named-now page-now _ d added-now
 
-          pub names-now : Names s₂ top (names-of (p .bindings) params)
-          names-now = answer-named a named-now page-now _ d added-now
+        pub ends-now : Ends output out₂ used end (page-words (p .bindings) params (all-lines (p .bindings) (p .kept) left)) d
+        ends-now = answer-ends a named-now page-now _ d added-now
 
-          pub ends-now : Ends output out₂ used end (page-words (p .bindings) params (all-lines (p .bindings) (p .kept) left)) d
-          ends-now = answer-ends a named-now page-now _ d added-now
-
-          pub answered-now : {s₃ : List ℕ} (out₃ : List ℕ) (q : Answered) → end ≡ usable (length output) → ((names : List ℕ) → Names s₂ top names → Named s₂ s₃ 0 [])
-              → ((o : List ℕ) (v : List ℕ) → Ends o out₂ used end v d → EndedAs o out₂ out₃ used end v d q)
-              → AnsweredAs P ws s output s₃ out₃ st p cs used (answer p params (st .left)) q
-          answered-now out₃ q is-end clear finish =
-              answer-done a named-now page-now _ d added-now out₃ q (finish output _ ends-now) is-end (clear _ names-now) (answer-on a r (look (p .bindings) (answer-binds a)) e)
+        pub answered-now : (r : Looked) → ((bs : Substitution) → Binds ws s bs → ThroughAs bs (parameters 0 params) (st .left) r) → r ≡ looked.Done left
+            → {s₃ : List ℕ} (out₃ : List ℕ) (q : Answered) → end ≡ usable (length output) → ((names : List ℕ) → Names s₂ top names → Named s₂ s₃ 0 [])
+            → ((o : List ℕ) (v : List ℕ) → Ends o out₂ used end v d → EndedAs o out₂ out₃ used end v d q)
+            → AnsweredAs P ws s output s₃ out₃ st p cs used (answer p params (st .left)) q
+        answered-now r look e out₃ q is-end clear finish =
+            answer-done a named-now page-now _ d added-now out₃ q (finish output _ ends-now) is-end (clear _ names-now) (answer-on a r (look (p .bindings) (answer-binds a)) e)

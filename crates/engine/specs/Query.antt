@@ -7,7 +7,6 @@ use Rattle.rules.specs.Syntax.{var}
 use Rattle.rules.specs.Written.{part, terms-words}
 use Rattle.semantics.specs.Substitution.{Substitution, resolve}
 use Rattle.semantics.specs.Answer.{vars-in, reify, query-terms}
-use Rattle.semantics.proofs.TermLaws.{term-size}
 use Rattle.engine.specs.Walk.{Binds}
 use Rattle.engine.specs.Names.{Names}
 use Rattle.engine.specs.Put.{Laid}
@@ -16,11 +15,7 @@ use Rattle.engine.specs.declared.constraints.Added.the-variants as added
 use Rattle.engine.specs.declared.answer.Answered.{Answered}
 use Rattle.engine.specs.declared.answer.Answered.the-variants as answered
 
--- the query terms have few pairs
-abbrev pub Small : Substitution → ℕ → ℕ → Type 0
-Small bs n pairs = (x : ℕ) → x < n → term-size (resolve bs (var x)) ≤ pairs
-
--- and their open variables have names
+-- the open variables of the query terms have names
 abbrev pub Known : Substitution → List ℕ → ℕ → Type 0
 Known bs names n = (x : ℕ) → x < n → vars-in names (resolve bs (var x)) ≡ true
 
@@ -29,12 +24,11 @@ abbrev pub query-words : Substitution → List ℕ → ℕ → ℕ → List ℕ
 query-words bs names i n = terms-words (map (reify names) (query-terms bs i n))
 
 -- query terms that are to be put
-pub record Query (ws s : List ℕ) (n pairs : ℕ) (bs : Substitution) (names : List ℕ) : Type 0 where
+pub record Query (ws s : List ℕ) (n : ℕ) (bs : Substitution) (names : List ℕ) : Type 0 where
   pub top : ℕ
   pub binds : Binds ws s bs
   pub named : Names s top names
   pub known : Known bs names n
-  pub small : Small bs n pairs
 
 -- the words of an answer but its own, from the word after `start` on, if they fit
 unfoldable pub Ends : List ℕ → List ℕ → ℕ → ℕ → List ℕ → Added → Type 0

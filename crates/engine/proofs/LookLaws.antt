@@ -6,6 +6,7 @@ use mathlib.Core.List.{List, [], _∷_}
 use native.Mathlib.Omega.{arith}
 use lib.ListN.{length}
 use borrow.Author.Tests.{ne-eqb}
+use Rattle.word.specs.Word.{word}
 use Rattle.rules.specs.Syntax.{Term}
 use Rattle.semantics.specs.Substitution.{Substitution}
 use Rattle.semantics.specs.Steps.{Outcome, done, and-then}
@@ -23,10 +24,10 @@ use Rattle.engine.specs.declared.look.Looked.{Looked}
 use Rattle.engine.specs.declared.look.Looked.the-variants as looked
 use Rattle.engine.proofs.ReferenceLaws.{atom-low}
 
-never-sought : TestAs 1073741824 never
+never-sought : TestAs (word 4 0) never
 never-sought = record {
-  on-var = λ x l. sym (ne-eqb x 1073741824 (λ q. omega arith));
-  on-atom = λ a w h. sym (ne-eqb w 1073741824 (λ q. omega (arith, atom-low w a h .1)));
+  on-var = λ x l. sym (ne-eqb x (word 4 0) (λ q. omega arith));
+  on-atom = λ a w h. sym (ne-eqb w (word 4 0) (λ q. omega (arith, atom-low w a h .1)));
   on-pair = λ s t. refl;
 }
 
@@ -42,7 +43,7 @@ never-found bs (suc left) vs t l e = go (scan never bs vs t (suc left)) (scan-st
     go o (further v us q lf n s) d ih = ih us v l (sym s ∙ d)
 
 -- what the scan's answers come to
-module _ (bs : Substitution) (t : Term) (steps : ℕ) (r : Scanned) (h : ScanAs 1073741824 bs t 0 steps r) where
+module _ (bs : Substitution) (t : Term) (steps : ℕ) (r : Scanned) (h : ScanAs (word 4 0) bs t 0 steps r) where
   said : scan never bs [] t steps ≡ scan-says r [] (λ us u left. scan never bs us u left)
   said = h never [] never-sought refl
 

@@ -1,8 +1,8 @@
 -- The lines of constraints, in the shape of the code's tests: a trial's, those of a term that was looked through, and of all constraints kept.
 use Prim.Native.Nat.{ℕ, suc, _+_, _-_, _≤_, _<_}
 use mathlib.Core.Path.{_≡_, refl, sym, ap, subst, _∙_}
-use mathlib.Core.Bool.{Bool, false}
-use mathlib.Core.Option.{none, some}
+use mathlib.Core.Bool.{false}
+use mathlib.Core.Option.{Option, none, some}
 use mathlib.Core.List.{List, [], _∷_, _++_, reverse, append-assoc, append-nil}
 use native.Mathlib.Omega.{arith}
 use lib.ListN.{length, length-append, length-reverse}
@@ -13,6 +13,7 @@ use Rattle.semantics.specs.Steps.{waiting, no-steps, at-bound, Outcome, done, s
 use Rattle.semantics.specs.Unify.{scan, never, unify-terms}
 use Rattle.semantics.specs.Shows.{Each}
 use Rattle.semantics.specs.Answer.{appear, Line, not-all, resolve-right, look-through, trial-lines, typed-lines, lacks-each, lines-of, all-lines}
+use Rattle.semantics.proofs.Basics.{clash}
 use Rattle.semantics.proofs.SubstitutionLaws.{Good, Seen, walk-seen}
 use Rattle.semantics.proofs.UnifyLaws.{unify-some, no-news}
 use Rattle.semantics.proofs.ReviewLaws.{Passes}
@@ -27,7 +28,7 @@ use Rattle.engine.specs.Look.{look-says, LookedAs, Looks, rights, Throug
 use Rattle.engine.specs.Lines.{Equations, LineAs, as-differ}
 use Rattle.engine.specs.Put.{Touched}
 use Rattle.engine.specs.Page.{Page, add-line, add-lines, Writing, Extended, occurrences, AddsAbsent, AddsTyped}
-use Rattle.engine.specs.Adding.{AddedSays, AddedAs, Differs, Lists}
+use Rattle.engine.specs.Adding.{added-says, AddedAs, Differs, Lists}
 use Rattle.engine.specs.Review.{Kept}
 use Rattle.engine.specs.declared.line.Listed.the-variants.{Differ}
 use Rattle.engine.specs.declared.look.Looked.{Looked}
@@ -44,6 +45,10 @@ use Rattle.engine.proofs.LinesLaws.{add-append}
 use Rattle.engine.proofs.WriterLaws.{absent-once, trial-new, equations-kept}
 use Rattle.engine.proofs.ReviewSteps.{absento-term, absento-tag, DifferAt, Trial, trial-failed, trial-stepped, trial-pathed, kept-again}
 
+-- the page of lines that are done
+page-done : {o out : List ℕ} {begin first end place rest : ℕ} {head : List ℕ} {lines : List (List ℕ)} → Page o out begin first end place head lines → (next left : ℕ) → Done place rest ≡ Done next left → Page o out begin first end next head lines
+page-done {o} {out} {begin} {first} {end} {place} {rest} {head} {lines} p next left e = let z : place ≡ next = cc in subst (λ n. Page o out begin first end n head lines) z p
+
 -- A disequality
 
 module _ {ws s : List ℕ} {bs : Substitution} {a : ℕ} {u : Term} {b : ℕ} {v : Term} {trail : ℕ} (steps : ℕ) (d : Differs ws s bs a u b v trail) (s₁ : List ℕ) (r : Unified) (told : UnifiedAs ws s s₁ bs (unify-terms bs u v steps) r) where
@@ -55,26 +60,29 @@ module _ {ws s : List ℕ} {bs : Substitution} {a : ℕ} {u : Term} {b : ℕ} {v
 
   -- the trial did not succeed, and was undone
   module _ {out : List ℕ} {first end place : ℕ} (g : Writing s out first end place) (s₂ : List ℕ) (n : ℕ) (undone : (ws : List ℕ) (new bs : Substitution) → Trailed ws s₁ new bs trail n → Undone ws s₁ s₂ bs) where
-    given-back : Trial ws s₁ bs trail n → Apart s s₁ → {o : Outcome (List Line)} {x : Added} → AddedSays g out o x → AddedAs ws s s₂ g out bs o x
-    given-back t p y = let z = undone ws (t .new) bs (t .trailed) in record { says = y; bindings-in = z .bindings-in; apart = apart-trans p (undone-apart z); touched = g .page .touched }
+    given-back : Trial ws s₁ bs trail n → Apart s s₁ → {o : Outcome (Option Substitution)} {x : Added} → unify-terms bs u v steps ≡ o → and-then o (λ y l. trial-lines bs y l) ≡ added-says [] x → ((next left : ℕ) → x ≡ Done next left → Extended g out next [])
+        → AddedAs ws s s₂ g out bs (lines-of bs (differ u v) steps) x
+    given-back t p e y k =
+        let z = undone ws (t .new) bs (t .trailed) in
+        record { lines = []; says = ap (λ o. and-then o (λ y l. trial-lines bs y l)) e ∙ y; page = k; bindings-in = z .bindings-in; apart = apart-trans p (undone-apart z); touched = g .page .touched }
 
     pub differ-failed : {rest : ℕ} → r ≡ unified.Failed n rest → AddedAs ws s s₂ g out bs (lines-of bs (differ u v) steps) (Done place rest)
-    unfolding UnifiedAs AddedSays add-lines
+    unfolding UnifiedAs add-lines
     differ-failed {rest} e =
         let q : (w : Went ws s bs s₁ n) × (unify-terms bs u v steps ≡ done none rest) = rw e at told in
-        given-back (trial-failed steps (d .meets) s₁ r told e) (q .0 .apart) (subst (λ o. AddedSays g out (and-then o (λ x l. trial-lines bs x l)) (Done place rest)) (sym (q .1)) (refl, g .page))
+        given-back (trial-failed steps (d .meets) s₁ r told e) (q .0 .apart) (q .1) refl (page-done (g .page))
 
     pub differ-stepped : r ≡ unified.StepsOut n → AddedAs ws s s₂ g out bs (lines-of bs (differ u v) steps) StepsOut
-    unfolding UnifiedAs AddedSays
+    unfolding UnifiedAs
     differ-stepped e =
         let q : (w : Went ws s bs s₁ n) × (unify-terms bs u v steps ≡ stop no-steps 0) = rw e at told in
-        given-back (trial-stepped steps (d .meets) s₁ r told e) (q .0 .apart) (subst (λ o. AddedSays g out (and-then o (λ x l. trial-lines bs x l)) StepsOut) (sym (q .1)) (refl, refl))
+        given-back (trial-stepped steps (d .meets) s₁ r told e) (q .0 .apart) (q .1) refl (λ next left z. clash (cc))
 
     pub differ-pathed : {rest : ℕ} → r ≡ unified.PathOut n rest → AddedAs ws s s₂ g out bs (lines-of bs (differ u v) steps) (PathOut rest)
-    unfolding UnifiedAs AddedSays
+    unfolding UnifiedAs
     differ-pathed {rest} e =
         let q : (w : Went ws s bs s₁ n) × (unify-terms bs u v steps ≡ stop (at-bound waiting) rest) = rw e at told in
-        given-back (trial-pathed steps (d .meets) s₁ r told e) (q .0 .apart) (subst (λ o. AddedSays g out (and-then o (λ x l. trial-lines bs x l)) (PathOut rest)) (sym (q .1)) (refl, refl))
+        given-back (trial-pathed steps (d .meets) s₁ r told e) (q .0 .apart) (q .1) refl (λ next left z. clash (cc))
 
 -- The trial succeeded: its equations are kept, one at least.
 pub record Tried (ws s s₂ : List ℕ) (bs : Substitution) (u v : Term) (trail n steps rest : ℕ) : Type 0 where
@@ -140,20 +148,19 @@ module _ {ws s s₂ : List ℕ} {bs : Substitution} {u v : Term} {trail n steps 
         ap (λ o. and-then o (λ x l. trial-lines bs x l)) (t .joins) ∙ ap (λ cs. and-then (look-through bs (rights cs) rest) (λ _ l. done (not-all (resolve-right bs cs) ∷ []) l)) (trial-new (t .new) bs)
         ∙ ap (λ o. and-then o (λ _ l. done (not-all (resolve-right bs (reverse (t .new))) ∷ []) l)) told
 
-    kept-back : {out′ : List ℕ} (o : Outcome (List Line)) {x : Added} → AddedSays g out′ o x → lines-of bs (differ u v) steps ≡ o → Touched (g .before) out′ (g .begin) end → AddedAs ws s s₂ g out′ bs (lines-of bs (differ u v) steps) x
-    kept-back {out′} o {x} y e z = record { says = subst (λ p. AddedSays g out′ p x) (sym e) y; bindings-in = t .looks .held .bindings-in; apart = t .apart; touched = z }
+    kept-back : {out′ : List ℕ} {x : Added} → and-then (look-says {A = Unit {0}} tt r) (λ _ l. done (tried-line-is ∷ []) l) ≡ added-says (tried-line-is ∷ []) x → ((next left : ℕ) → x ≡ Done next left → Extended g out′ next (tried-line-is ∷ []))
+        → Touched (g .before) out′ (g .begin) end → AddedAs ws s s₂ g out′ bs (lines-of bs (differ u v) steps) x
+    kept-back y p z = record { lines = tried-line-is ∷ []; says = lines-tried ∙ y; page = p; bindings-in = t .looks .held .bindings-in; apart = t .apart; touched = z }
 
     pub tried-steps : r ≡ looked.StepsOut → AddedAs ws s s₂ g out bs (lines-of bs (differ u v) steps) StepsOut
-    unfolding AddedSays
-    tried-steps e = kept-back (stop no-steps 0) (refl, refl) (rw e at lines-tried) (g .page .touched)
+    tried-steps e = kept-back (rw e refl) (λ next left q. clash (cc)) (g .page .touched)
 
     pub tried-path : {after : ℕ} → r ≡ looked.PathOut after → AddedAs ws s s₂ g out bs (lines-of bs (differ u v) steps) (PathOut after)
-    unfolding AddedSays
-    tried-path {after} e = kept-back (stop (at-bound waiting) after) (refl, refl) (rw e at lines-tried) (g .page .touched)
+    tried-path e = kept-back (rw e refl) (λ next left q. clash (cc)) (g .page .touched)
 
     pub tried-done : {after : ℕ} {out′ : List ℕ} {next : ℕ} → r ≡ looked.Done after → Page (g .before) out′ (g .begin) first end next (g .head) (add-line (g .names) (g .lines) tried-line-is) → AddedAs ws s s₂ g out′ bs (lines-of bs (differ u v) steps) (Done next after)
-    unfolding AddedSays add-lines
-    tried-done {after} e p = kept-back (done (tried-line-is ∷ []) after) (refl, p) (rw e at lines-tried) (p .touched)
+    unfolding add-lines
+    tried-done e p = kept-back (rw e refl) (page-done p) (p .touched)
 
 -- A term that was looked through, with the lines that its constraint comes to
 
@@ -161,20 +168,19 @@ module _ {ws s : List ℕ} {bs : Substitution} {out : List ℕ} {first end place
   abbrev term-lines : Outcome (List Line)
   term-lines = and-then (scan never bs [] t steps) (λ _ l. done lines l)
 
-  untouched : {out′ : List ℕ} (o : Outcome Bool) {x : Added} → scan never bs [] t steps ≡ o → AddedSays g out′ (and-then o (λ _ l. done lines l)) x → Touched (g .before) out′ (g .begin) end → AddedAs ws s s g out′ bs term-lines x
-  untouched {out′} o {x} e y z = record { says = subst (λ p. AddedSays g out′ (and-then p (λ _ l. done lines l)) x) (sym e) y; bindings-in = held .bindings-in; apart = apart-same s; touched = z }
+  untouched : {out′ : List ℕ} {x : Added} → and-then (look-says false r) (λ _ l. done lines l) ≡ added-says lines x → ((next left : ℕ) → x ≡ Done next left → Extended g out′ next lines) → Touched (g .before) out′ (g .begin) end
+      → AddedAs ws s s g out′ bs term-lines x
+  unfolding LookedAs
+  untouched y p z = record { lines = lines; says = ap (λ o. and-then o (λ _ l. done lines l)) told ∙ y; page = p; bindings-in = held .bindings-in; apart = apart-same s; touched = z }
 
   pub term-steps : r ≡ looked.StepsOut → AddedAs ws s s g out bs term-lines StepsOut
-  unfolding LookedAs AddedSays
-  term-steps e = untouched (stop no-steps 0) (rw e at told) (refl, refl) (g .page .touched)
+  term-steps e = untouched (rw e refl) (λ next left q. clash (cc)) (g .page .touched)
 
   pub term-path : {rest : ℕ} → r ≡ looked.PathOut rest → AddedAs ws s s g out bs term-lines (PathOut rest)
-  unfolding LookedAs AddedSays
-  term-path {rest} e = untouched (stop (at-bound waiting) rest) (rw e at told) (refl, refl) (g .page .touched)
+  term-path e = untouched (rw e refl) (λ next left q. clash (cc)) (g .page .touched)
 
   pub term-done : {rest : ℕ} {out′ : List ℕ} {next : ℕ} → r ≡ looked.Done rest → Extended g out′ next lines → AddedAs ws s s g out′ bs term-lines (Done next rest)
-  unfolding LookedAs AddedSays
-  term-done {rest} e p = untouched (done false rest) (rw e at told) (refl, p) (p .touched)
+  term-done e p = untouched (rw e refl) (page-done p) (p .touched)
 
 -- an absence
 module _ {ws s : List ℕ} {w : ℕ} {bs : Substitution} {a : Atom} {t : Term} (held : Binds ws s bs) (h : KeepsAt ws w (absento a t)) where
@@ -263,28 +269,6 @@ adding-start {s = s} g {bs} {cs} steps h k = record {
   same = then-self (all-lines bs cs steps);
 }
 
--- what each case says of the outcome
-record Says {s out : List ℕ} {first end place : ℕ} (g : Writing s out first end place) (out′ : List ℕ) (o : Outcome (List Line)) (next rest : ℕ) : Type 0 where
-  pub lines : List Line
-  pub is : o ≡ done lines rest
-  pub page : Extended g out′ next lines
-
-module _ {s out : List ℕ} {first end place : ℕ} (g : Writing s out first end place) (out′ : List ℕ) where
-  says-done : (o : Outcome (List Line)) (next rest : ℕ) → AddedSays g out′ o (Done next rest) → Says g out′ o next rest
-  unfolding AddedSays
-  says-done (done ls l) next rest h = record { lines = ls; is = ap (done ls) (sym (h .0)); page = h .1 }
-  says-done (stop why l) next rest h = absurd h
-
-  says-steps : (o : Outcome (List Line)) → AddedSays g out′ o StepsOut → o ≡ stop no-steps 0
-  unfolding AddedSays
-  says-steps (done ls l) h = absurd h
-  says-steps (stop why l) h = ap (λ z. stop z l) (h .0) ∙ ap (stop no-steps) (h .1)
-
-  says-path : (o : Outcome (List Line)) (rest : ℕ) → AddedSays g out′ o (PathOut rest) → o ≡ stop (at-bound waiting) rest
-  unfolding AddedSays
-  says-path (done ls l) rest h = absurd h
-  says-path (stop why l) rest h = ap (λ z. stop z l) (h .0) ∙ ap (stop (at-bound waiting)) (sym (h .1))
-
 module _ {ws s₀ out₀ : List ℕ} {first end place₀ : ℕ} {g : Writing s₀ out₀ first end place₀} {bs : Substitution} {cs : List Constraint} {trail kept steps : ℕ} {s out : List ℕ} {place left i : ℕ} (h : Adding ws s₀ g bs cs trail kept steps s out place left i) where
   pub adding-long : length out ≡ length out₀
   adding-long = h .page .touched .long ∙ sym (g .page .touched .long)
@@ -309,9 +293,10 @@ module _ {ws s₀ out₀ : List ℕ} {first end place₀ : ℕ} {g : Writing s�
       go (c ∷ later) e k n p = record { one = c; others = later; is = e; lists = record { held = h .whole .held; keeps = k .0; trail-is = h .whole .trail-is; passes = p .0 }; kept-in = k .1; passes = p .1 }
 
   pub adding-end : kept ≤ i → AddedAs ws s₀ s g out bs (all-lines bs cs steps) (Done place left)
-  unfolding AddedSays
   adding-end le = record {
-    says = subst (λ o. AddedSays g out o (Done place left)) (sym (h .same ∙ go (h .later) (h .count))) (refl, h .page);
+    lines = h .lines;
+    says = h .same ∙ go (h .later) (h .count);
+    page = page-done (h .page);
     bindings-in = h .whole .held .bindings-in;
     apart = h .apart;
     touched = h .page .touched;
@@ -331,21 +316,19 @@ module _ {ws s₀ out₀ : List ℕ} {first end place₀ : ℕ} {g : Writing s�
     next-is : (o : Outcome (List Line)) → lines-of bs (n .one) left ≡ o → all-lines bs cs steps ≡ and-then (and-then o (λ ls l. and-then (all-lines bs (n .others) l) (λ ms m. done (ls ++ ms) m))) (λ ms m. done (h .lines ++ ms) m)
     next-is o e = h .same ∙ ap (λ z. and-then (all-lines bs z left) (λ ms m. done (h .lines ++ ms) m)) (n .is) ∙ ap (λ z. and-then (and-then z (λ ls l. and-then (all-lines bs (n .others) l) (λ ms m. done (ls ++ ms) m))) (λ ms m. done (h .lines ++ ms) m)) e
 
-    stopped : (o : Outcome (List Line)) {x : Added} → all-lines bs cs steps ≡ o → AddedSays g out′ o x → AddedAs ws s₀ s′ g out′ bs (all-lines bs cs steps) x
-    stopped o {x} e y = record { says = subst (λ z. AddedSays g out′ z x) (sym e) y; bindings-in = told .bindings-in; apart = apart-trans (h .apart) (told .apart); touched = told .touched }
+    stopped : (o : Outcome (List Line)) {x : Added} → lines-of bs (n .one) left ≡ o → and-then (and-then o (λ ls l. and-then (all-lines bs (n .others) l) (λ ms m. done (ls ++ ms) m))) (λ ms m. done (h .lines ++ ms) m) ≡ added-says [] x
+        → ((next left : ℕ) → x ≡ Done next left → ⊥) → AddedAs ws s₀ s′ g out′ bs (all-lines bs cs steps) x
+    stopped o e y p = record { lines = []; says = next-is o e ∙ y; page = λ next left q. absurd (p next left q); bindings-in = told .bindings-in; apart = apart-trans (h .apart) (told .apart); touched = told .touched }
 
     pub adding-stops : r ≡ StepsOut → AddedAs ws s₀ s′ g out′ bs (all-lines bs cs steps) StepsOut
-    unfolding AddedSays
-    adding-stops e = stopped (stop no-steps 0) (next-is (stop no-steps 0) (says-steps adding-writing out′ (lines-of bs (n .one) left) (subst (AddedSays adding-writing out′ (lines-of bs (n .one) left)) e (told .says)))) (refl, refl)
+    adding-stops e = stopped (stop no-steps 0) (rw e at (told .says)) refl (λ next left q. clash (cc))
 
     pub adding-bound : {rest : ℕ} → r ≡ PathOut rest → AddedAs ws s₀ s′ g out′ bs (all-lines bs cs steps) (PathOut rest)
-    unfolding AddedSays
-    adding-bound {rest} e =
-        stopped (stop (at-bound waiting) rest) (next-is (stop (at-bound waiting) rest) (says-path adding-writing out′ (lines-of bs (n .one) left) rest (subst (AddedSays adding-writing out′ (lines-of bs (n .one) left)) e (told .says)))) (refl, refl)
+    adding-bound {rest} e = stopped (stop (at-bound waiting) rest) (rw e at (told .says)) refl (λ next left q. clash (cc))
 
     pub adding-on : {next rest : ℕ} → r ≡ Done next rest → Adding ws s₀ g bs cs trail kept steps s′ out′ next rest (i + 1)
     adding-on {next} {rest} e =
-        let q = says-done adding-writing out′ (lines-of bs (n .one) left) next rest (subst (AddedSays adding-writing out′ (lines-of bs (n .one) left)) e (told .says)) in
+        let q : lines-of bs (n .one) left ≡ done (told .lines) rest = rw e at (told .says) in
         let l : length (h .later) ≡ suc (length (n .others)) = ap length (n .is) in
         let z : suc i ≡ i + 1 = omega arith in
         record {
@@ -355,7 +338,7 @@ module _ {ws s₀ out₀ : List ℕ} {first end place₀ : ℕ} {g : Writing s�
           kept-in = kept-same ws s s′ (i + 1) (n .others) (λ j lo hi. told .apart .middle j (omega arith) (omega (arith, h .count, h .whole .few))) (subst (λ k. KeptIn ws s k (n .others)) z (n .kept-in));
           count = omega (arith, h .count);
           passes = n .passes;
-          lines = h .lines ++ q .lines;
-          page = subst (Page (g .before) out′ (g .begin) first end next (g .head)) (sym (add-append (g .names) (g .lines) (h .lines) (q .lines))) (q .page);
-          same = next-is (done (q .lines) rest) (q .is) ∙ then-more (h .lines) (q .lines) (all-lines bs (n .others) rest);
+          lines = h .lines ++ told .lines;
+          page = subst (Page (g .before) out′ (g .begin) first end next (g .head)) (sym (add-append (g .names) (g .lines) (h .lines) (told .lines))) (told .page next rest e);
+          same = next-is (done (told .lines) rest) q ∙ then-more (h .lines) (told .lines) (all-lines bs (n .others) rest);
         }

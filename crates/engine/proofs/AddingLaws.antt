@@ -1,20 +1,20 @@
 -- The lines of constraints, in the shape of the code's tests: a trial's, those of a term that was looked through, and of all constraints kept.
 use Prim.Native.Nat.{ℕ, suc, _+_, _-_, _≤_, _<_}
 use mathlib.Core.Path.{_≡_, refl, sym, ap, subst, _∙_}
-use mathlib.Core.Bool.{Bool, false}
-use mathlib.Core.Option.{none, some}
+use mathlib.Core.Bool.{false}
+use mathlib.Core.Option.{Option, none, some}
 use mathlib.Core.List.{List, [], _∷_, _++_, reverse, append-assoc, append-nil}
 use native.Mathlib.Omega.{arith}
 use lib.ListN.{length, length-append, length-reverse}
+use Rattle.rules.specs.Lists.{Each}
 use Rattle.rules.specs.Syntax.{Atom, Term, var, atom, pair, Sort, Constraint, differ, absento}
 use Rattle.rules.specs.Written.{sort-kind}
-use Rattle.rules.specs.Lists.{Each}
 use Rattle.semantics.specs.Substitution.{Substitution, resolve, walk}
 use Rattle.semantics.specs.Steps.{waiting, no-steps, at-bound, Outcome, done, stop, and-then}
 use Rattle.semantics.specs.Unify.{scan, never, unify-terms}
 use Rattle.semantics.specs.Answer.{appear, Line, not-all, resolve-right, look-through, trial-lines, typed-lines, lacks-each, lines-of, all-lines}
 use Rattle.semantics.specs.Invariant.{Good, Passes, Sound}
-use Rattle.semantics.proofs.TermLaws.{term-size}
+use Rattle.semantics.proofs.Basics.{clash}
 use Rattle.semantics.proofs.SubstitutionLaws.{Seen, walk-seen}
 use Rattle.semantics.proofs.UnifyLaws.{unify-some, no-news}
 use Rattle.engine.specs.Reference.{at, pos-of, KeepsAt}
@@ -23,11 +23,11 @@ use Rattle.engine.specs.Walk.{NodeAt, Binds, Follows}
 use Rattle.engine.specs.Trail.{Trailed, Undone, Apart}
 use Rattle.engine.specs.Unify.{Went, UnifiedAs}
 use Rattle.engine.specs.Keep.{AllKept}
-use Rattle.engine.specs.Look.{LookedAs, Looks, rights, Small, ThroughAs}
+use Rattle.engine.specs.Look.{look-says, LookedAs, Looks, rights, ThroughAs}
 use Rattle.engine.specs.Lines.{Equations, LineAs, as-differ}
 use Rattle.engine.specs.Put.{Touched}
 use Rattle.engine.specs.Page.{Page, add-line, add-lines, Writing, Extended, occurrences, AddsAbsent, AddsTyped}
-use Rattle.engine.specs.Adding.{AddedSays, AddedAs, Differs, Lists}
+use Rattle.engine.specs.Adding.{added-says, AddedAs, Differs, Lists}
 use Rattle.engine.specs.Review.{Kept}
 use Rattle.engine.specs.declared.line.Listed.the-variants.{Differ}
 use Rattle.engine.specs.declared.look.Looked.{Looked}
@@ -44,6 +44,10 @@ use Rattle.engine.proofs.LinesLaws.{add-append}
 use Rattle.engine.proofs.WriterLaws.{absent-once, trial-new, equations-kept}
 use Rattle.engine.proofs.ReviewSteps.{absento-term, absento-tag, DifferAt, Trial, trial-failed, trial-stepped, trial-pathed, kept-again}
 
+-- the page of lines that are done
+page-done : {o out : List ℕ} {begin first end place rest : ℕ} {head : List ℕ} {lines : List (List ℕ)} → Page o out begin first end place head lines → (next left : ℕ) → Done place rest ≡ Done next left → Page o out begin first end next head lines
+page-done {o} {out} {begin} {first} {end} {place} {rest} {head} {lines} p next left e = let z : place ≡ next = cc in subst (λ n. Page o out begin first end n head lines) z p
+
 -- A disequality
 
 module _ {ws s : List ℕ} {bs : Substitution} {a : ℕ} {u : Term} {b : ℕ} {v : Term} {trail : ℕ} (steps : ℕ) (d : Differs ws s bs a u b v trail) (s₁ : List ℕ) (r : Unified) (told : UnifiedAs ws s s₁ bs (unify-terms bs u v steps) r) where
@@ -55,26 +59,29 @@ module _ {ws s : List ℕ} {bs : Substitution} {a : ℕ} {u : Term} {b : ℕ} {v
 
   -- the trial did not succeed, and was undone
   module _ {out : List ℕ} {first end place : ℕ} (g : Writing s out first end place) (s₂ : List ℕ) (n : ℕ) (undone : (ws : List ℕ) (new bs : Substitution) → Trailed ws s₁ new bs trail n → Undone ws s₁ s₂ bs) where
-    given-back : Trial ws s₁ bs trail n → Apart s s₁ → {o : Outcome (List Line)} {x : Added} → AddedSays g out o x → AddedAs ws s s₂ g out bs o x
-    given-back t p y = let z = undone ws (t .new) bs (t .trailed) in record { says = y; bindings-in = z .bindings-in; apart = apart-trans p (undone-apart z); touched = g .page .touched }
+    given-back : Trial ws s₁ bs trail n → Apart s s₁ → {o : Outcome (Option Substitution)} {x : Added} → unify-terms bs u v steps ≡ o → and-then o (λ y l. trial-lines bs y l) ≡ added-says [] x → ((next left : ℕ) → x ≡ Done next left → Extended g out next [])
+        → AddedAs ws s s₂ g out bs (lines-of bs (differ u v) steps) x
+    given-back t p e y k =
+        let z = undone ws (t .new) bs (t .trailed) in
+        record { lines = []; says = ap (λ o. and-then o (λ y l. trial-lines bs y l)) e ∙ y; page = k; bindings-in = z .bindings-in; apart = apart-trans p (undone-apart z); touched = g .page .touched }
 
     pub differ-failed : {rest : ℕ} → r ≡ unified.Failed n rest → AddedAs ws s s₂ g out bs (lines-of bs (differ u v) steps) (Done place rest)
-    unfolding UnifiedAs AddedSays add-lines
+    unfolding UnifiedAs add-lines
     differ-failed {rest} e =
         let q : (w : Went ws s bs s₁ n) × (unify-terms bs u v steps ≡ done none rest) = rw e at told in
-        given-back (trial-failed steps (d .meets) s₁ r told e) (q .0 .apart) (subst (λ o. AddedSays g out (and-then o (λ x l. trial-lines bs x l)) (Done place rest)) (sym (q .1)) (refl, g .page))
+        given-back (trial-failed steps (d .meets) s₁ r told e) (q .0 .apart) (q .1) refl (page-done (g .page))
 
     pub differ-stepped : r ≡ unified.StepsOut n → AddedAs ws s s₂ g out bs (lines-of bs (differ u v) steps) StepsOut
-    unfolding UnifiedAs AddedSays
+    unfolding UnifiedAs
     differ-stepped e =
         let q : (w : Went ws s bs s₁ n) × (unify-terms bs u v steps ≡ stop no-steps 0) = rw e at told in
-        given-back (trial-stepped steps (d .meets) s₁ r told e) (q .0 .apart) (subst (λ o. AddedSays g out (and-then o (λ x l. trial-lines bs x l)) StepsOut) (sym (q .1)) (refl, refl))
+        given-back (trial-stepped steps (d .meets) s₁ r told e) (q .0 .apart) (q .1) refl (λ next left z. clash (cc))
 
     pub differ-pathed : {rest : ℕ} → r ≡ unified.PathOut n rest → AddedAs ws s s₂ g out bs (lines-of bs (differ u v) steps) (PathOut rest)
-    unfolding UnifiedAs AddedSays
+    unfolding UnifiedAs
     differ-pathed {rest} e =
         let q : (w : Went ws s bs s₁ n) × (unify-terms bs u v steps ≡ stop (at-bound waiting) rest) = rw e at told in
-        given-back (trial-pathed steps (d .meets) s₁ r told e) (q .0 .apart) (subst (λ o. AddedSays g out (and-then o (λ x l. trial-lines bs x l)) (PathOut rest)) (sym (q .1)) (refl, refl))
+        given-back (trial-pathed steps (d .meets) s₁ r told e) (q .0 .apart) (q .1) refl (λ next left z. clash (cc))
 
 -- The trial succeeded: its equations are kept, one at least.
 pub record Tried (ws s s₂ : List ℕ) (bs : Substitution) (u v : Term) (trail n steps rest : ℕ) : Type 0 where
@@ -118,45 +125,41 @@ right-length : (bs : Substitution) (cs : List (ℕ × Term)) → length (resolve
 right-length bs [] = refl
 right-length bs (b ∷ cs) = ap suc (right-length bs cs)
 
-equations-line : {ws s : List ℕ} {pairs mark count : ℕ} (es : List (ℕ × Term)) → 0 < length es → Equations ws s pairs mark 0 es → count ≡ length es → mark + count ≤ 2048 → LineAs ws s pairs (Differ mark count) (not-all es)
+equations-line : {ws s : List ℕ} {mark count : ℕ} (es : List (ℕ × Term)) → 0 < length es → Equations ws s mark 0 es → count ≡ length es → mark + count ≤ 2048 → LineAs ws s (Differ mark count) (not-all es)
 equations-line [] l h n f = absurd (omega arith)
 equations-line (b ∷ cs) l h n f = as-differ b cs h n f
 
-module _ {ws s s₂ : List ℕ} {bs : Substitution} {u v : Term} {trail n steps rest : ℕ} (t : Tried ws s s₂ bs u v trail n steps rest) (r : Looked) (told : ThroughAs bs (rights (reverse (t .new))) rest r) where
+module _ {ws s s₂ : List ℕ} {bs : Substitution} {u v : Term} {trail n steps rest : ℕ} (t : Tried ws s s₂ bs u v trail n steps rest) where
   pub tried-line-is : Line
   tried-line-is = not-all (resolve-right bs (reverse (t .new)))
 
-  lines-tried : lines-of bs (differ u v) steps ≡ and-then (look-through bs (rights (reverse (t .new))) rest) (λ _ l. done (not-all (resolve-right bs (reverse (t .new))) ∷ []) l)
-  lines-tried = ap (λ o. and-then o (λ x l. trial-lines bs x l)) (t .joins) ∙ ap (λ cs. and-then (look-through bs (rights cs) rest) (λ _ l. done (not-all (resolve-right bs cs) ∷ []) l)) (trial-new (t .new) bs)
-
-  pub tried-line : {after : ℕ} → r ≡ looked.Done after → LineAs ws s₂ rest (Differ trail (n - trail)) tried-line-is
-  unfolding ThroughAs tried-line-is
-  tried-line {after} e =
-      let q : (look-through bs (rights (reverse (t .new))) rest ≡ done tt after) × Each (Small bs rest) (rights (reverse (t .new))) = rw e at told in
+  pub tried-line : LineAs ws s₂ (Differ trail (n - trail)) tried-line-is
+  unfolding tried-line-is
+  tried-line =
       let h = t .looks in
       let l : length (resolve-right bs (reverse (t .new))) ≡ length (reverse (t .new)) = right-length bs (reverse (t .new)) in
-      equations-line (resolve-right bs (reverse (t .new))) (omega (arith, length-reverse (t .new), t .some-new)) (equations-kept rest trail 0 (reverse (t .new)) (h .held) (h .kept) (q .1)) (h .count-is ∙ sym l) (h .few)
+      equations-line (resolve-right bs (reverse (t .new))) (omega (arith, length-reverse (t .new), t .some-new)) (equations-kept trail 0 (reverse (t .new)) (h .held) (h .kept)) (h .count-is ∙ sym l) (h .few)
 
-  module _ {out : List ℕ} {first end place : ℕ} (g : Writing s out first end place) where
-    kept-back : {out′ : List ℕ} (o : Outcome (List Line)) {x : Added} → AddedSays g out′ o x → lines-of bs (differ u v) steps ≡ o → Touched (g .before) out′ (g .begin) end → AddedAs ws s s₂ g out′ bs (lines-of bs (differ u v) steps) x
-    kept-back {out′} o {x} y e z = record { says = subst (λ p. AddedSays g out′ p x) (sym e) y; bindings-in = t .looks .held .bindings-in; apart = t .apart; touched = z }
+  module _ (r : Looked) (told : ThroughAs bs (rights (reverse (t .new))) rest r) {out : List ℕ} {first end place : ℕ} (g : Writing s out first end place) where
+    lines-tried : lines-of bs (differ u v) steps ≡ and-then (look-says {A = Unit {0}} tt r) (λ _ l. done (tried-line-is ∷ []) l)
+    unfolding ThroughAs tried-line-is
+    lines-tried =
+        ap (λ o. and-then o (λ x l. trial-lines bs x l)) (t .joins) ∙ ap (λ cs. and-then (look-through bs (rights cs) rest) (λ _ l. done (not-all (resolve-right bs cs) ∷ []) l)) (trial-new (t .new) bs)
+        ∙ ap (λ o. and-then o (λ _ l. done (not-all (resolve-right bs (reverse (t .new))) ∷ []) l)) told
 
-    looked-is : (o : Outcome (Unit {0})) → look-through bs (rights (reverse (t .new))) rest ≡ o → lines-of bs (differ u v) steps ≡ and-then o (λ _ l. done (not-all (resolve-right bs (reverse (t .new))) ∷ []) l)
-    looked-is o e = lines-tried ∙ ap (λ z. and-then z (λ _ l. done (not-all (resolve-right bs (reverse (t .new))) ∷ []) l)) e
+    kept-back : {out′ : List ℕ} {x : Added} → and-then (look-says {A = Unit {0}} tt r) (λ _ l. done (tried-line-is ∷ []) l) ≡ added-says (tried-line-is ∷ []) x → ((next left : ℕ) → x ≡ Done next left → Extended g out′ next (tried-line-is ∷ []))
+        → Touched (g .before) out′ (g .begin) end → AddedAs ws s s₂ g out′ bs (lines-of bs (differ u v) steps) x
+    kept-back y p z = record { lines = tried-line-is ∷ []; says = lines-tried ∙ y; page = p; bindings-in = t .looks .held .bindings-in; apart = t .apart; touched = z }
 
     pub tried-steps : r ≡ looked.StepsOut → AddedAs ws s s₂ g out bs (lines-of bs (differ u v) steps) StepsOut
-    unfolding ThroughAs AddedSays
-    tried-steps e = kept-back (stop no-steps 0) (refl, refl) (looked-is (stop no-steps 0) (rw e at told)) (g .page .touched)
+    tried-steps e = kept-back (rw e refl) (λ next left q. clash (cc)) (g .page .touched)
 
     pub tried-path : {after : ℕ} → r ≡ looked.PathOut after → AddedAs ws s s₂ g out bs (lines-of bs (differ u v) steps) (PathOut after)
-    unfolding ThroughAs AddedSays
-    tried-path {after} e = kept-back (stop (at-bound waiting) after) (refl, refl) (looked-is (stop (at-bound waiting) after) (rw e at told)) (g .page .touched)
+    tried-path e = kept-back (rw e refl) (λ next left q. clash (cc)) (g .page .touched)
 
     pub tried-done : {after : ℕ} {out′ : List ℕ} {next : ℕ} → r ≡ looked.Done after → Page (g .before) out′ (g .begin) first end next (g .head) (add-line (g .names) (g .lines) tried-line-is) → AddedAs ws s s₂ g out′ bs (lines-of bs (differ u v) steps) (Done next after)
-    unfolding ThroughAs AddedSays add-lines tried-line-is
-    tried-done {after} e p =
-        let q : (look-through bs (rights (reverse (t .new))) rest ≡ done tt after) × Each (Small bs rest) (rights (reverse (t .new))) = rw e at told in
-        kept-back (done (tried-line-is ∷ []) after) (refl, p) (looked-is (done tt after) (q .0)) (p .touched)
+    unfolding add-lines
+    tried-done e p = kept-back (rw e refl) (page-done p) (p .touched)
 
 -- A term that was looked through, with the lines that its constraint comes to
 
@@ -164,44 +167,36 @@ module _ {ws s : List ℕ} {bs : Substitution} {out : List ℕ} {first end place
   abbrev term-lines : Outcome (List Line)
   term-lines = and-then (scan never bs [] t steps) (λ _ l. done lines l)
 
-  untouched : {out′ : List ℕ} (o : Outcome Bool) {x : Added} → scan never bs [] t steps ≡ o → AddedSays g out′ (and-then o (λ _ l. done lines l)) x → Touched (g .before) out′ (g .begin) end → AddedAs ws s s g out′ bs term-lines x
-  untouched {out′} o {x} e y z = record { says = subst (λ p. AddedSays g out′ (and-then p (λ _ l. done lines l)) x) (sym e) y; bindings-in = held .bindings-in; apart = apart-same s; touched = z }
+  untouched : {out′ : List ℕ} {x : Added} → and-then (look-says false r) (λ _ l. done lines l) ≡ added-says lines x → ((next left : ℕ) → x ≡ Done next left → Extended g out′ next lines) → Touched (g .before) out′ (g .begin) end
+      → AddedAs ws s s g out′ bs term-lines x
+  unfolding LookedAs
+  untouched y p z = record { lines = lines; says = ap (λ o. and-then o (λ _ l. done lines l)) told ∙ y; page = p; bindings-in = held .bindings-in; apart = apart-same s; touched = z }
 
   pub term-steps : r ≡ looked.StepsOut → AddedAs ws s s g out bs term-lines StepsOut
-  unfolding LookedAs AddedSays
-  term-steps e = untouched (stop no-steps 0) (rw e at told) (refl, refl) (g .page .touched)
+  term-steps e = untouched (rw e refl) (λ next left q. clash (cc)) (g .page .touched)
 
   pub term-path : {rest : ℕ} → r ≡ looked.PathOut rest → AddedAs ws s s g out bs term-lines (PathOut rest)
-  unfolding LookedAs AddedSays
-  term-path {rest} e = untouched (stop (at-bound waiting) rest) (rw e at told) (refl, refl) (g .page .touched)
+  term-path e = untouched (rw e refl) (λ next left q. clash (cc)) (g .page .touched)
 
   pub term-done : {rest : ℕ} {out′ : List ℕ} {next : ℕ} → r ≡ looked.Done rest → Extended g out′ next lines → AddedAs ws s s g out′ bs term-lines (Done next rest)
-  unfolding LookedAs AddedSays
-  term-done {rest} e p =
-      let q : (scan never bs [] t steps ≡ done false rest) × (term-size (resolve bs t) + rest < steps) = rw e at told in
-      untouched (done false rest) (q .0) (refl, p) (p .touched)
+  term-done e p = untouched (rw e refl) (page-done p) (p .touched)
 
 -- an absence
 module _ {ws s : List ℕ} {w : ℕ} {bs : Substitution} {a : Atom} {t : Term} (held : Binds ws s bs) (h : KeepsAt ws w (absento a t)) where
   pub absento-follows : Follows ws s bs (w + 2) t
   absento-follows = record { binds = held; stands = absento-term ws w a t h }
 
-  module _ {out : List ℕ} {first end place steps : ℕ} (g : Writing s out first end place) (r : Looked) (told : LookedAs bs t steps r) {rest : ℕ} (e : r ≡ looked.Done rest) {bits k p : ℕ} (node : NodeAt ws (w + 1) bits k p) where
-    pub absento-adds : AddsAbsent ws s out bits (w + 2) first end place steps
-    unfolding LookedAs
-    absento-adds =
-        let q : (scan never bs [] t steps ≡ done false rest) × (term-size (resolve bs t) + rest < steps) = rw e at told in
-        let l : term-size (resolve bs t) + rest < steps = q .1 in
-        record {
-          writing = g;
-          tag-of = a;
-          is-tag = atom-word-is bits a (absento-tag ws w a t h node);
-          term = resolve bs t;
-          here = record { bindings = bs; term = t; follows = absento-follows; is = refl };
-          small = omega arith;
-        }
+  module _ {out : List ℕ} {first end place : ℕ} (g : Writing s out first end place) {bits k p : ℕ} (node : NodeAt ws (w + 1) bits k p) where
+    pub absento-adds : AddsAbsent ws s out bits (w + 2) first end place
+    absento-adds = record {
+      writing = g;
+      tag-of = a;
+      is-tag = atom-word-is bits a (absento-tag ws w a t h node);
+      term = resolve bs t;
+      here = record { bindings = bs; term = t; follows = absento-follows; is = refl };
+    }
 
-    pub absento-page : {out′ : List ℕ} {place′ : ℕ} → ((k : AddsAbsent ws s out bits (w + 2) first end place steps) → Extended (k .writing) out′ place′ (lacks-each (k .tag-of) (occurrences (k .term))))
+    pub absento-page : {out′ : List ℕ} {place′ : ℕ} → ((k : AddsAbsent ws s out bits (w + 2) first end place) → Extended (k .writing) out′ place′ (lacks-each (k .tag-of) (occurrences (k .term))))
         → Extended g out′ place′ (lacks-each a (appear [] (resolve bs t)))
     unfolding absento-adds
     absento-page {out′} {place′} f = subst (Page (g .before) out′ (g .begin) first end place′ (g .head)) (absent-once (g .names) a (g .lines) (resolve bs t)) (f absento-adds)
@@ -273,28 +268,6 @@ adding-start {s = s} g {bs} {cs} steps h k = record {
   same = then-self (all-lines bs cs steps);
 }
 
--- what each case says of the outcome
-record Says {s out : List ℕ} {first end place : ℕ} (g : Writing s out first end place) (out′ : List ℕ) (o : Outcome (List Line)) (next rest : ℕ) : Type 0 where
-  pub lines : List Line
-  pub is : o ≡ done lines rest
-  pub page : Extended g out′ next lines
-
-module _ {s out : List ℕ} {first end place : ℕ} (g : Writing s out first end place) (out′ : List ℕ) where
-  says-done : (o : Outcome (List Line)) (next rest : ℕ) → AddedSays g out′ o (Done next rest) → Says g out′ o next rest
-  unfolding AddedSays
-  says-done (done ls l) next rest h = record { lines = ls; is = ap (done ls) (sym (h .0)); page = h .1 }
-  says-done (stop why l) next rest h = absurd h
-
-  says-steps : (o : Outcome (List Line)) → AddedSays g out′ o StepsOut → o ≡ stop no-steps 0
-  unfolding AddedSays
-  says-steps (done ls l) h = absurd h
-  says-steps (stop why l) h = ap (λ z. stop z l) (h .0) ∙ ap (stop no-steps) (h .1)
-
-  says-path : (o : Outcome (List Line)) (rest : ℕ) → AddedSays g out′ o (PathOut rest) → o ≡ stop (at-bound waiting) rest
-  unfolding AddedSays
-  says-path (done ls l) rest h = absurd h
-  says-path (stop why l) rest h = ap (λ z. stop z l) (h .0) ∙ ap (stop (at-bound waiting)) (sym (h .1))
-
 module _ {ws s₀ out₀ : List ℕ} {first end place₀ : ℕ} {g : Writing s₀ out₀ first end place₀} {bs : Substitution} {cs : List Constraint} {trail kept steps : ℕ} {s out : List ℕ} {place left i : ℕ} (h : Adding ws s₀ g bs cs trail kept steps s out place left i) where
   pub adding-long : length out ≡ length out₀
   adding-long = h .page .touched .long ∙ sym (g .page .touched .long)
@@ -319,9 +292,10 @@ module _ {ws s₀ out₀ : List ℕ} {first end place₀ : ℕ} {g : Writing s�
       go (c ∷ later) e k n p = record { one = c; others = later; is = e; lists = record { held = h .whole .held; keeps = k .0; trail-is = h .whole .trail-is; passes = p .0 }; kept-in = k .1; passes = p .1 }
 
   pub adding-end : kept ≤ i → AddedAs ws s₀ s g out bs (all-lines bs cs steps) (Done place left)
-  unfolding AddedSays
   adding-end le = record {
-    says = subst (λ o. AddedSays g out o (Done place left)) (sym (h .same ∙ go (h .later) (h .count))) (refl, h .page);
+    lines = h .lines;
+    says = h .same ∙ go (h .later) (h .count);
+    page = page-done (h .page);
     bindings-in = h .whole .held .bindings-in;
     apart = h .apart;
     touched = h .page .touched;
@@ -341,21 +315,19 @@ module _ {ws s₀ out₀ : List ℕ} {first end place₀ : ℕ} {g : Writing s�
     next-is : (o : Outcome (List Line)) → lines-of bs (n .one) left ≡ o → all-lines bs cs steps ≡ and-then (and-then o (λ ls l. and-then (all-lines bs (n .others) l) (λ ms m. done (ls ++ ms) m))) (λ ms m. done (h .lines ++ ms) m)
     next-is o e = h .same ∙ ap (λ z. and-then (all-lines bs z left) (λ ms m. done (h .lines ++ ms) m)) (n .is) ∙ ap (λ z. and-then (and-then z (λ ls l. and-then (all-lines bs (n .others) l) (λ ms m. done (ls ++ ms) m))) (λ ms m. done (h .lines ++ ms) m)) e
 
-    stopped : (o : Outcome (List Line)) {x : Added} → all-lines bs cs steps ≡ o → AddedSays g out′ o x → AddedAs ws s₀ s′ g out′ bs (all-lines bs cs steps) x
-    stopped o {x} e y = record { says = subst (λ z. AddedSays g out′ z x) (sym e) y; bindings-in = told .bindings-in; apart = apart-trans (h .apart) (told .apart); touched = told .touched }
+    stopped : (o : Outcome (List Line)) {x : Added} → lines-of bs (n .one) left ≡ o → and-then (and-then o (λ ls l. and-then (all-lines bs (n .others) l) (λ ms m. done (ls ++ ms) m))) (λ ms m. done (h .lines ++ ms) m) ≡ added-says [] x
+        → ((next left : ℕ) → x ≡ Done next left → ⊥) → AddedAs ws s₀ s′ g out′ bs (all-lines bs cs steps) x
+    stopped o e y p = record { lines = []; says = next-is o e ∙ y; page = λ next left q. absurd (p next left q); bindings-in = told .bindings-in; apart = apart-trans (h .apart) (told .apart); touched = told .touched }
 
     pub adding-stops : r ≡ StepsOut → AddedAs ws s₀ s′ g out′ bs (all-lines bs cs steps) StepsOut
-    unfolding AddedSays
-    adding-stops e = stopped (stop no-steps 0) (next-is (stop no-steps 0) (says-steps adding-writing out′ (lines-of bs (n .one) left) (subst (AddedSays adding-writing out′ (lines-of bs (n .one) left)) e (told .says)))) (refl, refl)
+    adding-stops e = stopped (stop no-steps 0) (rw e at (told .says)) refl (λ next left q. clash (cc))
 
     pub adding-bound : {rest : ℕ} → r ≡ PathOut rest → AddedAs ws s₀ s′ g out′ bs (all-lines bs cs steps) (PathOut rest)
-    unfolding AddedSays
-    adding-bound {rest} e =
-        stopped (stop (at-bound waiting) rest) (next-is (stop (at-bound waiting) rest) (says-path adding-writing out′ (lines-of bs (n .one) left) rest (subst (AddedSays adding-writing out′ (lines-of bs (n .one) left)) e (told .says)))) (refl, refl)
+    adding-bound {rest} e = stopped (stop (at-bound waiting) rest) (rw e at (told .says)) refl (λ next left q. clash (cc))
 
     pub adding-on : {next rest : ℕ} → r ≡ Done next rest → Adding ws s₀ g bs cs trail kept steps s′ out′ next rest (i + 1)
     adding-on {next} {rest} e =
-        let q = says-done adding-writing out′ (lines-of bs (n .one) left) next rest (subst (AddedSays adding-writing out′ (lines-of bs (n .one) left)) e (told .says)) in
+        let q : lines-of bs (n .one) left ≡ done (told .lines) rest = rw e at (told .says) in
         let l : length (h .later) ≡ suc (length (n .others)) = ap length (n .is) in
         let z : suc i ≡ i + 1 = omega arith in
         record {
@@ -365,7 +337,7 @@ module _ {ws s₀ out₀ : List ℕ} {first end place₀ : ℕ} {g : Writing s�
           kept-in = kept-same ws s s′ (i + 1) (n .others) (λ j lo hi. told .apart .middle j (omega arith) (omega (arith, h .count, h .whole .few))) (subst (λ k. KeptIn ws s k (n .others)) z (n .kept-in));
           count = omega (arith, h .count);
           passes = n .passes;
-          lines = h .lines ++ q .lines;
-          page = subst (Page (g .before) out′ (g .begin) first end next (g .head)) (sym (add-append (g .names) (g .lines) (h .lines) (q .lines))) (q .page);
-          same = next-is (done (q .lines) rest) (q .is) ∙ then-more (h .lines) (q .lines) (all-lines bs (n .others) rest);
+          lines = h .lines ++ told .lines;
+          page = subst (Page (g .before) out′ (g .begin) first end next (g .head)) (sym (add-append (g .names) (g .lines) (h .lines) (told .lines))) (told .page next rest e);
+          same = next-is (done (told .lines) rest) q ∙ then-more (h .lines) (told .lines) (all-lines bs (n .others) rest);
         }

@@ -4,12 +4,11 @@ use mathlib.Core.Path.{_≡_, refl, sym, ap, subst, _∙_}
 use mathlib.Core.Option.{some}
 use mathlib.Core.List.{List, [], _∷_, _++_, reverse, reverseAux}
 use native.Mathlib.Omega.{arith}
-use lib.Dec.{eqb}
 use lib.ListN.{length, set, length-set, length-append}
 use lib.Seq.{getD-set-same, getD-set-other}
 use borrow.Author.Tests.{eq-eqb}
 use Rattle.rules.specs.Syntax.{Term}
-use Rattle.semantics.specs.Substitution.{Substitution, lookup}
+use Rattle.semantics.specs.Substitution.{Substitution}
 use Rattle.semantics.proofs.Basics.{compared, same, other}
 use Rattle.semantics.proofs.SubstitutionLaws.{lookup-same}
 use Rattle.engine.specs.Reference.{at, Stands}

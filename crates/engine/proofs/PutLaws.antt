@@ -9,12 +9,11 @@ use lib.Seq.{getD-set-same, getD-set-other}
 use Rattle.word.specs.Word.{word}
 use Rattle.rules.specs.Inner.{Stands as Spells}
 use Rattle.rules.proofs.Stands.{stands-at as spells-at, stands-append as spells-append, stands-split as spells-split, term-some}
-use Rattle.rules.specs.Syntax.{Term, var, pair}
+use Rattle.rules.specs.Syntax.{Term, var}
 use Rattle.rules.specs.Written.{part, term-words}
 use Rattle.semantics.specs.Answer.{member, index, reify, vars-in}
 use Rattle.semantics.proofs.Basics.{clash, and-true}
 use Rattle.semantics.proofs.Names.{index-less}
-use Rattle.semantics.proofs.TermLaws.{term-size}
 use Rattle.engine.specs.Reference.{at}
 use Rattle.engine.specs.Follow.{Resolves, Shaped}
 use Rattle.engine.specs.Names.{Names}
@@ -171,20 +170,19 @@ missing-of (all-laid h) q = clash (cc)
 missing-of (some-missing h) q = h
 
 -- a term: what is put already, and what is left
-pub record Putting (ws s o₀ o : List ℕ) (w start place end : ℕ) (write : Bool) (left : ℕ) (names goal : List ℕ) : Type 0 where
+pub record Putting (ws s o₀ o : List ℕ) (w start place end : ℕ) (write : Bool) (names goal : List ℕ) : Type 0 where
   pub term : Term
   pub here : Resolves ws s w term
-  pub small : term-size term ≤ left
   pub known : vars-in names term ≡ true
   pub put : List ℕ
   pub laid : Laid o₀ o start end write put place
   pub is : put ++ term-words (reify names term) ≡ goal
 
-pub putting-start : {ws s : List ℕ} {w left : ℕ} (o : List ℕ) (start end : ℕ) (write : Bool) (t : Term) (names : List ℕ) → start ≤ end → Resolves ws s w t → vars-in names t ≡ true → term-size t ≤ left
-    → Putting ws s o o w start start end write left names (term-words (reify names t))
-putting-start o start end write t names l h k m = record { term = t; here = h; small = m; known = k; put = []; laid = laid-none o start end write l; is = refl }
+pub putting-start : {ws s : List ℕ} {w : ℕ} (o : List ℕ) (start end : ℕ) (write : Bool) (t : Term) (names : List ℕ) → start ≤ end → Resolves ws s w t → vars-in names t ≡ true
+    → Putting ws s o o w start start end write names (term-words (reify names t))
+putting-start o start end write t names l h k = record { term = t; here = h; known = k; put = []; laid = laid-none o start end write l; is = refl }
 
-module _ {ws s o₀ o : List ℕ} {w start place end : ℕ} {write : Bool} {left : ℕ} {names goal : List ℕ} (g : Putting ws s o₀ o w start place end write left names goal) where
+module _ {ws s o₀ o : List ℕ} {w start place end : ℕ} {write : Bool} {names goal : List ℕ} (g : Putting ws s o₀ o w start place end write names goal) where
   finish : {o′ : List ℕ} {r : Put} → Placed o o′ place end write (term-words (reify names (g .term))) r → Placed o₀ o′ start end write goal r
   finish {o′} {r} p = subst (λ v. Placed o₀ o′ start end write v r) (g .is) (placed-then (g .laid) p)
 
@@ -214,11 +212,11 @@ module _ {ws s o₀ o : List ℕ} {w start place end : ℕ} {write : Bool} {left
         let d = told-leaf (g .term) f e (g .here) in
         finish (subst (λ t. Placed o o′ place end write (term-words (reify names t)) q) (sym (d .1)) (subst (λ k. Placed o o′ place end write (k ∷ []) q) (d .2) p))
 
-    pub putting-pair : {a b : ℕ} → r ≡ Pair a b → Halves ws s a b left (g .term)
-    putting-pair e = halved (g .term) f e (g .here) (g .small)
+    pub putting-pair : {a b : ℕ} → r ≡ Pair a b → Halves ws s w a b (g .term)
+    putting-pair e = halved (g .term) f e (g .here)
 
   -- a pair: its first part is put, then its own word in front, then the second part is next
-  module _ {a b : ℕ} (p : Halves ws s a b left (g .term)) where
+  module _ {a b : ℕ} (p : Halves ws s w a b (g .term)) where
     parts-known : (vars-in names (p .first) ≡ true) × (vars-in names (p .second) ≡ true)
     parts-known = and-true (vars-in names (p .first)) (vars-in names (p .second)) (subst (λ t. vars-in names t ≡ true) (p .is) (g .known))
 
@@ -242,11 +240,10 @@ module _ {ws s o₀ o : List ℕ} {w start place end : ℕ} {write : Bool} {left
           finish (subst (λ v. Placed o o₂ place end write v Missed) (sym pair-words)
           (some-missing (missing-front _ (term-words (reify names (p .second))) h (subst (λ k. WordPut o₁ o₂ place k write ok) pair-word back) e)))
 
-      pub putting-next : ok ≡ true → Putting ws s o₀ o₂ b start next end write (left - 1) names goal
+      pub putting-next : ok ≡ true → Putting ws s o₀ o₂ b start next end write names goal
       putting-next e = record {
         term = p .second;
         here = p .second-here;
-        small = p .second-small;
         known = parts-known .1;
         put = g .put ++ (word 4 (length (term-words (reify names (p .first)))) ∷ term-words (reify names (p .first)));
         laid = laid-then (g .laid) (laid-front _ h (subst (λ k. WordPut o₁ o₂ place k write ok) pair-word back) e);

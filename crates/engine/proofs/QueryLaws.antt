@@ -8,8 +8,6 @@ use Rattle.rules.specs.Syntax.{var}
 use Rattle.rules.specs.Written.{term-words, terms-words}
 use Rattle.semantics.specs.Substitution.{Substitution, resolve}
 use Rattle.semantics.specs.Answer.{appear, appear-all, reify, parameters, query-terms, names-of}
-use Rattle.semantics.proofs.Basics.{same}
-use Rattle.engine.specs.Reference.{at}
 use Rattle.engine.specs.Walk.{Binds}
 use Rattle.engine.specs.Names.{Names, Named}
 use Rattle.engine.specs.Put.{Laid, Missing, Placed, all-laid, some-missing}

@@ -29,7 +29,7 @@ use Rattle.engine.specs.Trail.{Undone}
 use Rattle.engine.specs.Report.{ran, ended}
 use Rattle.engine.specs.Taking.{Holds, RelationIs, BackAs, narrow, stop-of}
 use Rattle.engine.specs.Searching.{Searching, counted-to, Answers, SearchedAs}
-use Rattle.engine.specs.Answering.{Answering, AnswerSays, AnsweredAs}
+use Rattle.engine.specs.Answering.{Answering, AnsweredAs}
 use Rattle.engine.specs.Rounds.{Clean, TallyAs, Starting, Left, RoundedAs, completed-as, broken-as}
 use Rattle.engine.specs.declared.End.{End}
 use Rattle.engine.specs.declared.End.the-variants as ends
@@ -217,37 +217,23 @@ module _ {ws s₀ output₀ : List ℕ} {P : Program} {R : Relation} {k n : ℕ}
     broken-off e d l few q is = broken-is q lent (fewer-left c (h .tally) (omega (arith, few, x .fewer, h .tally .left)) (said .leaves-lent .output-length) (said .leaves-lent .before)) is
 
     pub wrote-full : {l : ℕ} → w ≡ Full l → RoundAs ws s₀ output₀ P R k a s″ output″ (Broken ends.Output (record { left = l; used = used; answers = answers }))
-    unfolding AnswerSays tally
-    wrote-full {l} e = go (answer (x .path) n (last .left)) refl (said .says)
-      where
-        go : (o : Outcome (List ℕ)) → answer (x .path) n (last .left) ≡ o → AnswerSays output output″ used o w → RoundAs ws s₀ output₀ P R k a s″ output″ (Broken ends.Output (record { left = l; used = used; answers = answers }))
-        go (stop why m) q b = absurd (rw e at b)
-        go (done xs m) q b =
-            let b′ : (l ≡ m) × (usable (length output) < used + length xs) = rw e at b in
-            let long : h .state .tally .room < length xs = omega (arith, b′ .1, h .tally .room) in
-            let g : give P n k (x .choices) tally (done xs m) ≡ over (broken output-full (spend tally m)) = rw (lt-leb (length xs) (h .state .tally .room) long) refl in
-            broken-off output-full ends.Output l (omega (arith, b′ .0, spent q)) (goes-on q ∙ ap (λ y. onward P n k y (λ next. search P n k (x .rest) next)) g ∙ ap (λ y. broken output-full (counted-to (h .state .tally) y c)) (sym (b′ .0))) refl
+    unfolding tally
+    wrote-full {l} e =
+        let xs : List ℕ = said .words in
+        let q : answer (x .path) n (last .left) ≡ done xs l = rw e at (said .says) in
+        let long : h .state .tally .room < length xs = omega (arith, said .full l e, h .tally .room) in
+        let g : give P n k (x .choices) tally (done xs l) ≡ over (broken output-full (spend tally l)) = rw (lt-leb (length xs) (h .state .tally .room) long) refl in
+        broken-off output-full ends.Output l (spent q) (goes-on q ∙ ap (λ y. onward P n k y (λ next. search P n k (x .rest) next)) g) refl
 
     pub wrote-steps-out : w ≡ StepsOut → RoundAs ws s₀ output₀ P R k a s″ output″ (Broken ends.Steps (record { left = 0; used = used; answers = answers }))
-    unfolding AnswerSays tally
-    wrote-steps-out e = go (answer (x .path) n (last .left)) refl (said .says)
-      where
-        go : (o : Outcome (List ℕ)) → answer (x .path) n (last .left) ≡ o → AnswerSays output output″ used o w → RoundAs ws s₀ output₀ P R k a s″ output″ (Broken ends.Steps (record { left = 0; used = used; answers = answers }))
-        go (done xs m) q b = absurd (rw e at b)
-        go (stop why m) q b =
-            let b′ : (why ≡ steps.no-steps) × (m ≡ 0) = rw e at b in
-            broken-off round.steps-used ends.Steps 0 (omega arith) (goes-on q ∙ rw (b′ .0, b′ .1) refl) refl
+    unfolding tally
+    wrote-steps-out e = broken-off round.steps-used ends.Steps 0 (omega arith) (goes-on (rw e at (said .says))) refl
 
     pub wrote-path-out : {l : ℕ} → w ≡ PathOut l → RoundAs ws s₀ output₀ P R k a s″ output″ (Broken (ends.Path Waiting) (record { left = l; used = used; answers = answers }))
-    unfolding AnswerSays tally
-    wrote-path-out {l} e = go (answer (x .path) n (last .left)) refl (said .says)
-      where
-        go : (o : Outcome (List ℕ)) → answer (x .path) n (last .left) ≡ o → AnswerSays output output″ used o w → RoundAs ws s₀ output₀ P R k a s″ output″ (Broken (ends.Path Waiting) (record { left = l; used = used; answers = answers }))
-        go (done xs m) q b = absurd (rw e at b)
-        go (stop why m) q b =
-            let b′ : (why ≡ steps.at-bound steps.waiting) × (l ≡ m) = rw e at b in
-            let few : (0 < m) × (m ≤ last .left) = spent (q ∙ ap (λ y. stop y m) (b′ .0)) in
-            broken-off (round.path-limit steps.waiting) (ends.Path Waiting) l (omega (arith, b′ .1, few .1)) (goes-on q ∙ rw (b′ .0, sym (b′ .1)) refl) refl
+    unfolding tally
+    wrote-path-out {l} e =
+        let q : answer (x .path) n (last .left) ≡ stop (steps.at-bound steps.waiting) l = rw e at (said .says) in
+        broken-off (round.path-limit steps.waiting) (ends.Path Waiting) l (spent q .1) (goes-on q) refl
 
     -- It is written: the path is left with the tally that has it.
     pub record Wrote (words l : ℕ) : Type 0 where
@@ -259,35 +245,33 @@ module _ {ws s₀ output₀ : List ℕ} {P : Program} {R : Relation} {k n : ℕ}
       pub small-room : tally .room < 268435456
 
     pub wrote : {words l : ℕ} → w ≡ Written words l → Wrote words l
-    unfolding AnswerSays tally
-    wrote {words} {l} e = go (answer (x .path) n (last .left)) refl (said .says)
-      where
-        go : (o : Outcome (List ℕ)) → answer (x .path) n (last .left) ≡ o → AnswerSays output output″ used o w → Wrote words l
-        go (stop why m) q b = absurd (rw e at b)
-        go (done xs m) q b =
-            let b′ : (l ≡ m) × (words ≡ used + length xs) × (words ≤ usable (length output)) × (take words output″ ≡ take used output ++ xs) = rw e at b in
-            let t : Tally = h .state .tally in
-            let fits : length xs ≤ t .room = omega (arith, b′ .1, b′ .2, h .tally .room) in
-            let g : give P n k (x .choices) tally (done xs m) ≡ back (x .choices) (write tally k m xs) = rw (le-leb (length xs) (t .room) fits) refl in
-            let p : page (t .written ++ ((k, xs) ∷ [])) ≡ page (t .written) ++ xs = page-more (t .written) k xs in
-            let pl : length (page (t .written ++ ((k, xs) ∷ []))) ≡ length (page (t .written)) + length xs = ap length p ∙ length-append (page (t .written)) xs in
-            let wl : length (t .written ++ ((k, xs) ∷ [])) ≡ length (t .written) + 1 = length-append (t .written) ((k, xs) ∷ []) in
-            let few : m ≤ last .left = spent q in
-            record {
-              tally = write tally k m xs;
-              same = goes-on q ∙ ap (λ y. onward P n k y (λ next. search P n k (x .rest) next)) g;
-              tally-as = record {
-                left = b′ .0;
-                used = omega (arith, pl, b′ .1, h .tally .used);
-                room = omega (arith, b′ .1, fits, h .tally .room, ap usable (said .leaves-lent .output-length));
-                answers = omega (arith, wl, h .tally .answers);
-                page-is = b′ .3 ∙ ap (λ y. y ++ xs) (h .tally .page-is) ∙ sym p;
-                counted = omega (arith, few, b′ .0, x .fewer, h .tally .left, h .tally .counted);
-              };
-              fewer = omega (arith, few, b′ .0);
-              cuts-are = refl;
-              small-room = omega (arith, h .under .fine .small-room);
-            }
+    unfolding tally
+    wrote {words} {l} e =
+        let xs : List ℕ = said .words in
+        let q : answer (x .path) n (last .left) ≡ done xs l = rw e at (said .says) in
+        let b = said .written words l e in
+        let t : Tally = h .state .tally in
+        let fits : length xs ≤ t .room = omega (arith, b .used-now, b .fits, h .tally .room) in
+        let g : give P n k (x .choices) tally (done xs l) ≡ back (x .choices) (write tally k l xs) = rw (le-leb (length xs) (t .room) fits) refl in
+        let p : page (t .written ++ ((k, xs) ∷ [])) ≡ page (t .written) ++ xs = page-more (t .written) k xs in
+        let pl : length (page (t .written ++ ((k, xs) ∷ []))) ≡ length (page (t .written)) + length xs = ap length p ∙ length-append (page (t .written)) xs in
+        let wl : length (t .written ++ ((k, xs) ∷ [])) ≡ length (t .written) + 1 = length-append (t .written) ((k, xs) ∷ []) in
+        let few : l ≤ last .left = spent q in
+        record {
+          tally = write tally k l xs;
+          same = goes-on q ∙ ap (λ y. onward P n k y (λ next. search P n k (x .rest) next)) g;
+          tally-as = record {
+            left = refl;
+            used = omega (arith, pl, b .used-now, h .tally .used);
+            room = omega (arith, b .used-now, fits, h .tally .room, ap usable (said .leaves-lent .output-length));
+            answers = omega (arith, wl, h .tally .answers);
+            page-is = b .stands ∙ ap (λ y. y ++ xs) (h .tally .page-is) ∙ sym p;
+            counted = omega (arith, few, x .fewer, h .tally .left, h .tally .counted);
+          };
+          fewer = few;
+          cuts-are = refl;
+          small-room = omega (arith, h .under .fine .small-room);
+        }
 
     -- Back from there; `after` is the state with the steps that the writer left.
     module _ {words l : ℕ} (y : Wrote words l) (after : State) (is : after ≡ narrow last (last .trail) (last .kept) l) where

@@ -1,6 +1,6 @@
 -- A measure of the code that goes into followed terms, from the lists alone: the size of the resolved term. It is counted with fuel, of which there is enough as the bindings are acyclic.
 use Prim.Native.Nat.{ℕ, zero, suc, _+_, _-_, _≤_, _<_}
-use mathlib.Core.Path.{_≡_, refl, ap, ap₂, subst}
+use mathlib.Core.Path.{_≡_, refl, ap, ap₂, subst, _∙_}
 use mathlib.Core.Option.{Option, none, some}
 use mathlib.Core.List.{List, [], _∷_}
 use native.Mathlib.Omega.{arith}
@@ -18,6 +18,7 @@ use Rattle.semantics.proofs.SubstitutionLaws.{lookup-same, lookup-other, resolv
 use Rattle.engine.specs.Reference.{at, pos-of, beyond, Stands}
 use Rattle.engine.specs.Memory.{Bound, Entry, BindingsIn}
 use Rattle.engine.specs.Walk.{Follows}
+use Rattle.engine.specs.Follow.{Resolves}
 use Rattle.engine.proofs.ReferenceLaws.{atom-low, parts, stands-short}
 use Rattle.engine.proofs.TrailLaws.{fresh-few, unbind-in}
 use Rattle.engine.proofs.WalkLaws.{var-of}
@@ -164,3 +165,14 @@ reach-size {ws} {s} {bs} {w} {t} f = nodes-size ws s bs (f .binds .good) (f .bin
         let d : m - length bs + length bs ≡ m = omega arith in
         let l : levels (length bs) ≤ levels m = rw d at (levels-more (m - length bs) (length bs)) in
         fine-le (levels (length bs)) (levels m) bs t l (fine-all bs (f .binds .good) (shorts ws s bs (omega (arith, f .binds .long)) (f .binds .bindings-in)) t (stands-short (f .stands)))
+
+pub resolves-size : {ws s : List ℕ} {w : ℕ} {t : Term} → Resolves ws s w t → reach ws s w ≡ term-size t
+resolves-size h = reach-size (h .follows) ∙ ap term-size (h .is)
+
+-- the parts of a pair have a smaller reach, also in a scratch that has changed since, as long as it binds the same
+module _ {ws s s′ : List ℕ} {w v : ℕ} {a b : Term} (h : Resolves ws s w (pair a b)) where
+  pub first-reach : Resolves ws s′ v a → reach ws s′ v < reach ws s w
+  first-reach i = omega (arith, resolves-size h, resolves-size i)
+
+  pub second-reach : Resolves ws s′ v b → reach ws s′ v < reach ws s w
+  second-reach i = omega (arith, resolves-size h, resolves-size i)

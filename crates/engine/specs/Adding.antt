@@ -18,18 +18,17 @@ use Rattle.engine.specs.Page.{Writing, Extended}
 use Rattle.engine.specs.declared.constraints.Added.{Added}
 use Rattle.engine.specs.declared.constraints.Added.the-variants.{Done, StepsOut, PathOut}
 
--- what each case says: the lines are added, or a stop
-unfoldable pub AddedSays : {s out : List ℕ} {first end place : ℕ} → Writing s out first end place → List ℕ → Outcome (List Line) → Added → Type 0
-AddedSays g out′ (done ls l) (Done next left) = (left ≡ l) × Extended g out′ next ls
-AddedSays g out′ (done ls l) StepsOut = ⊥
-AddedSays g out′ (done ls l) (PathOut left) = ⊥
-AddedSays g out′ (stop why l) (Done next left) = ⊥
-AddedSays g out′ (stop why l) StepsOut = (why ≡ no-steps) × (l ≡ 0)
-AddedSays g out′ (stop why l) (PathOut left) = (why ≡ at-bound waiting) × (left ≡ l)
+-- what each case says of the lines
+abbrev pub added-says : List Line → Added → Outcome (List Line)
+added-says ls (Done next left) = done ls left
+added-says ls StepsOut = stop no-steps 0
+added-says ls (PathOut left) = stop (at-bound waiting) left
 
--- and a trial's bindings are taken back, also where it stops
+-- as the definition says; lines that are done stand on the page, and a trial's bindings are taken back, also where it stops
 pub record AddedAs (ws s s′ : List ℕ) {out : List ℕ} {first end place : ℕ} (g : Writing s out first end place) (out′ : List ℕ) (bs : Substitution) (o : Outcome (List Line)) (r : Added) : Type 0 where
-  pub says : AddedSays g out′ o r
+  pub lines : List Line
+  pub says : o ≡ added-says lines r
+  pub page : (next left : ℕ) → r ≡ Done next left → Extended g out′ next lines
   pub bindings-in : BindingsIn ws s′ bs
   pub apart : Apart s s′
   pub touched : Touched (g .before) out′ (g .begin) end

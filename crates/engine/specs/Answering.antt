@@ -28,17 +28,23 @@ pub record AnswerLeft (P : Program) (ws s output s′ output′ : List ℕ) (st 
   pub output-length : length output′ ≡ length output
   pub before : take used output′ ≡ take used output
 
--- what each case says
-unfoldable pub AnswerSays : List ℕ → List ℕ → ℕ → Outcome (List ℕ) → Answered → Type 0
-AnswerSays output output′ used (done ws l) (Written n left) = (left ≡ l) × (n ≡ used + length ws) × (n ≤ usable (length output)) × (take n output′ ≡ take used output ++ ws)
-AnswerSays output output′ used (done ws l) (Full left) = (left ≡ l) × (usable (length output) < used + length ws)
-AnswerSays output output′ used (done ws l) StepsOut = ⊥
-AnswerSays output output′ used (done ws l) (PathOut left) = ⊥
-AnswerSays output output′ used (stop why l) (Written n left) = ⊥
-AnswerSays output output′ used (stop why l) (Full left) = ⊥
-AnswerSays output output′ used (stop why l) StepsOut = (why ≡ no-steps) × (l ≡ 0)
-AnswerSays output output′ used (stop why l) (PathOut left) = (why ≡ at-bound waiting) × (left ≡ l)
+-- what each case says of the answer's words
+abbrev pub answer-says : List ℕ → Answered → Outcome (List ℕ)
+answer-says ws (Written n left) = done ws left
+answer-says ws (Full left) = done ws left
+answer-says ws StepsOut = stop no-steps 0
+answer-says ws (PathOut left) = stop (at-bound waiting) left
 
+-- the words stand behind those used, and n are used now
+pub record AnswerStands (output output′ : List ℕ) (used : ℕ) (ws : List ℕ) (n : ℕ) : Type 0 where
+  pub used-now : n ≡ used + length ws
+  pub fits : n ≤ usable (length output)
+  pub stands : take n output′ ≡ take used output ++ ws
+
+-- as the definition says, and written where there is room
 pub record AnsweredAs (P : Program) (ws s output s′ output′ : List ℕ) (st : State) (p : Path) (cs : List ChoicePoint) (used : ℕ) (o : Outcome (List ℕ)) (r : Answered) : Type 0 where
   pub leaves-lent : AnswerLeft P ws s output s′ output′ st p cs used
-  pub says : AnswerSays output output′ used o r
+  pub words : List ℕ
+  pub says : o ≡ answer-says words r
+  pub written : (n left : ℕ) → r ≡ Written n left → AnswerStands output output′ used words n
+  pub full : (left : ℕ) → r ≡ Full left → usable (length output) < used + length words

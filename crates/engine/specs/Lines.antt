@@ -8,7 +8,6 @@ use Rattle.rules.specs.Reading.{choose}
 use Rattle.rules.specs.Syntax.{Atom, Term, Sort}
 use Rattle.rules.specs.Written.{atom-word, sort-kind, goal-words}
 use Rattle.semantics.specs.Answer.{index, reify, Line, is-sort, lacks, not-all, differ-goal}
-use Rattle.semantics.specs.Invariant.{term-size}
 use Rattle.engine.specs.Reference.{at}
 use Rattle.engine.specs.Follow.{Resolves}
 use Rattle.engine.specs.declared.line.Listed.{Listed}
@@ -19,16 +18,15 @@ unfoldable pub half : List ℕ → ℕ → ℕ
 half s i = choose (eqb (i % 2) 0) (λ _. at s (10752 + i / 2) % 65536) (λ _. at s (10752 + i / 2) / 65536)
 
 -- equation i of those above the mark, its right side followed
-pub record Equation (ws s : List ℕ) (pairs mark i : ℕ) (b : ℕ × Term) : Type 0 where
+pub record Equation (ws s : List ℕ) (mark i : ℕ) (b : ℕ × Term) : Type 0 where
   pub variable : half s i ≡ b .0
   pub low : b .0 < 2048
   pub right : Resolves ws s (at s (2048 + mark + i)) (b .1)
-  pub small : term-size (b .1) ≤ pairs
 
 -- from equation i on
-unfoldable pub Equations : List ℕ → List ℕ → ℕ → ℕ → ℕ → List (ℕ × Term) → Type 0
-Equations ws s pairs mark i [] = Unit {0}
-Equations ws s pairs mark i (b ∷ cs) = Equation ws s pairs mark i b × Equations ws s pairs mark (i + 1) cs
+unfoldable pub Equations : List ℕ → List ℕ → ℕ → ℕ → List (ℕ × Term) → Type 0
+Equations ws s mark i [] = Unit {0}
+Equations ws s mark i (b ∷ cs) = Equation ws s mark i b × Equations ws s mark (i + 1) cs
 
 -- the words of an equation, with names
 unfoldable pub equation-words : List ℕ → ℕ × Term → List ℕ
@@ -39,7 +37,7 @@ equations-words names [] = []
 equations-words names (b ∷ cs) = equation-words names b ++ equations-words names cs
 
 -- what the code's line says
-pub data LineAs (ws s : List ℕ) (pairs : ℕ) : Listed → Line → Type 0 where
-  as-sort : {k x : ℕ} (sort : Sort) → k ≡ sort-kind sort → x < 2048 → LineAs ws s pairs (Typed k x) (is-sort sort x)
-  as-lacks : {tag x : ℕ} (a : Atom) → tag ≡ atom-word a → x < 2048 → LineAs ws s pairs (Lacks tag x) (lacks a x)
-  as-differ : {mark count : ℕ} (b : ℕ × Term) (cs : List (ℕ × Term)) → Equations ws s pairs mark 0 (b ∷ cs) → count ≡ suc (length cs) → mark + count ≤ 2048 → LineAs ws s pairs (Differ mark count) (not-all (b ∷ cs))
+pub data LineAs (ws s : List ℕ) : Listed → Line → Type 0 where
+  as-sort : {k x : ℕ} (sort : Sort) → k ≡ sort-kind sort → x < 2048 → LineAs ws s (Typed k x) (is-sort sort x)
+  as-lacks : {tag x : ℕ} (a : Atom) → tag ≡ atom-word a → x < 2048 → LineAs ws s (Lacks tag x) (lacks a x)
+  as-differ : {mark count : ℕ} (b : ℕ × Term) (cs : List (ℕ × Term)) → Equations ws s mark 0 (b ∷ cs) → count ≡ suc (length cs) → mark + count ≤ 2048 → LineAs ws s (Differ mark count) (not-all (b ∷ cs))

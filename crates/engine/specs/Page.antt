@@ -9,7 +9,6 @@ use Rattle.rules.specs.Syntax.{Atom, Term, var, atom, pair, Sort}
 use Rattle.rules.specs.Written.{part, atom-word, sort-kind}
 use Rattle.rules.specs.Inner.{Stands as Spells}
 use Rattle.semantics.specs.Answer.{Line, line-words, stays}
-use Rattle.semantics.specs.Invariant.{term-size}
 use Rattle.engine.specs.Follow.{Resolves}
 use Rattle.engine.specs.Names.{Names}
 use Rattle.engine.specs.Put.{Touched, Laid}
@@ -75,13 +74,12 @@ occurrences (atom a) = []
 occurrences (pair s t) = occurrences s ++ occurrences t
 
 -- an absence or a type whose lines are to be added
-pub record AddsAbsent (ws s out : List ℕ) (tag w first end place pairs : ℕ) : Type 0 where
+pub record AddsAbsent (ws s out : List ℕ) (tag w first end place : ℕ) : Type 0 where
   pub writing : Writing s out first end place
   pub tag-of : Atom
   pub is-tag : tag ≡ atom-word tag-of
   pub term : Term
   pub here : Resolves ws s w term
-  pub small : term-size term ≤ pairs
 
 pub record AddsTyped (ws s out : List ℕ) (kind w first end place : ℕ) : Type 0 where
   pub writing : Writing s out first end place

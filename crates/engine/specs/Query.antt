@@ -3,24 +3,21 @@ use Prim.Native.Nat.{ℕ, _+_, _≤_, _<_}
 use mathlib.Core.Path.{_≡_}
 use mathlib.Core.Bool.{true}
 use mathlib.Core.List.{List, map}
+use lib.Dec.{ltb}
+use Rattle.rules.specs.Reading.{choose}
 use Rattle.rules.specs.Syntax.{var}
 use Rattle.rules.specs.Written.{part, terms-words}
 use Rattle.semantics.specs.Substitution.{Substitution, resolve}
 use Rattle.semantics.specs.Answer.{vars-in, reify, query-terms}
-use Rattle.semantics.specs.Invariant.{term-size}
 use Rattle.engine.specs.Walk.{Binds}
 use Rattle.engine.specs.Names.{Names}
-use Rattle.engine.specs.Put.{Laid}
+use Rattle.engine.specs.Put.{Touched, Laid}
 use Rattle.engine.specs.declared.constraints.Added.{Added}
 use Rattle.engine.specs.declared.constraints.Added.the-variants as added
 use Rattle.engine.specs.declared.answer.Answered.{Answered}
 use Rattle.engine.specs.declared.answer.Answered.the-variants as answered
 
--- the query terms have few pairs
-abbrev pub Small : Substitution → ℕ → ℕ → Type 0
-Small bs n pairs = (x : ℕ) → x < n → term-size (resolve bs (var x)) ≤ pairs
-
--- and their open variables have names
+-- the open variables of the query terms have names
 abbrev pub Known : Substitution → List ℕ → ℕ → Type 0
 Known bs names n = (x : ℕ) → x < n → vars-in names (resolve bs (var x)) ≡ true
 
@@ -29,30 +26,24 @@ abbrev pub query-words : Substitution → List ℕ → ℕ → ℕ → List ℕ
 query-words bs names i n = terms-words (map (reify names) (query-terms bs i n))
 
 -- query terms that are to be put
-pub record Query (ws s : List ℕ) (n pairs : ℕ) (bs : Substitution) (names : List ℕ) : Type 0 where
+pub record Query (ws s : List ℕ) (n : ℕ) (bs : Substitution) (names : List ℕ) : Type 0 where
   pub top : ℕ
   pub binds : Binds ws s bs
   pub named : Names s top names
   pub known : Known bs names n
-  pub small : Small bs n pairs
 
 -- the words of an answer but its own, from the word after `start` on, if they fit
-unfoldable pub Ends : List ℕ → List ℕ → ℕ → ℕ → List ℕ → Added → Type 0
-Ends o₀ o start end v (added.Done place left) = place ≤ end → Laid o₀ o (start + 1) end true v place
-Ends o₀ o start end v added.StepsOut = Unit {0}
-Ends o₀ o start end v (added.PathOut left) = Unit {0}
+abbrev pub Ends : List ℕ → List ℕ → ℕ → ℕ → List ℕ → Added → Type 0
+Ends o₀ o start end v r = (place left : ℕ) → r ≡ added.Done place left → place ≤ end → Laid o₀ o (start + 1) end true v place
+
+-- what becomes of the end of the lines
+abbrev pub end-says : ℕ → Added → Answered
+end-says end (added.Done place left) = choose (ltb end place) (λ _. answered.Full left) (λ _. answered.Written place left)
+end-says end added.StepsOut = answered.StepsOut
+end-says end (added.PathOut left) = answered.PathOut left
 
 -- with its own word, where all of it fits
-unfoldable pub EndedAs : List ℕ → List ℕ → List ℕ → ℕ → ℕ → List ℕ → Added → Answered → Type 0
-EndedAs o₀ o o′ start end v (added.Done place left) (answered.Written n l) = (place ≤ end) × (l ≡ left) × Laid o₀ o′ start end true (part 15 v) n
-EndedAs o₀ o o′ start end v (added.Done place left) (answered.Full l) = (end < place) × (l ≡ left) × (o′ ≡ o)
-EndedAs o₀ o o′ start end v (added.Done place left) answered.StepsOut = ⊥
-EndedAs o₀ o o′ start end v (added.Done place left) (answered.PathOut l) = ⊥
-EndedAs o₀ o o′ start end v added.StepsOut (answered.Written n l) = ⊥
-EndedAs o₀ o o′ start end v added.StepsOut (answered.Full l) = ⊥
-EndedAs o₀ o o′ start end v added.StepsOut answered.StepsOut = o′ ≡ o
-EndedAs o₀ o o′ start end v added.StepsOut (answered.PathOut l) = ⊥
-EndedAs o₀ o o′ start end v (added.PathOut left) (answered.Written n l) = ⊥
-EndedAs o₀ o o′ start end v (added.PathOut left) (answered.Full l) = ⊥
-EndedAs o₀ o o′ start end v (added.PathOut left) answered.StepsOut = ⊥
-EndedAs o₀ o o′ start end v (added.PathOut left) (answered.PathOut l) = (l ≡ left) × (o′ ≡ o)
+pub record EndedAs (o₀ o o′ : List ℕ) (start end : ℕ) (v : List ℕ) (r : Added) (q : Answered) : Type 0 where
+  pub says : q ≡ end-says end r
+  pub written : (n left : ℕ) → q ≡ answered.Written n left → Laid o₀ o′ start end true (part 15 v) n
+  pub touched : Touched o₀ o (start + 1) end → Touched o₀ o′ start end

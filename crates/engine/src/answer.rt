@@ -49,15 +49,14 @@ fn begin_page(
     params: u32,
     start: usize,
     end: usize,
-    pairs: u32,
 ) -> usize
-    requires { ⌜ (end ≤ length (now output)) × (end < 268435456) × (params ≤ 2048) × ((bs : Substitution) × (names : List ℕ) × Query (now program) (now scratch) params pairs bs names) ⌝ }
-    ensures { λ r. ⌜ ((bs : Substitution) (names : List ℕ) → Query (now (program .entry)) (now (scratch .entry)) params pairs bs names → Page (now (output .entry)) (now (output .exit)) (start + 1) r end r (query-words bs names 0 params) []) ⌝ }
+    requires { ⌜ (end ≤ length (now output)) × (end < 268435456) × (params ≤ 2048) × ((bs : Substitution) × (names : List ℕ) × Query (now program) (now scratch) params bs names) ⌝ }
+    ensures { λ r. ⌜ ((bs : Substitution) (names : List ℕ) → Query (now (program .entry)) (now (scratch .entry)) params bs names → Page (now (output .entry)) (now (output .exit)) (start + 1) r end r (query-words bs names 0 params) []) ⌝ }
 {
     if end <= start {
         return end + 1;
     }
-    match put_parameters(program, scratch, output, params, start + 1, end, pairs) {
+    match put_parameters(program, scratch, output, params, start + 1, end) {
         Put::End(next) => {
             return next;
         }
@@ -111,8 +110,8 @@ pub(crate) fn write_answer(
         Looked::Done(left) => {
             let start = used as usize;
             let end = usable(output.len());
-            let top = name_parameters(program, scratch, params, state.left);
-            let first = begin_page(program, scratch, output, params, start, end, state.left);
+            let top = name_parameters(program, scratch, params);
+            let first = begin_page(program, scratch, output, params, start, end);
             let added = add_constraints(
                 program,
                 scratch,

@@ -81,7 +81,7 @@ fn differ_lines(
                 }
                 Looked::Done(after) => {
                     let line = Listed::Differ(mark, count);
-                    let next = add_line(program, scratch, output, line, first, end, at, rest);
+                    let next = add_line(program, scratch, output, line, first, end, at);
                     return Added::Done(next, after);
                 }
             }
@@ -116,7 +116,7 @@ fn absence_lines(
         }
         Looked::Done(rest) => {
             let tag = node_at(program, constraint + 1).bits;
-            let next = add_absent(program, scratch, output, tag, term, first, end, at, steps);
+            let next = add_absent(program, scratch, output, tag, term, first, end, at);
             return Added::Done(next, rest);
         }
     }

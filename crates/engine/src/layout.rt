@@ -1,7 +1,11 @@
 // Numbers of the memory and of a path.
+use word::Word;
 
 // A reference is a position in the program and, so many times, the base of its environment.
 pub(crate) const ENVIRONMENT: u32 = 16384;
+
+// A word of kind pair, which no leaf of a term has.
+pub(crate) const PAIR_WORD: u32 = Word::PAIR * 268435456;
 
 // Places in the scratch: each area's first word. The whole is below 12,288 words. From word 0 on, a variable's word is 0 while it is open, else the
 // reference that it is bound to, plus 1.

@@ -10,7 +10,7 @@ use crate::put::put_term;
 use crate::put::put_variable;
 use word::Word;
 ghost use mathlib.Core.Path.{_≡_};
-ghost use mathlib.Core.Bool.{Bool, true, _&&_};
+ghost use mathlib.Core.Bool.{true, _&&_};
 ghost use mathlib.Core.List.{List, _∷_};
 ghost use Prim.Native.Nat.{ℕ, _≤_, _<_, _+_};
 ghost use lib.ListN.{length};
@@ -50,10 +50,9 @@ pub(crate) fn put_equation(
     start: usize,
     end: usize,
     write: bool,
-    pairs: u32,
 ) -> Put
-    requires { ⌜ (end ≤ length (now output)) × (end < 268435456) × (mark + i < 2048) × ((b : ℕ × Term) × (top : ℕ) × (names : List ℕ) × Equation (now program) (now scratch) pairs mark i b × Names (now scratch) top names × ((member (b .0) names && vars-in names (b .1)) ≡ true)) ⌝ }
-    ensures { λ r. ⌜ ((b : ℕ × Term) (top : ℕ) (names : List ℕ) → Equation (now (program .entry)) (now (scratch .entry)) pairs mark i b → Names (now (scratch .entry)) top names → (member (b .0) names && vars-in names (b .1)) ≡ true → start ≤ end → Placed (now (output .entry)) (now (output .exit)) start end write (equation-words names b) r) ⌝ }
+    requires { ⌜ (end ≤ length (now output)) × (end < 268435456) × (mark + i < 2048) × ((b : ℕ × Term) × (top : ℕ) × (names : List ℕ) × Equation (now program) (now scratch) mark i b × Names (now scratch) top names × ((member (b .0) names && vars-in names (b .1)) ≡ true)) ⌝ }
+    ensures { λ r. ⌜ ((b : ℕ × Term) (top : ℕ) (names : List ℕ) → Equation (now (program .entry)) (now (scratch .entry)) mark i b → Names (now (scratch .entry)) top names → (member (b .0) names && vars-in names (b .1)) ≡ true → start ≤ end → Placed (now (output .entry)) (now (output .exit)) start end write (equation-words names b) r) ⌝ }
 {
     if end <= start {
         return Put::Missed;
@@ -65,7 +64,7 @@ pub(crate) fn put_equation(
         }
         Put::End(middle) => {
             let right = scratch[TRAIL + mark + i];
-            match put_term(program, scratch, output, right, middle, end, write, pairs) {
+            match put_term(program, scratch, output, right, middle, end, write) {
                 Put::Missed => {
                     return Put::Missed;
                 }
@@ -87,15 +86,14 @@ pub(crate) fn put_equations(
     start: usize,
     end: usize,
     write: bool,
-    pairs: u32,
 ) -> Put
-    requires { ⌜ (start ≤ end) × (end ≤ length (now output)) × (end < 268435456) × (mark + count ≤ 2048) × ((cs : List (ℕ × Term)) × (top : ℕ) × (names : List ℕ) × Equations (now program) (now scratch) pairs mark 0 cs × (count ≡ length cs) × Names (now scratch) top names × (bindings-in names cs ≡ true)) ⌝ }
-    ensures { λ r. ⌜ ((cs : List (ℕ × Term)) (top : ℕ) (names : List ℕ) → Equations (now (program .entry)) (now (scratch .entry)) pairs mark 0 cs → count ≡ length cs → Names (now (scratch .entry)) top names → bindings-in names cs ≡ true → Placed (now (output .entry)) (now (output .exit)) start end write (equations-words names cs) r) ⌝ }
+    requires { ⌜ (start ≤ end) × (end ≤ length (now output)) × (end < 268435456) × (mark + count ≤ 2048) × ((cs : List (ℕ × Term)) × (top : ℕ) × (names : List ℕ) × Equations (now program) (now scratch) mark 0 cs × (count ≡ length cs) × Names (now scratch) top names × (bindings-in names cs ≡ true)) ⌝ }
+    ensures { λ r. ⌜ ((cs : List (ℕ × Term)) (top : ℕ) (names : List ℕ) → Equations (now (program .entry)) (now (scratch .entry)) mark 0 cs → count ≡ length cs → Names (now (scratch .entry)) top names → bindings-in names cs ≡ true → Placed (now (output .entry)) (now (output .exit)) start end write (equations-words names cs) r) ⌝ }
 {
     let mut at = start;
     let mut i = 0;
     while i < count {
-        match put_equation(program, scratch, output, mark, i, at, end, write, pairs) {
+        match put_equation(program, scratch, output, mark, i, at, end, write) {
             Put::Missed => {
                 return Put::Missed;
             }
@@ -169,38 +167,17 @@ pub(crate) fn put_differ(
     start: usize,
     end: usize,
     write: bool,
-    pairs: u32,
 ) -> Put
-    requires { ⌜ (start ≤ end) × (end ≤ length (now output)) × (end < 268435456) × (mark + count ≤ 2048) × ((b : ℕ × Term) × (cs : List (ℕ × Term)) × (top : ℕ) × (names : List ℕ) × Equations (now program) (now scratch) pairs mark 0 (b ∷ cs) × (count ≡ length (b ∷ cs)) × Names (now scratch) top names × (bindings-in names (b ∷ cs) ≡ true)) ⌝ }
-    ensures { λ r. ⌜ ((b : ℕ × Term) (cs : List (ℕ × Term)) (top : ℕ) (names : List ℕ) → Equations (now (program .entry)) (now (scratch .entry)) pairs mark 0 (b ∷ cs) → count ≡ length (b ∷ cs) → Names (now (scratch .entry)) top names → bindings-in names (b ∷ cs) ≡ true → Placed (now (output .entry)) (now (output .exit)) start end write (line-words names (not-all (b ∷ cs))) r) ⌝ }
+    requires { ⌜ (start ≤ end) × (end ≤ length (now output)) × (end < 268435456) × (mark + count ≤ 2048) × ((b : ℕ × Term) × (cs : List (ℕ × Term)) × (top : ℕ) × (names : List ℕ) × Equations (now program) (now scratch) mark 0 (b ∷ cs) × (count ≡ length (b ∷ cs)) × Names (now scratch) top names × (bindings-in names (b ∷ cs) ≡ true)) ⌝ }
+    ensures { λ r. ⌜ ((b : ℕ × Term) (cs : List (ℕ × Term)) (top : ℕ) (names : List ℕ) → Equations (now (program .entry)) (now (scratch .entry)) mark 0 (b ∷ cs) → count ≡ length (b ∷ cs) → Names (now (scratch .entry)) top names → bindings-in names (b ∷ cs) ≡ true → Placed (now (output .entry)) (now (output .exit)) start end write (line-words names (not-all (b ∷ cs))) r) ⌝ }
 {
     if count == 1 {
-        return put_equations(
-            program,
-            scratch,
-            output,
-            mark,
-            count,
-            start,
-            end,
-            write,
-            pairs,
-        );
+        return put_equations(program, scratch, output, mark, count, start, end, write);
     }
     if end <= start {
         return Put::Missed;
     }
-    match put_equations(
-        program,
-        scratch,
-        output,
-        mark,
-        count,
-        start + 1,
-        end,
-        write,
-        pairs,
-    ) {
+    match put_equations(program, scratch, output, mark, count, start + 1, end, write) {
         Put::Missed => {
             return Put::Missed;
         }
@@ -219,10 +196,9 @@ pub(crate) fn put_line(
     start: usize,
     end: usize,
     write: bool,
-    pairs: u32,
 ) -> Put
-    requires { ⌜ (start ≤ end) × (end ≤ length (now output)) × (end < 268435456) × (12288 ≤ length (now scratch)) × ((l : Line) × (top : ℕ) × (names : List ℕ) × LineAs (now program) (now scratch) pairs line l × Names (now scratch) top names × (line-in names l ≡ true)) ⌝ }
-    ensures { λ r. ⌜ ((l : Line) (top : ℕ) (names : List ℕ) → LineAs (now (program .entry)) (now (scratch .entry)) pairs line l → Names (now (scratch .entry)) top names → line-in names l ≡ true → Placed (now (output .entry)) (now (output .exit)) start end write (line-words names l) r) ⌝ }
+    requires { ⌜ (start ≤ end) × (end ≤ length (now output)) × (end < 268435456) × (12288 ≤ length (now scratch)) × ((l : Line) × (top : ℕ) × (names : List ℕ) × LineAs (now program) (now scratch) line l × Names (now scratch) top names × (line-in names l ≡ true)) ⌝ }
+    ensures { λ r. ⌜ ((l : Line) (top : ℕ) (names : List ℕ) → LineAs (now (program .entry)) (now (scratch .entry)) line l → Names (now (scratch .entry)) top names → line-in names l ≡ true → Placed (now (output .entry)) (now (output .exit)) start end write (line-words names l) r) ⌝ }
 {
     match line {
         Listed::Typed(kind, x) => {
@@ -232,17 +208,7 @@ pub(crate) fn put_line(
             return put_lacks(scratch, output, tag, x, start, end, write);
         }
         Listed::Differ(mark, count) => {
-            return put_differ(
-                program,
-                scratch,
-                output,
-                mark,
-                count,
-                start,
-                end,
-                write,
-                pairs,
-            );
+            return put_differ(program, scratch, output, mark, count, start, end, write);
         }
     }
 }
@@ -258,38 +224,26 @@ pub(crate) fn has_name(scratch: &[u32], x: u32) -> bool
 }
 
 // Whether every variable of equation `i` has a name.
-pub(crate) fn equation_named(
-    program: &[u32],
-    scratch: &[u32],
-    mark: usize,
-    i: usize,
-    pairs: u32,
-) -> bool
-    requires { ⌜ (mark + i < 2048) × ((b : ℕ × Term) × (top : ℕ) × (names : List ℕ) × Equation (now program) (now scratch) pairs mark i b × Names (now scratch) top names) ⌝ }
-    ensures { λ r. ⌜ ((b : ℕ × Term) (top : ℕ) (names : List ℕ) → Equation (now (program .entry)) (now (scratch .entry)) pairs mark i b → Names (now (scratch .entry)) top names → r ≡ (member (b .0) names && vars-in names (b .1))) ⌝ }
+pub(crate) fn equation_named(program: &[u32], scratch: &[u32], mark: usize, i: usize) -> bool
+    requires { ⌜ (mark + i < 2048) × ((b : ℕ × Term) × (top : ℕ) × (names : List ℕ) × Equation (now program) (now scratch) mark i b × Names (now scratch) top names) ⌝ }
+    ensures { λ r. ⌜ ((b : ℕ × Term) (top : ℕ) (names : List ℕ) → Equation (now (program .entry)) (now (scratch .entry)) mark i b → Names (now (scratch .entry)) top names → r ≡ (member (b .0) names && vars-in names (b .1))) ⌝ }
 {
     let x = variable_at(scratch, i);
     if has_name(scratch, x) {
         let right = scratch[TRAIL + mark + i];
-        return all_named(program, scratch, right, pairs);
+        return all_named(program, scratch, right);
     }
     false
 }
 
 // Of the first `count` equations.
-pub(crate) fn equations_named(
-    program: &[u32],
-    scratch: &[u32],
-    mark: usize,
-    count: usize,
-    pairs: u32,
-) -> bool
-    requires { ⌜ (mark + count ≤ 2048) × ((cs : List (ℕ × Term)) × (top : ℕ) × (names : List ℕ) × Equations (now program) (now scratch) pairs mark 0 cs × (count ≡ length cs) × Names (now scratch) top names) ⌝ }
-    ensures { λ r. ⌜ ((cs : List (ℕ × Term)) (top : ℕ) (names : List ℕ) → Equations (now (program .entry)) (now (scratch .entry)) pairs mark 0 cs → count ≡ length cs → Names (now (scratch .entry)) top names → r ≡ bindings-in names cs) ⌝ }
+pub(crate) fn equations_named(program: &[u32], scratch: &[u32], mark: usize, count: usize) -> bool
+    requires { ⌜ (mark + count ≤ 2048) × ((cs : List (ℕ × Term)) × (top : ℕ) × (names : List ℕ) × Equations (now program) (now scratch) mark 0 cs × (count ≡ length cs) × Names (now scratch) top names) ⌝ }
+    ensures { λ r. ⌜ ((cs : List (ℕ × Term)) (top : ℕ) (names : List ℕ) → Equations (now (program .entry)) (now (scratch .entry)) mark 0 cs → count ≡ length cs → Names (now (scratch .entry)) top names → r ≡ bindings-in names cs) ⌝ }
 {
     let mut i = 0;
     while i < count {
-        if equation_named(program, scratch, mark, i, pairs) {
+        if equation_named(program, scratch, mark, i) {
             i += 1;
         } else {
             return false;
@@ -299,9 +253,9 @@ pub(crate) fn equations_named(
 }
 
 // Of a line. One that mentions a variable with no name is dropped.
-pub(crate) fn line_named(program: &[u32], scratch: &[u32], line: Listed, pairs: u32) -> bool
-    requires { ⌜ (12288 ≤ length (now scratch)) × ((l : Line) × (top : ℕ) × (names : List ℕ) × LineAs (now program) (now scratch) pairs line l × Names (now scratch) top names) ⌝ }
-    ensures { λ r. ⌜ ((l : Line) (top : ℕ) (names : List ℕ) → LineAs (now (program .entry)) (now (scratch .entry)) pairs line l → Names (now (scratch .entry)) top names → r ≡ line-in names l) ⌝ }
+pub(crate) fn line_named(program: &[u32], scratch: &[u32], line: Listed) -> bool
+    requires { ⌜ (12288 ≤ length (now scratch)) × ((l : Line) × (top : ℕ) × (names : List ℕ) × LineAs (now program) (now scratch) line l × Names (now scratch) top names) ⌝ }
+    ensures { λ r. ⌜ ((l : Line) (top : ℕ) (names : List ℕ) → LineAs (now (program .entry)) (now (scratch .entry)) line l → Names (now (scratch .entry)) top names → r ≡ line-in names l) ⌝ }
 {
     match line {
         Listed::Typed(_, x) => {
@@ -311,7 +265,7 @@ pub(crate) fn line_named(program: &[u32], scratch: &[u32], line: Listed, pairs: 
             return has_name(scratch, x);
         }
         Listed::Differ(mark, count) => {
-            return equations_named(program, scratch, mark, count, pairs);
+            return equations_named(program, scratch, mark, count);
         }
     }
 }

@@ -32,7 +32,6 @@ pub(crate) fn add_typed(
                 first,
                 end,
                 at,
-                0,
             );
         }
         Shape::Atom(_) => {
@@ -54,14 +53,12 @@ pub(crate) fn add_absent(
     first: usize,
     end: usize,
     at: usize,
-    pairs: u32,
 ) -> usize
-    requires { ⌜ (end ≤ length (now output)) × (end < 268435456) × AddsAbsent (now program) (now scratch) (now output) tag term first end at pairs ⌝ }
-    ensures { λ r. ⌜ ((g : AddsAbsent (now (program .entry)) (now (scratch .entry)) (now (output .entry)) tag term first end at pairs) → Extended (g .writing) (now (output .exit)) r (lacks-each (g .tag-of) (occurrences (g .term)))) ⌝ }
+    requires { ⌜ (end ≤ length (now output)) × (end < 268435456) × AddsAbsent (now program) (now scratch) (now output) tag term first end at ⌝ }
+    ensures { λ r. ⌜ ((g : AddsAbsent (now (program .entry)) (now (scratch .entry)) (now (output .entry)) tag term first end at) → Extended (g .writing) (now (output .exit)) r (lacks-each (g .tag-of) (occurrences (g .term)))) ⌝ }
 {
     let mut from = term;
     let mut place = at;
-    let mut left = pairs;
     loop {
         match follow(program, scratch, from) {
             Shape::Open(x) => {
@@ -73,15 +70,13 @@ pub(crate) fn add_absent(
                     first,
                     end,
                     place,
-                    left,
                 );
             }
             Shape::Atom(_) => {
                 return place;
             }
             Shape::Pair(a, b) => {
-                left -= 1;
-                place = add_absent(program, scratch, output, tag, a, first, end, place, left);
+                place = add_absent(program, scratch, output, tag, a, first, end, place);
                 from = b;
             }
         }

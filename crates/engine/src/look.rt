@@ -1,4 +1,5 @@
 // The writer's steps: it looks at all nodes of a term.
+use crate::layout::PAIR_WORD;
 use crate::layout::TRAIL;
 use crate::scan::Scanned;
 use crate::scan::scan;
@@ -16,16 +17,13 @@ pub enum Looked {
     PathOut(u32),
 }
 
-// A word of kind pair is no node's word, so the scan goes on to the end.
+// The word sought is no leaf's, so the scan finds nothing and goes on to the end.
 pub(crate) fn look(program: &[u32], scratch: &[u32], term: u32, steps: u32) -> Looked
     requires { ⌜ ((bs : Substitution) × (t : Term) × Follows (now program) (now scratch) bs term t) ⌝ }
     ensures { λ r. ⌜ ((bs : Substitution) (t : Term) → Follows (now (program .entry)) (now (scratch .entry)) bs term t → LookedAs bs t steps r) ⌝ }
 {
-    match scan(&*program, &*scratch, 1073741824, term, 0, steps) {
-        Scanned::Found(left) => {
-            return Looked::Done(left);
-        }
-        Scanned::Clear(left) => {
+    match scan(&*program, &*scratch, PAIR_WORD, term, 0, steps) {
+        Scanned::Found(left) | Scanned::Clear(left) => {
             return Looked::Done(left);
         }
         Scanned::StepsOut => {

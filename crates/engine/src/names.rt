@@ -6,13 +6,11 @@ use crate::follow::Shape;
 use crate::follow::follow;
 use crate::layout::NAMES;
 ghost use mathlib.Core.Path.{_≡_};
-ghost use mathlib.Core.Bool.{Bool};
 ghost use mathlib.Core.List.{List, []};
 ghost use Prim.Native.Nat.{ℕ, _≤_, _<_, _+_};
 ghost use lib.ListN.{length};
 ghost use Rattle.rules.specs.Syntax.{Term, var};
 ghost use Rattle.semantics.specs.Answer.{appear, vars-in};
-ghost use Rattle.semantics.specs.Invariant.{term-size};
 ghost use Rattle.engine.specs.Follow.{Resolves};
 ghost use Rattle.engine.specs.Names.{Names, Named};
 
@@ -29,20 +27,13 @@ pub(crate) fn name_variable(scratch: &mut [u32], x: u32, top: u32) -> u32
     top % 4096 + 1 + 4096 * (x + 1)
 }
 
-// Names the open variables of a term of at most `pairs` pairs.
-pub(crate) fn name_term(
-    program: &[u32],
-    scratch: &mut [u32],
-    term: u32,
-    top: u32,
-    pairs: u32,
-) -> u32
-    requires { ⌜ ((t : Term) × (names : List ℕ) × Resolves (now program) (now scratch) term t × Names (now scratch) top names × (term-size t ≤ pairs)) ⌝ }
-    ensures { λ r. ⌜ ((t : Term) (names : List ℕ) → Resolves (now (program .entry)) (now (scratch .entry)) term t → Names (now (scratch .entry)) top names → term-size t ≤ pairs → Named (now (scratch .entry)) (now (scratch .exit)) r (appear names t)) ⌝ }
+// Names the open variables of a term.
+pub(crate) fn name_term(program: &[u32], scratch: &mut [u32], term: u32, top: u32) -> u32
+    requires { ⌜ ((t : Term) × (names : List ℕ) × Resolves (now program) (now scratch) term t × Names (now scratch) top names) ⌝ }
+    ensures { λ r. ⌜ ((t : Term) (names : List ℕ) → Resolves (now (program .entry)) (now (scratch .entry)) term t → Names (now (scratch .entry)) top names → Named (now (scratch .entry)) (now (scratch .exit)) r (appear names t)) ⌝ }
 {
     let mut at = term;
     let mut given = top;
-    let mut left = pairs;
     loop {
         match follow(program, scratch, at) {
             Shape::Open(x) => {
@@ -52,8 +43,7 @@ pub(crate) fn name_term(
                 return given;
             }
             Shape::Pair(first, second) => {
-                left -= 1;
-                given = name_term(program, scratch, first, given, left);
+                given = name_term(program, scratch, first, given);
                 at = second;
             }
         }
@@ -74,12 +64,11 @@ pub(crate) fn clear_names(scratch: &mut [u32], top: u32)
 }
 
 // Whether every open variable of a term has a name.
-pub(crate) fn all_named(program: &[u32], scratch: &[u32], term: u32, pairs: u32) -> bool
-    requires { ⌜ ((t : Term) × (top : ℕ) × (names : List ℕ) × Resolves (now program) (now scratch) term t × Names (now scratch) top names × (term-size t ≤ pairs)) ⌝ }
-    ensures { λ r. ⌜ ((t : Term) (top : ℕ) (names : List ℕ) → Resolves (now (program .entry)) (now (scratch .entry)) term t → Names (now (scratch .entry)) top names → term-size t ≤ pairs → r ≡ vars-in names t) ⌝ }
+pub(crate) fn all_named(program: &[u32], scratch: &[u32], term: u32) -> bool
+    requires { ⌜ ((t : Term) × (top : ℕ) × (names : List ℕ) × Resolves (now program) (now scratch) term t × Names (now scratch) top names) ⌝ }
+    ensures { λ r. ⌜ ((t : Term) (top : ℕ) (names : List ℕ) → Resolves (now (program .entry)) (now (scratch .entry)) term t → Names (now (scratch .entry)) top names → r ≡ vars-in names t) ⌝ }
 {
     let mut at = term;
-    let mut left = pairs;
     loop {
         match follow(program, scratch, at) {
             Shape::Open(x) => {
@@ -92,8 +81,7 @@ pub(crate) fn all_named(program: &[u32], scratch: &[u32], term: u32, pairs: u32)
                 return true;
             }
             Shape::Pair(first, second) => {
-                left -= 1;
-                if all_named(program, scratch, first, left) {
+                if all_named(program, scratch, first) {
                     at = second;
                 } else {
                     return false;

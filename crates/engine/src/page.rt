@@ -24,12 +24,11 @@ pub(crate) fn same_line(
     line: Listed,
     place: usize,
     next: usize,
-    pairs: u32,
 ) -> bool
-    requires { ⌜ (place ≤ next) × (next ≤ length (now output)) × (next < 268435456) × (12288 ≤ length (now scratch)) × ((l : Line) × (top : ℕ) × (names : List ℕ) × LineAs (now program) (now scratch) pairs line l × Names (now scratch) top names × (line-in names l ≡ true)) ⌝ }
-    ensures { λ r. ⌜ (now (output .exit) ≡ now (output .entry)) × ((l : Line) (top : ℕ) (names : List ℕ) (w : List ℕ) → LineAs (now (program .entry)) (now (scratch .entry)) pairs line l → Names (now (scratch .entry)) top names → line-in names l ≡ true → Spells (now (output .entry)) place w → next ≡ place + length w → r ≡ same-words (line-words names l) w) ⌝ }
+    requires { ⌜ (place ≤ next) × (next ≤ length (now output)) × (next < 268435456) × (12288 ≤ length (now scratch)) × ((l : Line) × (top : ℕ) × (names : List ℕ) × LineAs (now program) (now scratch) line l × Names (now scratch) top names × (line-in names l ≡ true)) ⌝ }
+    ensures { λ r. ⌜ (now (output .exit) ≡ now (output .entry)) × ((l : Line) (top : ℕ) (names : List ℕ) (w : List ℕ) → LineAs (now (program .entry)) (now (scratch .entry)) line l → Names (now (scratch .entry)) top names → line-in names l ≡ true → Spells (now (output .entry)) place w → next ≡ place + length w → r ≡ same-words (line-words names l) w) ⌝ }
 {
-    match put_line(program, scratch, output, line, place, next, false, pairs) {
+    match put_line(program, scratch, output, line, place, next, false) {
         Put::Missed => {
             return false;
         }
@@ -50,16 +49,15 @@ pub(crate) fn repeated(
     line: Listed,
     first: usize,
     at: usize,
-    pairs: u32,
 ) -> bool
-    requires { ⌜ (at ≤ length (now output)) × (at < 268435456) × (12288 ≤ length (now scratch)) × ((ws : List (List ℕ)) × (l : Line) × (top : ℕ) × (names : List ℕ) × Rows (now output) first at ws × LineAs (now program) (now scratch) pairs line l × Names (now scratch) top names × (line-in names l ≡ true)) ⌝ }
-    ensures { λ r. ⌜ (now (output .exit) ≡ now (output .entry)) × ((ws : List (List ℕ)) (l : Line) (top : ℕ) (names : List ℕ) → Rows (now (output .entry)) first at ws → LineAs (now (program .entry)) (now (scratch .entry)) pairs line l → Names (now (scratch .entry)) top names → line-in names l ≡ true → r ≡ any-same (line-words names l) ws) ⌝ }
+    requires { ⌜ (at ≤ length (now output)) × (at < 268435456) × (12288 ≤ length (now scratch)) × ((ws : List (List ℕ)) × (l : Line) × (top : ℕ) × (names : List ℕ) × Rows (now output) first at ws × LineAs (now program) (now scratch) line l × Names (now scratch) top names × (line-in names l ≡ true)) ⌝ }
+    ensures { λ r. ⌜ (now (output .exit) ≡ now (output .entry)) × ((ws : List (List ℕ)) (l : Line) (top : ℕ) (names : List ℕ) → Rows (now (output .entry)) first at ws → LineAs (now (program .entry)) (now (scratch .entry)) line l → Names (now (scratch .entry)) top names → line-in names l ≡ true → r ≡ any-same (line-words names l) ws) ⌝ }
 {
     let mut place = first;
     while place < at {
         let size = Word::from_bits(output[place]).payload() as usize;
         let next = place + 1 + size;
-        if same_line(program, scratch, output, line, place, next, pairs) {
+        if same_line(program, scratch, output, line, place, next) {
             return true;
         }
         place = next;
@@ -76,19 +74,18 @@ pub(crate) fn add_line(
     first: usize,
     end: usize,
     at: usize,
-    pairs: u32,
 ) -> usize
-    requires { ⌜ (end ≤ length (now output)) × (end < 268435456) × (12288 ≤ length (now scratch)) × ((o : List ℕ) × (begin : ℕ) × (head : List ℕ) × (ws : List (List ℕ)) × (l : Line) × (top : ℕ) × (names : List ℕ) × Page o (now output) begin first end at head ws × LineAs (now program) (now scratch) pairs line l × Names (now scratch) top names) ⌝ }
-    ensures { λ r. ⌜ ((o : List ℕ) (begin : ℕ) (head : List ℕ) (ws : List (List ℕ)) (l : Line) (top : ℕ) (names : List ℕ) → Page o (now (output .entry)) begin first end at head ws → LineAs (now (program .entry)) (now (scratch .entry)) pairs line l → Names (now (scratch .entry)) top names → Page o (now (output .exit)) begin first end r head (add-line names ws l)) ⌝ }
+    requires { ⌜ (end ≤ length (now output)) × (end < 268435456) × (12288 ≤ length (now scratch)) × ((o : List ℕ) × (begin : ℕ) × (head : List ℕ) × (ws : List (List ℕ)) × (l : Line) × (top : ℕ) × (names : List ℕ) × Page o (now output) begin first end at head ws × LineAs (now program) (now scratch) line l × Names (now scratch) top names) ⌝ }
+    ensures { λ r. ⌜ ((o : List ℕ) (begin : ℕ) (head : List ℕ) (ws : List (List ℕ)) (l : Line) (top : ℕ) (names : List ℕ) → Page o (now (output .entry)) begin first end at head ws → LineAs (now (program .entry)) (now (scratch .entry)) line l → Names (now (scratch .entry)) top names → Page o (now (output .exit)) begin first end r head (add-line names ws l)) ⌝ }
 {
     if end < at {
         return at;
     }
-    if line_named(program, scratch, line, pairs) {
-        if repeated(program, scratch, output, line, first, at, pairs) {
+    if line_named(program, scratch, line) {
+        if repeated(program, scratch, output, line, first, at) {
             return at;
         }
-        match put_line(program, scratch, output, line, at, end, true, pairs) {
+        match put_line(program, scratch, output, line, at, end, true) {
             Put::Missed => {
                 return end + 1;
             }

@@ -5,14 +5,13 @@ use crate::follow::follow;
 use crate::layout::NAMES;
 use word::Word;
 ghost use mathlib.Core.Path.{_≡_};
-ghost use mathlib.Core.Bool.{Bool, true};
+ghost use mathlib.Core.Bool.{true};
 ghost use mathlib.Core.List.{List, [], _∷_};
 ghost use Prim.Native.Nat.{ℕ, _≤_, _<_, _+_};
 ghost use lib.ListN.{length};
 ghost use Rattle.rules.specs.Syntax.{Term, var};
 ghost use Rattle.rules.specs.Written.{part, term-words};
 ghost use Rattle.semantics.specs.Answer.{member, index, reify, vars-in};
-ghost use Rattle.semantics.specs.Invariant.{term-size};
 ghost use Rattle.engine.specs.Follow.{Resolves};
 ghost use Rattle.engine.specs.Names.{Names};
 ghost use Rattle.engine.specs.Put.{WordPut, Laid, Placed};
@@ -92,7 +91,7 @@ pub(crate) fn put_variable(
     )
 }
 
-// A term of at most `pairs` pairs, whose open variables have names.
+// A term whose open variables have names.
 pub(crate) fn put_term(
     program: &[u32],
     scratch: &[u32],
@@ -101,14 +100,12 @@ pub(crate) fn put_term(
     start: usize,
     end: usize,
     write: bool,
-    pairs: u32,
 ) -> Put
-    requires { ⌜ (start ≤ end) × (end ≤ length (now output)) × (end < 268435456) × ((t : Term) × (top : ℕ) × (names : List ℕ) × Resolves (now program) (now scratch) term t × Names (now scratch) top names × (vars-in names t ≡ true) × (term-size t ≤ pairs)) ⌝ }
-    ensures { λ r. ⌜ ((t : Term) (top : ℕ) (names : List ℕ) → Resolves (now (program .entry)) (now (scratch .entry)) term t → Names (now (scratch .entry)) top names → vars-in names t ≡ true → term-size t ≤ pairs → Placed (now (output .entry)) (now (output .exit)) start end write (term-words (reify names t)) r) ⌝ }
+    requires { ⌜ (start ≤ end) × (end ≤ length (now output)) × (end < 268435456) × ((t : Term) × (top : ℕ) × (names : List ℕ) × Resolves (now program) (now scratch) term t × Names (now scratch) top names × (vars-in names t ≡ true)) ⌝ }
+    ensures { λ r. ⌜ ((t : Term) (top : ℕ) (names : List ℕ) → Resolves (now (program .entry)) (now (scratch .entry)) term t → Names (now (scratch .entry)) top names → vars-in names t ≡ true → Placed (now (output .entry)) (now (output .exit)) start end write (term-words (reify names t)) r) ⌝ }
 {
     let mut from = term;
     let mut at = start;
-    let mut left = pairs;
     loop {
         if end <= at {
             return Put::Missed;
@@ -128,8 +125,7 @@ pub(crate) fn put_term(
                 return put_last(output, at, end, bits, write);
             }
             Shape::Pair(first, second) => {
-                left -= 1;
-                match put_term(program, scratch, output, first, at + 1, end, write, left) {
+                match put_term(program, scratch, output, first, at + 1, end, write) {
                     Put::Missed => {
                         return Put::Missed;
                     }

@@ -15,12 +15,11 @@ ghost use Rattle.rules.specs.Syntax.{var};
 ghost use Rattle.rules.specs.Written.{term-words};
 ghost use Rattle.semantics.specs.Substitution.{Substitution, resolve};
 ghost use Rattle.semantics.specs.Answer.{appear, reify, vars-in, names-of, parameters};
-ghost use Rattle.semantics.specs.Invariant.{term-size};
 ghost use Rattle.engine.specs.Walk.{Binds};
 ghost use Rattle.engine.specs.Names.{Names, Named};
 ghost use Rattle.engine.specs.Put.{Placed};
 ghost use Rattle.engine.specs.Look.{LookedAs, ThroughAs};
-ghost use Rattle.engine.specs.Query.{Small, Query, query-words};
+ghost use Rattle.engine.specs.Query.{Query, query-words};
 
 pub(crate) fn look_parameter(program: &[u32], scratch: &[u32], x: u32, steps: u32) -> Looked
     requires { ⌜ (x < 2048) × ((bs : Substitution) × Binds (now program) (now scratch) bs) ⌝ }
@@ -36,21 +35,15 @@ pub(crate) fn look_parameter(program: &[u32], scratch: &[u32], x: u32, steps: u3
     Looked::Done(steps - 1)
 }
 
-pub(crate) fn name_parameter(
-    program: &[u32],
-    scratch: &mut [u32],
-    x: u32,
-    top: u32,
-    pairs: u32,
-) -> u32
-    requires { ⌜ (x < 2048) × ((bs : Substitution) × (names : List ℕ) × Binds (now program) (now scratch) bs × Names (now scratch) top names × (term-size (resolve bs (var x)) ≤ pairs)) ⌝ }
-    ensures { λ r. ⌜ ((bs : Substitution) (names : List ℕ) → Binds (now (program .entry)) (now (scratch .entry)) bs → Names (now (scratch .entry)) top names → term-size (resolve bs (var x)) ≤ pairs → Named (now (scratch .entry)) (now (scratch .exit)) r (appear names (resolve bs (var x)))) ⌝ }
+pub(crate) fn name_parameter(program: &[u32], scratch: &mut [u32], x: u32, top: u32) -> u32
+    requires { ⌜ (x < 2048) × ((bs : Substitution) × (names : List ℕ) × Binds (now program) (now scratch) bs × Names (now scratch) top names) ⌝ }
+    ensures { λ r. ⌜ ((bs : Substitution) (names : List ℕ) → Binds (now (program .entry)) (now (scratch .entry)) bs → Names (now (scratch .entry)) top names → Named (now (scratch .entry)) (now (scratch .exit)) r (appear names (resolve bs (var x)))) ⌝ }
 {
     let entry = scratch[x as usize];
     if entry == 0 {
         return name_variable(scratch, x, top);
     }
-    name_term(program, scratch, entry - 1, top, pairs)
+    name_term(program, scratch, entry - 1, top)
 }
 
 pub(crate) fn put_parameter(
@@ -60,16 +53,15 @@ pub(crate) fn put_parameter(
     x: u32,
     start: usize,
     end: usize,
-    pairs: u32,
 ) -> Put
-    requires { ⌜ (start ≤ end) × (end ≤ length (now output)) × (end < 268435456) × (x < 2048) × ((bs : Substitution) × (top : ℕ) × (names : List ℕ) × Binds (now program) (now scratch) bs × Names (now scratch) top names × (vars-in names (resolve bs (var x)) ≡ true) × (term-size (resolve bs (var x)) ≤ pairs)) ⌝ }
-    ensures { λ r. ⌜ ((bs : Substitution) (top : ℕ) (names : List ℕ) → Binds (now (program .entry)) (now (scratch .entry)) bs → Names (now (scratch .entry)) top names → vars-in names (resolve bs (var x)) ≡ true → term-size (resolve bs (var x)) ≤ pairs → Placed (now (output .entry)) (now (output .exit)) start end true (term-words (reify names (resolve bs (var x)))) r) ⌝ }
+    requires { ⌜ (start ≤ end) × (end ≤ length (now output)) × (end < 268435456) × (x < 2048) × ((bs : Substitution) × (top : ℕ) × (names : List ℕ) × Binds (now program) (now scratch) bs × Names (now scratch) top names × (vars-in names (resolve bs (var x)) ≡ true)) ⌝ }
+    ensures { λ r. ⌜ ((bs : Substitution) (top : ℕ) (names : List ℕ) → Binds (now (program .entry)) (now (scratch .entry)) bs → Names (now (scratch .entry)) top names → vars-in names (resolve bs (var x)) ≡ true → Placed (now (output .entry)) (now (output .exit)) start end true (term-words (reify names (resolve bs (var x)))) r) ⌝ }
 {
     let entry = scratch[x as usize];
     if entry == 0 {
         return put_variable(scratch, output, x, start, end, true);
     }
-    put_term(program, scratch, output, entry - 1, start, end, true, pairs)
+    put_term(program, scratch, output, entry - 1, start, end, true)
 }
 
 // All parameters, one after the other.
@@ -96,14 +88,14 @@ pub(crate) fn look_parameters(program: &[u32], scratch: &[u32], count: u32, step
     Looked::Done(left)
 }
 
-pub(crate) fn name_parameters(program: &[u32], scratch: &mut [u32], count: u32, pairs: u32) -> u32
-    requires { ⌜ (count ≤ 2048) × ((bs : Substitution) × Binds (now program) (now scratch) bs × Names (now scratch) 0 [] × Small bs count pairs) ⌝ }
-    ensures { λ r. ⌜ ((bs : Substitution) → Binds (now (program .entry)) (now (scratch .entry)) bs → Names (now (scratch .entry)) 0 [] → Small bs count pairs → Named (now (scratch .entry)) (now (scratch .exit)) r (names-of bs count)) ⌝ }
+pub(crate) fn name_parameters(program: &[u32], scratch: &mut [u32], count: u32) -> u32
+    requires { ⌜ (count ≤ 2048) × ((bs : Substitution) × Binds (now program) (now scratch) bs × Names (now scratch) 0 []) ⌝ }
+    ensures { λ r. ⌜ ((bs : Substitution) → Binds (now (program .entry)) (now (scratch .entry)) bs → Names (now (scratch .entry)) 0 [] → Named (now (scratch .entry)) (now (scratch .exit)) r (names-of bs count)) ⌝ }
 {
     let mut top = 0;
     let mut x = 0;
     while x < count {
-        top = name_parameter(program, scratch, x, top, pairs);
+        top = name_parameter(program, scratch, x, top);
         x += 1;
     }
     top
@@ -116,15 +108,14 @@ pub(crate) fn put_parameters(
     count: u32,
     start: usize,
     end: usize,
-    pairs: u32,
 ) -> Put
-    requires { ⌜ (start ≤ end) × (end ≤ length (now output)) × (end < 268435456) × (count ≤ 2048) × ((bs : Substitution) × (names : List ℕ) × Query (now program) (now scratch) count pairs bs names) ⌝ }
-    ensures { λ r. ⌜ ((bs : Substitution) (names : List ℕ) → Query (now (program .entry)) (now (scratch .entry)) count pairs bs names → Placed (now (output .entry)) (now (output .exit)) start end true (query-words bs names 0 count) r) ⌝ }
+    requires { ⌜ (start ≤ end) × (end ≤ length (now output)) × (end < 268435456) × (count ≤ 2048) × ((bs : Substitution) × (names : List ℕ) × Query (now program) (now scratch) count bs names) ⌝ }
+    ensures { λ r. ⌜ ((bs : Substitution) (names : List ℕ) → Query (now (program .entry)) (now (scratch .entry)) count bs names → Placed (now (output .entry)) (now (output .exit)) start end true (query-words bs names 0 count) r) ⌝ }
 {
     let mut at = start;
     let mut x = 0;
     while x < count {
-        match put_parameter(program, scratch, output, x, at, end, pairs) {
+        match put_parameter(program, scratch, output, x, at, end) {
             Put::End(next) => {
                 at = next;
                 x += 1;

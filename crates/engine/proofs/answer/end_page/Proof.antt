@@ -1,17 +1,16 @@
 -- `end_page` puts the answer's own word in front.
 use Prim.Native.Nat.{_+_}
 use mathlib.Core.Bool.{true}
-use mathlib.Core.Path.{refl}
 use native.Mathlib.Omega.{arith}
 use Rattle.engine.specs.Put.{Laid}
-use Rattle.engine.proofs.AnswerLaws.{ended-steps, ended-path, ended-full, ended-written, ends-laid}
+use Rattle.engine.proofs.AnswerLaws.{ended-steps, ended-path, ended-full, ended-written}
 use borrow.Author.Needs.{needs}
 use Rattle.engine.proofs.answer.end_page.Statement.{statement}
 use Rattle.engine.proofs.answer.end_page.Tie as tie
 
 -- the words but the first, as the caller knows of them
 laid-at : (c : tie.After-put-head-arg) → (let a = c .before .before .before .before .before .before .args in let q = c .before .before .before .before .before .before .pre in Laid (q .2 .0) (a .output .now) (a .start + 1) (a .end) true (q .2 .1) (c .before .before .before .added2 .given .0 .0))
-laid-at c = ends-laid _ _ _ _ _ _ (c .before .before .before .before .before .before .pre .2 .2) (c .before .before .before .added2 .given .1) (c .before .if1 .left)
+laid-at c = c .before .before .before .before .before .before .pre .2 .2 _ _ (c .before .before .before .added2 .given .1) (c .before .if1 .left)
 
 enum-told : tie.Need-enum-told
 enum-told c = search needs
@@ -41,7 +40,7 @@ same-length : tie.Need-same-length
 same-length c = search needs
 
 returns-4 : tie.Need-returns-4
-returns-4 c = λ o v h. ended-written _ _ _ _ _ _ h (c .before .before .before .before .before .before .added2 .given .1) (c .before .before .before .before .if1 .left) refl (c .before .before .put-head .ensures o _ v (ends-laid _ _ _ _ _ _ h (c .before .before .before .before .before .before .added2 .given .1) (c .before .before .before .before .if1 .left)))
+returns-4 c = λ o v h. ended-written _ _ _ _ _ _ h (c .before .before .before .before .before .before .added2 .given .1) (c .before .before .before .before .if1 .left) (c .before .before .put-head .ensures o _ v (h _ _ (c .before .before .before .before .before .before .added2 .given .1) (c .before .before .before .before .if1 .left)))
 
 pub end-page-spec : {M : Type 1} → statement M
 end-page-spec =

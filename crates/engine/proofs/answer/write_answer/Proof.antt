@@ -1,6 +1,6 @@
 -- `write_answer` writes the answer of a path, as the definition has it.
 use native.Mathlib.Omega.{arith}
-use Rattle.engine.proofs.AnswerLaws.{answer-low, answer-binds, answer-kept, unnamed, steps-out-now, path-out-now, small-now, named-now, query-now, page-now, writing-now, apart-now, touched-now, names-now, ends-now, answered-now}
+use Rattle.engine.proofs.AnswerLaws.{answer-low, answer-binds, answer-kept, unnamed, steps-out-now, path-out-now, named-now, query-now, page-now, writing-now, apart-now, touched-now, names-now, ends-now, answered-now}
 use borrow.Author.Needs.{needs}
 use Rattle.engine.proofs.answer.write_answer.Statement.{statement}
 use Rattle.engine.proofs.answer.write_answer.Tie as tie
@@ -52,19 +52,19 @@ usable-requires : tie.Need-usable-requires
 usable-requires c κs = search needs
 
 name-parameters-requires : tie.Need-name-parameters-requires
-name-parameters-requires c κs = let a = c .before .before .before .before .before .before .before .before .before .before .pre .3 in (answer-low a, (_, answer-binds a, unnamed (a .stored .nameless), small-now a _ (c .before .before .before .before .before .look-parameters .ensures) _ (c .before .before .before .left2 .given .1)))
+name-parameters-requires c κs = let a = c .before .before .before .before .before .before .before .before .before .before .pre .3 in (answer-low a, (_, answer-binds a, unnamed (a .stored .nameless)))
 
 begin-page-requires : tie.Need-begin-page-requires
-begin-page-requires c κs = let n = c .before .before .before .before in let a = start-at n .pre .3 in (omega (arith, limit-at n .usable .ensures), omega (arith, limit-at n .usable .ensures), answer-low a, (_, _, query-now a _ (looked-at n .look-parameters .ensures) _ (left-at n .left2 .given .1) (n .name-parameters .ensures)))
+begin-page-requires c κs = let n = c .before .before .before .before in let a = start-at n .pre .3 in (omega (arith, limit-at n .usable .ensures), omega (arith, limit-at n .usable .ensures), answer-low a, (_, _, query-now a (n .name-parameters .ensures)))
 
 add-constraints-requires : tie.Need-add-constraints-requires
-add-constraints-requires c κs = let b = c .before .before .before .before in let n = named-at b in let a = start-at n .pre .3 in (omega (arith, limit-at n .usable .ensures, page-now a _ (looked-at n .look-parameters .ensures) _ (left-at n .left2 .given .1) (n .name-parameters .ensures) (b .begin-page .ensures) .touched .long), omega (arith, limit-at n .usable .ensures), writing-now a _ (looked-at n .look-parameters .ensures) _ (left-at n .left2 .given .1) (n .name-parameters .ensures) (b .begin-page .ensures), (_, _, _, answer-kept a (named-now a _ (looked-at n .look-parameters .ensures) _ (left-at n .left2 .given .1) (n .name-parameters .ensures)), a .sound))
+add-constraints-requires c κs = let b = c .before .before .before .before in let n = named-at b in let a = start-at n .pre .3 in (omega (arith, limit-at n .usable .ensures, page-now a (n .name-parameters .ensures) (b .begin-page .ensures) .touched .long), omega (arith, limit-at n .usable .ensures), writing-now a (n .name-parameters .ensures) (b .begin-page .ensures), (_, _, _, answer-kept a (named-now a (n .name-parameters .ensures)), a .sound))
 
 clear-names-requires : tie.Need-clear-names-requires
-clear-names-requires c κs = let d = c .before .before .before .before .before in let b = begun-at d in let n = named-at b in let a = start-at n .pre .3 in (omega (arith, a .stored .roomy .long, named-now a _ (looked-at n .look-parameters .ensures) _ (left-at n .left2 .given .1) (n .name-parameters .ensures) .long, apart-now a _ (looked-at n .look-parameters .ensures) _ (left-at n .left2 .given .1) (n .name-parameters .ensures) (b .begin-page .ensures) _ (d .add-constraints .ensures) .long), (_, names-now a _ (looked-at n .look-parameters .ensures) _ (left-at n .left2 .given .1) (n .name-parameters .ensures) (b .begin-page .ensures) _ (d .add-constraints .ensures)))
+clear-names-requires c κs = let d = c .before .before .before .before .before in let b = begun-at d in let n = named-at b in let a = start-at n .pre .3 in (omega (arith, a .stored .roomy .long, named-now a (n .name-parameters .ensures) .long, apart-now a (n .name-parameters .ensures) (b .begin-page .ensures) _ (d .add-constraints .ensures) .long), (_, names-now a (n .name-parameters .ensures) (b .begin-page .ensures) _ (d .add-constraints .ensures)))
 
 end-page-requires : tie.Need-end-page-requires
-end-page-requires c κs = let d = c .before .before .before .before .before .before .before .before .before in let b = begun-at d in let n = named-at b in let a = start-at n .pre .3 in (omega (arith, limit-at n .usable .ensures, touched-now a _ (looked-at n .look-parameters .ensures) _ (left-at n .left2 .given .1) (n .name-parameters .ensures) (b .begin-page .ensures) _ (d .add-constraints .ensures) .long), omega (arith, limit-at n .usable .ensures), (start-at n .args .output .now, _, ends-now a _ (looked-at n .look-parameters .ensures) _ (left-at n .left2 .given .1) (n .name-parameters .ensures) (b .begin-page .ensures) _ (d .add-constraints .ensures)))
+end-page-requires c κs = let d = c .before .before .before .before .before .before .before .before .before in let b = begun-at d in let n = named-at b in let a = start-at n .pre .3 in (omega (arith, limit-at n .usable .ensures, touched-now a (n .name-parameters .ensures) (b .begin-page .ensures) _ (d .add-constraints .ensures) .long), omega (arith, limit-at n .usable .ensures), (start-at n .args .output .now, _, ends-now a (n .name-parameters .ensures) (b .begin-page .ensures) _ (d .add-constraints .ensures)))
 
 same-length-3 : tie.Need-same-length-3
 same-length-3 c = search needs
@@ -73,7 +73,7 @@ same-length-4 : tie.Need-same-length-4
 same-length-4 c = search needs
 
 returns-3 : tie.Need-returns-3
-returns-3 c = λ P p cs a. let d = c .before .before .before .before .before .before .before .before .before .before .before .before in let b = begun-at d in let n = named-at b in answered-now a _ (looked-at n .look-parameters .ensures) _ (left-at n .left2 .given .1) (n .name-parameters .ensures) (b .begin-page .ensures) _ (d .add-constraints .ensures) _ _ (limit-at n .usable .ensures) (c .before .before .before .before .before .before .clear-names .ensures) (c .before .before .end-page .ensures)
+returns-3 c = λ P p cs a. let d = c .before .before .before .before .before .before .before .before .before .before .before .before in let b = begun-at d in let n = named-at b in answered-now a (n .name-parameters .ensures) (b .begin-page .ensures) _ (d .add-constraints .ensures) _ (looked-at n .look-parameters .ensures) (left-at n .left2 .given .1) _ _ (limit-at n .usable .ensures) (c .before .before .before .before .before .before .clear-names .ensures) (c .before .before .end-page .ensures)
 
 pub write-answer-spec : {M : Type 1} → statement M
 write-answer-spec =

@@ -37,13 +37,13 @@ node-at-requires : tie.Need-node-at-requires
 node-at-requires c κs = let p = c .before .before .before .before .before .before .before .pre .3 in absento-inside _ _ (p .1) (p .2) (p .4)
 
 add-absent-requires : tie.Need-add-absent-requires
-add-absent-requires c κs = let p = c .before .before .before .before .before .before .before .before .before .pre .3 in (c .before .before .before .before .before .before .before .before .before .pre .0, c .before .before .before .before .before .before .before .before .before .pre .1, absento-adds (p .3) (p .4) (c .before .before .before .before .before .before .before .before .before .pre .2) _ (c .before .before .before .before .before .look .ensures (p .0) (p .2) (absento-follows (p .3) (p .4))) (c .before .before .before .rest2 .given .1) (c .before .node-at .ensures))
+add-absent-requires c κs = let p = c .before .before .before .before .before .before .before .before .before .pre .3 in (c .before .before .before .before .before .before .before .before .before .pre .0, c .before .before .before .before .before .before .before .before .before .pre .1, absento-adds (p .3) (p .4) (c .before .before .before .before .before .before .before .before .before .pre .2) (c .before .node-at .ensures))
 
 same-length : tie.Need-same-length
 same-length c = search needs
 
 returns-3 : tie.Need-returns-3
-returns-3 c = λ g bs a t h k. term-done g h t (c .before .before .before .before .before .before .before .before .before .before .before .before .args .steps) _ (c .before .before .before .before .before .before .before .before .look .ensures bs t (absento-follows h k)) (lacks-each a (appear [] (resolve bs t))) (c .before .before .before .before .before .before .rest2 .given .1) (absento-page h k g _ (c .before .before .before .before .before .before .before .before .look .ensures bs t (absento-follows h k)) (c .before .before .before .before .before .before .rest2 .given .1) (c .before .before .before .before .node-at .ensures) (c .before .before .add-absent .ensures))
+returns-3 c = λ g bs a t h k. term-done g h t (c .before .before .before .before .before .before .before .before .before .before .before .before .args .steps) _ (c .before .before .before .before .before .before .before .before .look .ensures bs t (absento-follows h k)) (lacks-each a (appear [] (resolve bs t))) (c .before .before .before .before .before .before .rest2 .given .1) (absento-page h k g (c .before .before .before .before .node-at .ensures) (c .before .before .add-absent .ensures))
 
 pub absence-lines-spec : {M : Type 1} → statement M
 absence-lines-spec =

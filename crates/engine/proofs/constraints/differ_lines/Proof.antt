@@ -83,7 +83,7 @@ enum-known-after-2 : tie.Need-enum-known-after-2
 enum-known-after-2 c = search needs
 
 add-line-requires : tie.Need-add-line-requires
-add-line-requires c κs = let p = c .before .before .before .before .before .before .before .before .before .before .before .before .before .before .before .before .before .before .before .before .before .pre .3 in let g = c .before .before .before .before .before .before .before .before .before .before .before .before .before .before .before .before .before .before .before .before .before .pre .2 in let t = tried (c .before .before .before .before .before .before .before .before .before .before .before .before .before .before .before .before .before .before .before .before .before .args .steps) (p .3) _ _ (c .before .before .before .before .before .before .before .before .before .before .before .before .before .before .before .before .unify .ensures (p .0) (p .1) (p .2) (p .3 .meets)) (c .before .before .before .before .before .before .before .before .before .before .before .before .top4 .given .1) _ (c .before .before .before .before .before .before .before .before .before .keep-equations .ensures) in let l = c .before .before .before .before .before .look-equations .ensures (p .0) (reverse (t .new)) (t .looks) in (c .before .before .before .before .before .before .before .before .before .before .before .before .before .before .before .before .before .before .before .before .before .pre .0, c .before .before .before .before .before .before .before .before .before .before .before .before .before .before .before .before .before .before .before .before .before .pre .1, t .looks .held .long, (g .before, g .begin, g .head, g .lines, tried-line-is t _ l, g .top, g .names, g .page, tried-line t _ l (c .before .before .before .after2 .given .1), names-apart (t .apart) (g .named)))
+add-line-requires c κs = let p = c .before .before .before .before .before .before .before .before .before .before .before .before .before .before .before .before .before .before .before .before .before .pre .3 in let g = c .before .before .before .before .before .before .before .before .before .before .before .before .before .before .before .before .before .before .before .before .before .pre .2 in let t = tried (c .before .before .before .before .before .before .before .before .before .before .before .before .before .before .before .before .before .before .before .before .before .args .steps) (p .3) _ _ (c .before .before .before .before .before .before .before .before .before .before .before .before .before .before .before .before .unify .ensures (p .0) (p .1) (p .2) (p .3 .meets)) (c .before .before .before .before .before .before .before .before .before .before .before .before .top4 .given .1) _ (c .before .before .before .before .before .before .before .before .before .keep-equations .ensures) in (c .before .before .before .before .before .before .before .before .before .before .before .before .before .before .before .before .before .before .before .before .before .pre .0, c .before .before .before .before .before .before .before .before .before .before .before .before .before .before .before .before .before .before .before .before .before .pre .1, t .looks .held .long, (g .before, g .begin, g .head, g .lines, tried-line-is t, g .top, g .names, g .page, tried-line t, names-apart (t .apart) (g .named)))
 
 same-length-6 : tie.Need-same-length-6
 same-length-6 c = search needs
@@ -92,7 +92,7 @@ same-length-7 : tie.Need-same-length-7
 same-length-7 c = search needs
 
 returns-6 : tie.Need-returns-6
-returns-6 c = λ g bs u v d. let t = tried (c .before .before .before .before .before .before .before .before .before .before .before .before .before .before .before .before .before .before .before .before .before .before .before .before .args .steps) d _ _ (c .before .before .before .before .before .before .before .before .before .before .before .before .before .before .before .before .before .before .before .unify .ensures bs u v (d .meets)) (c .before .before .before .before .before .before .before .before .before .before .before .before .before .before .before .top4 .given .1) _ (c .before .before .before .before .before .before .before .before .before .before .before .before .keep-equations .ensures) in let l = c .before .before .before .before .before .before .before .before .look-equations .ensures bs (reverse (t .new)) (t .looks) in tried-done t _ l g (c .before .before .before .before .before .before .after2 .given .1) (c .before .before .add-line .ensures (g .before) (g .begin) (g .head) (g .lines) (tried-line-is t _ l) (g .top) (g .names) (g .page) (tried-line t _ l (c .before .before .before .before .before .before .after2 .given .1)) (names-apart (t .apart) (g .named)))
+returns-6 c = λ g bs u v d. let t = tried (c .before .before .before .before .before .before .before .before .before .before .before .before .before .before .before .before .before .before .before .before .before .before .before .before .args .steps) d _ _ (c .before .before .before .before .before .before .before .before .before .before .before .before .before .before .before .before .before .before .before .unify .ensures bs u v (d .meets)) (c .before .before .before .before .before .before .before .before .before .before .before .before .before .before .before .top4 .given .1) _ (c .before .before .before .before .before .before .before .before .before .before .before .before .keep-equations .ensures) in let l = c .before .before .before .before .before .before .before .before .look-equations .ensures bs (reverse (t .new)) (t .looks) in tried-done t _ l g (c .before .before .before .before .before .before .after2 .given .1) (c .before .before .add-line .ensures (g .before) (g .begin) (g .head) (g .lines) (tried-line-is t) (g .top) (g .names) (g .page) (tried-line t) (names-apart (t .apart) (g .named)))
 
 pub differ-lines-spec : {M : Type 1} → statement M
 differ-lines-spec =

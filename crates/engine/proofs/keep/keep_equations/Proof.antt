@@ -1,15 +1,12 @@
 use Prim.Native.Nat.{ℕ}
 use mathlib.Core.List.{List}
 use native.Mathlib.Omega.{arith}
-use lib.ListN.{length, length-set}
+use lib.ListN.{length-set}
 use Rattle.semantics.specs.Substitution.{Substitution}
 use Rattle.engine.specs.Trail.{Trailed}
 use Rattle.engine.proofs.KeepLaws.{Keeping, keeping-start, keeping-end, Newest, newest, newest-low, newest-some, newest-taken}
 use Rattle.engine.proofs.keep.keep_equations.Statement.{statement}
 use Rattle.engine.proofs.keep.keep_equations.Tie as tie
-use Rattle.engine.proofs.keep.keep_equations.Reads as reads
-use Rattle.engine.proofs.keep.keep_equations.Lts as lts
-use Rattle.engine.proofs.keep.keep_variable.Reads as keep-variable-reads
 
 abbrev Inv-loop : tie.InvT-loop
 Inv-loop scratch₀ mark trail top₀ scratch top = (ws : List ℕ) (new bs : Substitution) → Trailed ws scratch₀ new bs mark trail → Keeping ws scratch₀ scratch new bs mark top

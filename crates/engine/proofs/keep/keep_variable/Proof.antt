@@ -4,8 +4,6 @@ use Rattle.engine.proofs.KeepLaws.{half-even, half-odd}
 use borrow.Author.Needs.{needs}
 use Rattle.engine.proofs.keep.keep_variable.Statement.{statement}
 use Rattle.engine.proofs.keep.keep_variable.Tie as tie
-use Rattle.engine.proofs.keep.keep_variable.Reads as reads
-use Rattle.engine.proofs.keep.keep_variable.Lts as lts
 
 add-at : tie.Need-add-at
 add-at c = search needs

@@ -2,11 +2,6 @@ use Rattle.engine.proofs.LineLaws.{equation-low, equation-asks, equatio
 use borrow.Author.Needs.{needs}
 use Rattle.engine.proofs.line.equation_named.Statement.{statement}
 use Rattle.engine.proofs.line.equation_named.Tie as tie
-use Rattle.engine.proofs.line.equation_named.Reads as reads
-use Rattle.engine.proofs.line.equation_named.Lts as lts
-use Rattle.engine.proofs.line.has_name.Reads as has-name-reads
-use Rattle.engine.proofs.line.variable_at.Reads as variable-at-reads
-use Rattle.engine.proofs.names.all_named.Reads as all-named-reads
 
 variable-at-requires : tie.Need-variable-at-requires
 variable-at-requires c κs = search needs
@@ -27,10 +22,10 @@ shared-slice-read-right : tie.Need-shared-slice-read-right
 shared-slice-read-right c = search needs
 
 all-named-requires : tie.Need-all-named-requires
-all-named-requires c κs = let q = c .before .before .before .before .before .before .pre .1 in (q .0 .1, q .1, q .2, q .3 .right, q .4, q .3 .small)
+all-named-requires c κs = let q = c .before .before .before .before .before .before .pre .1 in (q .0 .1, q .1, q .2, q .3 .right, q .4)
 
 returns : tie.Need-returns
-returns c = λ b top names h n. equation-asks names h (c .before .before .before .before .variable-at .ensures) (c .before .before .before .has-name .ensures top names n) (c .before .before .if1 .taken) (c .all-named .ensures (b .1) top names (h .right) n (h .small))
+returns c = λ b top names h n. equation-asks names h (c .before .before .before .before .variable-at .ensures) (c .before .before .before .has-name .ensures top names n) (c .before .before .if1 .taken) (c .all-named .ensures (b .1) top names (h .right) n)
 
 returns-2 : tie.Need-returns-2
 returns-2 c = λ b top names h n. equation-lacks names h (c .before .before .variable-at .ensures) (c .before .has-name .ensures top names n) (c .if1 .left)

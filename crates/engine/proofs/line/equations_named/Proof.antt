@@ -10,15 +10,12 @@ use Rattle.engine.specs.Lines.{Equations}
 use Rattle.engine.proofs.LineLaws.{Checking, check-next, check-end, check-fails, check-on}
 use Rattle.engine.proofs.line.equations_named.Statement.{statement}
 use Rattle.engine.proofs.line.equations_named.Tie as tie
-use Rattle.engine.proofs.line.equations_named.Reads as reads
-use Rattle.engine.proofs.line.equations_named.Lts as lts
-use Rattle.engine.proofs.line.equation_named.Reads as equation-named-reads
 
 abbrev Inv-loop : tie.InvT-loop
-Inv-loop program scratch mark count pairs i₀ i = (cs : List (ℕ × Term)) (top : ℕ) (names : List ℕ) → Equations program scratch pairs mark 0 cs → count ≡ length cs → Names scratch top names → Checking program scratch pairs mark count i names (bindings-in names cs)
+Inv-loop program scratch mark count i₀ i = (cs : List (ℕ × Term)) (top : ℕ) (names : List ℕ) → Equations program scratch mark 0 cs → count ≡ length cs → Names scratch top names → Checking program scratch mark count i names (bindings-in names cs)
 
 abbrev μ-loop : tie.MeasureT-loop
-μ-loop program scratch mark count pairs i₀ i = count - i
+μ-loop program scratch mark count i₀ i = count - i
 
 loop-holds : tie.Need-loop-holds Inv-loop μ-loop
 loop-holds c = λ cs top names h w n. record { rest = cs; here = h; left = omega (arith, w); same = refl }

@@ -2,8 +2,6 @@ use Rattle.engine.proofs.LineLaws.{name-missing, name-there}
 use borrow.Author.Needs.{needs}
 use Rattle.engine.proofs.line.has_name.Statement.{statement}
 use Rattle.engine.proofs.line.has_name.Tie as tie
-use Rattle.engine.proofs.line.has_name.Reads as reads
-use Rattle.engine.proofs.line.has_name.Lts as lts
 
 add-if1 : tie.Need-add-if1
 add-if1 c = search needs

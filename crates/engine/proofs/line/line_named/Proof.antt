@@ -3,10 +3,6 @@ use Rattle.engine.proofs.LineLaws.{typed-line, lacks-line, differ-line,
 use borrow.Author.Needs.{needs}
 use Rattle.engine.proofs.line.line_named.Statement.{statement}
 use Rattle.engine.proofs.line.line_named.Tie as tie
-use Rattle.engine.proofs.line.line_named.Reads as reads
-use Rattle.engine.proofs.line.line_named.Lts as lts
-use Rattle.engine.proofs.line.equations_named.Reads as equations-named-reads
-use Rattle.engine.proofs.line.has_name.Reads as has-name-reads
 
 enum-known-line : tie.Need-enum-known-line
 enum-known-line c = search needs

@@ -5,10 +5,6 @@ use Rattle.engine.proofs.LineLaws.{differ-one, differ-full, differ-miss
 use borrow.Author.Needs.{needs}
 use Rattle.engine.proofs.line.put_differ.Statement.{statement}
 use Rattle.engine.proofs.line.put_differ.Tie as tie
-use Rattle.engine.proofs.line.put_differ.Reads as reads
-use Rattle.engine.proofs.line.put_differ.Lts as lts
-use Rattle.engine.proofs.line.put_equations.Reads as put-equations-reads
-use Rattle.engine.proofs.put.put_head.Reads as put-head-reads
 
 put-equations-requires : tie.Need-put-equations-requires
 put-equations-requires c κs = search needs

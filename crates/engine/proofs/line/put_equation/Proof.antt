@@ -4,12 +4,6 @@ use Rattle.engine.proofs.LineLaws.{equation-full, equation-low, equatio
 use borrow.Author.Needs.{needs}
 use Rattle.engine.proofs.line.put_equation.Statement.{statement}
 use Rattle.engine.proofs.line.put_equation.Tie as tie
-use Rattle.engine.proofs.line.put_equation.Reads as reads
-use Rattle.engine.proofs.line.put_equation.Lts as lts
-use Rattle.engine.proofs.line.variable_at.Reads as variable-at-reads
-use Rattle.engine.proofs.put.put_head.Reads as put-head-reads
-use Rattle.engine.proofs.put.put_term.Reads as put-term-reads
-use Rattle.engine.proofs.put.put_variable.Reads as put-variable-reads
 
 returns : tie.Need-returns
 returns c = λ b top names h n k l. equation-full names b (c .if1 .taken)
@@ -48,7 +42,7 @@ shared-slice-read-right : tie.Need-shared-slice-read-right
 shared-slice-read-right c = search needs
 
 put-term-requires : tie.Need-put-term-requires
-put-term-requires c κs = let q = c .before .before .before .before .before .before .before .before .before .before .before .before .before .before .pre .3 in let d = laid-of (equation-variable (c .before .before .before .before .before .before .before .before .before .before .before .before .before .before .pre .3 .3) (c .before .before .before .before .before .before .before .before .before .variable-at .ensures) _ (c .before .before .before .before .before .before .before .before .before .before .before .before .before .before .pre .3 .2) (c .before .before .before .before .before .before .before .before .before .before .before .before .before .before .pre .3 .4) (c .before .before .before .before .before .before .before .before .before .before .before .before .before .before .pre .3 .5) (c .before .before .before .before .before .before .before .before .before .before .if1 .left) (c .before .before .before .before .before .before .before .put-variable .ensures)) (c .before .before .before .middle .given .1) in (d .fits, omega (arith, d .touched .long, c .before .before .before .before .before .before .before .before .before .before .before .before .before .before .pre .0), c .before .before .before .before .before .before .before .before .before .before .before .before .before .before .pre .1, (q .0 .1, q .1, q .2, q .3 .right, q .4, equation-right (q .2) (q .0) (q .5), q .3 .small))
+put-term-requires c κs = let q = c .before .before .before .before .before .before .before .before .before .before .before .before .before .before .pre .3 in let d = laid-of (equation-variable (c .before .before .before .before .before .before .before .before .before .before .before .before .before .before .pre .3 .3) (c .before .before .before .before .before .before .before .before .before .variable-at .ensures) _ (c .before .before .before .before .before .before .before .before .before .before .before .before .before .before .pre .3 .2) (c .before .before .before .before .before .before .before .before .before .before .before .before .before .before .pre .3 .4) (c .before .before .before .before .before .before .before .before .before .before .before .before .before .before .pre .3 .5) (c .before .before .before .before .before .before .before .before .before .before .if1 .left) (c .before .before .before .before .before .before .before .put-variable .ensures)) (c .before .before .before .middle .given .1) in (d .fits, omega (arith, d .touched .long, c .before .before .before .before .before .before .before .before .before .before .before .before .before .before .pre .0), c .before .before .before .before .before .before .before .before .before .before .before .before .before .before .pre .1, (q .0 .1, q .1, q .2, q .3 .right, q .4, equation-right (q .2) (q .0) (q .5)))
 
 enum-told-2 : tie.Need-enum-told-2
 enum-told-2 c = search needs
@@ -57,19 +51,19 @@ same-length-2 : tie.Need-same-length-2
 same-length-2 c = search needs
 
 returns-3 : tie.Need-returns-3
-returns-3 c = λ b top names h n k l. equation-no-right names b (equation-variable h (c .before .before .before .before .before .before .before .before .before .before .before .before .before .before .variable-at .ensures) _ names n k (c .before .before .before .before .before .before .before .before .before .before .before .before .before .before .before .if1 .left) (c .before .before .before .before .before .before .before .before .before .before .before .before .put-variable .ensures)) (c .before .before .before .before .before .before .before .before .middle .given .1) (c .before .before .before .before .put-term .ensures (b .1) top names (h .right) n (equation-right names b k) (h .small)) (c .enum-told2 .given .1)
+returns-3 c = λ b top names h n k l. equation-no-right names b (equation-variable h (c .before .before .before .before .before .before .before .before .before .before .before .before .before .before .variable-at .ensures) _ names n k (c .before .before .before .before .before .before .before .before .before .before .before .before .before .before .before .if1 .left) (c .before .before .before .before .before .before .before .before .before .before .before .before .put-variable .ensures)) (c .before .before .before .before .before .before .before .before .middle .given .1) (c .before .before .before .before .put-term .ensures (b .1) top names (h .right) n (equation-right names b k)) (c .enum-told2 .given .1)
 
 enum-known-next : tie.Need-enum-known-next
 enum-known-next c = search needs
 
 put-head-requires : tie.Need-put-head-requires
-put-head-requires c κs = let q = c .before .before .before .before .before .before .before .before .before .before .before .before .before .before .before .before .before .before .before .before .before .pre .3 in let d = equation-inner (q .2) (q .0) _ (equation-variable (c .before .before .before .before .before .before .before .before .before .before .before .before .before .before .before .before .before .before .before .before .before .pre .3 .3) (c .before .before .before .before .before .before .before .before .before .before .before .before .before .before .before .before .variable-at .ensures) _ (c .before .before .before .before .before .before .before .before .before .before .before .before .before .before .before .before .before .before .before .before .before .pre .3 .2) (c .before .before .before .before .before .before .before .before .before .before .before .before .before .before .before .before .before .before .before .before .before .pre .3 .4) (c .before .before .before .before .before .before .before .before .before .before .before .before .before .before .before .before .before .before .before .before .before .pre .3 .5) (c .before .before .before .before .before .before .before .before .before .before .before .before .before .before .before .before .before .if1 .left) (c .before .before .before .before .before .before .before .before .before .before .before .before .before .before .put-variable .ensures)) (c .before .before .before .before .before .before .before .before .before .before .middle .given .1) (c .before .before .before .before .before .before .put-term .ensures (c .before .before .before .before .before .before .before .before .before .before .before .before .before .before .before .before .before .before .before .before .before .pre .3 .0 .1) (c .before .before .before .before .before .before .before .before .before .before .before .before .before .before .before .before .before .before .before .before .before .pre .3 .1) (c .before .before .before .before .before .before .before .before .before .before .before .before .before .before .before .before .before .before .before .before .before .pre .3 .2) (c .before .before .before .before .before .before .before .before .before .before .before .before .before .before .before .before .before .before .before .before .before .pre .3 .3 .right) (c .before .before .before .before .before .before .before .before .before .before .before .before .before .before .before .before .before .before .before .before .before .pre .3 .4) (equation-right (c .before .before .before .before .before .before .before .before .before .before .before .before .before .before .before .before .before .before .before .before .before .pre .3 .2) (c .before .before .before .before .before .before .before .before .before .before .before .before .before .before .before .before .before .before .before .before .before .pre .3 .0) (c .before .before .before .before .before .before .before .before .before .before .before .before .before .before .before .before .before .before .before .before .before .pre .3 .5)) (c .before .before .before .before .before .before .before .before .before .before .before .before .before .before .before .before .before .before .before .before .before .pre .3 .3 .small)) (c .before .before .next .given .1) in (omega (arith, d .is), omega (arith, d .fits, d .touched .long, c .before .before .before .before .before .before .before .before .before .before .before .before .before .before .before .before .before .before .before .before .before .pre .0), omega (arith, d .fits, c .before .before .before .before .before .before .before .before .before .before .before .before .before .before .before .before .before .before .before .before .before .pre .1), omega arith)
+put-head-requires c κs = let q = c .before .before .before .before .before .before .before .before .before .before .before .before .before .before .before .before .before .before .before .before .before .pre .3 in let d = equation-inner (q .2) (q .0) _ (equation-variable (c .before .before .before .before .before .before .before .before .before .before .before .before .before .before .before .before .before .before .before .before .before .pre .3 .3) (c .before .before .before .before .before .before .before .before .before .before .before .before .before .before .before .before .variable-at .ensures) _ (c .before .before .before .before .before .before .before .before .before .before .before .before .before .before .before .before .before .before .before .before .before .pre .3 .2) (c .before .before .before .before .before .before .before .before .before .before .before .before .before .before .before .before .before .before .before .before .before .pre .3 .4) (c .before .before .before .before .before .before .before .before .before .before .before .before .before .before .before .before .before .before .before .before .before .pre .3 .5) (c .before .before .before .before .before .before .before .before .before .before .before .before .before .before .before .before .before .if1 .left) (c .before .before .before .before .before .before .before .before .before .before .before .before .before .before .put-variable .ensures)) (c .before .before .before .before .before .before .before .before .before .before .middle .given .1) (c .before .before .before .before .before .before .put-term .ensures (c .before .before .before .before .before .before .before .before .before .before .before .before .before .before .before .before .before .before .before .before .before .pre .3 .0 .1) (c .before .before .before .before .before .before .before .before .before .before .before .before .before .before .before .before .before .before .before .before .before .pre .3 .1) (c .before .before .before .before .before .before .before .before .before .before .before .before .before .before .before .before .before .before .before .before .before .pre .3 .2) (c .before .before .before .before .before .before .before .before .before .before .before .before .before .before .before .before .before .before .before .before .before .pre .3 .3 .right) (c .before .before .before .before .before .before .before .before .before .before .before .before .before .before .before .before .before .before .before .before .before .pre .3 .4) (equation-right (c .before .before .before .before .before .before .before .before .before .before .before .before .before .before .before .before .before .before .before .before .before .pre .3 .2) (c .before .before .before .before .before .before .before .before .before .before .before .before .before .before .before .before .before .before .before .before .before .pre .3 .0) (c .before .before .before .before .before .before .before .before .before .before .before .before .before .before .before .before .before .before .before .before .before .pre .3 .5))) (c .before .before .next .given .1) in (omega (arith, d .is), omega (arith, d .fits, d .touched .long, c .before .before .before .before .before .before .before .before .before .before .before .before .before .before .before .before .before .before .before .before .before .pre .0), omega (arith, d .fits, c .before .before .before .before .before .before .before .before .before .before .before .before .before .before .before .before .before .before .before .before .before .pre .1), omega arith)
 
 same-length-3 : tie.Need-same-length-3
 same-length-3 c = search needs
 
 returns-4 : tie.Need-returns-4
-returns-4 c = λ b top names h n k l. equation-put names b (c .before .before .put-head .ensures _ _ _ (equation-inner names b _ (equation-variable h (c .before .before .before .before .before .before .before .before .before .before .before .before .before .before .before .before .before .before .before .variable-at .ensures) _ names n k (c .before .before .before .before .before .before .before .before .before .before .before .before .before .before .before .before .before .before .before .before .if1 .left) (c .before .before .before .before .before .before .before .before .before .before .before .before .before .before .before .before .before .put-variable .ensures)) (c .before .before .before .before .before .before .before .before .before .before .before .before .before .middle .given .1) (c .before .before .before .before .before .before .before .before .before .put-term .ensures (b .1) top names (h .right) n (equation-right names b k) (h .small)) (c .before .before .before .before .before .next .given .1)))
+returns-4 c = λ b top names h n k l. equation-put names b (c .before .before .put-head .ensures _ _ _ (equation-inner names b _ (equation-variable h (c .before .before .before .before .before .before .before .before .before .before .before .before .before .before .before .before .before .before .before .variable-at .ensures) _ names n k (c .before .before .before .before .before .before .before .before .before .before .before .before .before .before .before .before .before .before .before .before .if1 .left) (c .before .before .before .before .before .before .before .before .before .before .before .before .before .before .before .before .before .put-variable .ensures)) (c .before .before .before .before .before .before .before .before .before .before .before .before .before .middle .given .1) (c .before .before .before .before .before .before .before .before .before .put-term .ensures (b .1) top names (h .right) n (equation-right names b k)) (c .before .before .before .before .before .next .given .1)))
 
 pub put-equation-spec : {M : Type 1} → statement M
 put-equation-spec =

@@ -13,21 +13,18 @@ use Rattle.engine.proofs.PutLaws.{placed-long}
 use Rattle.engine.proofs.LineLaws.{Going, going-start, going-next, going-end, next-missed, next-put}
 use Rattle.engine.proofs.line.put_equations.Statement.{statement}
 use Rattle.engine.proofs.line.put_equations.Tie as tie
-use Rattle.engine.proofs.line.put_equations.Reads as reads
-use Rattle.engine.proofs.line.put_equations.Lts as lts
-use Rattle.engine.proofs.line.put_equation.Reads as put-equation-reads
 
 abbrev Inv-loop : tie.InvT-loop
-Inv-loop program scratch output₀ mark count start end write pairs at₀ i₀ output at i = (cs : List (ℕ × Term)) (top : ℕ) (names : List ℕ) → Equations program scratch pairs mark 0 cs → count ≡ length cs → Names scratch top names → bindings-in names cs ≡ true
-    → Going program scratch output₀ output pairs mark count i start at end write names (equations-words names cs)
+Inv-loop program scratch output₀ mark count start end write at₀ i₀ output at i = (cs : List (ℕ × Term)) (top : ℕ) (names : List ℕ) → Equations program scratch mark 0 cs → count ≡ length cs → Names scratch top names → bindings-in names cs ≡ true
+    → Going program scratch output₀ output mark count i start at end write names (equations-words names cs)
 
 abbrev μ-loop : tie.MeasureT-loop
-μ-loop program scratch output₀ mark count start end write pairs at₀ i₀ output at i = count - i
+μ-loop program scratch output₀ mark count start end write at₀ i₀ output at i = count - i
 
 -- what is put so far, for the equations and the names that the caller knows of
 now-at : (c : tie.At-loop Inv-loop μ-loop)
     → (let a = c .before .before .before .before .args in let q = c .before .before .before .before .pre .4 in
-    Going (a .program .now) (a .scratch .now) (a .output .now) (c .loop .output) (a .pairs) (a .mark) (a .count) (c .loop .i) (a .start) (c .loop .at) (a .end) (a .write) (q .2) (equations-words (q .2) (q .0)))
+    Going (a .program .now) (a .scratch .now) (a .output .now) (c .loop .output) (a .mark) (a .count) (c .loop .i) (a .start) (c .loop .at) (a .end) (a .write) (q .2) (equations-words (q .2) (q .0)))
 now-at c = let q = c .before .before .before .before .pre .4 in c .loop .inv (q .0) (q .1) (q .2) (q .3) (q .4) (q .5) (q .6)
 
 loop-holds : tie.Need-loop-holds Inv-loop μ-loop

@@ -2,11 +2,6 @@ use Rattle.engine.proofs.LineLaws.{typed-line, typed-words, typed-membe
 use borrow.Author.Needs.{needs}
 use Rattle.engine.proofs.line.put_line.Statement.{statement}
 use Rattle.engine.proofs.line.put_line.Tie as tie
-use Rattle.engine.proofs.line.put_line.Reads as reads
-use Rattle.engine.proofs.line.put_line.Lts as lts
-use Rattle.engine.proofs.line.put_differ.Reads as put-differ-reads
-use Rattle.engine.proofs.line.put_lacks.Reads as put-lacks-reads
-use Rattle.engine.proofs.line.put_typed.Reads as put-typed-reads
 
 enum-known-line : tie.Need-enum-known-line
 enum-known-line c = search needs

@@ -3,11 +3,6 @@ use Rattle.engine.proofs.LineLaws.{typed-missed, typed-put}
 use borrow.Author.Needs.{needs}
 use Rattle.engine.proofs.line.put_typed.Statement.{statement}
 use Rattle.engine.proofs.line.put_typed.Tie as tie
-use Rattle.engine.proofs.line.put_typed.Reads as reads
-use Rattle.engine.proofs.line.put_typed.Lts as lts
-use Rattle.engine.proofs.put.put_one.Reads as put-one-reads
-use Rattle.engine.proofs.put.put_variable.Reads as put-variable-reads
-use Rattle.word.proofs.Word.new.Reads as new-reads
 
 new-requires : tie.Need-new-requires
 new-requires c κs = search needs

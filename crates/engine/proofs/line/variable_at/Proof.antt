@@ -2,8 +2,6 @@ use Rattle.engine.proofs.LineLaws.{half-low, half-high}
 use borrow.Author.Needs.{needs}
 use Rattle.engine.proofs.line.variable_at.Statement.{statement}
 use Rattle.engine.proofs.line.variable_at.Tie as tie
-use Rattle.engine.proofs.line.variable_at.Reads as reads
-use Rattle.engine.proofs.line.variable_at.Lts as lts
 
 add-bits : tie.Need-add-bits
 add-bits c = search needs

@@ -1,8 +1,9 @@
-use Prim.Native.Nat.{_≤_, _-_}
+use Prim.Native.Nat.{_≤_}
 use mathlib.Core.Path.{sym, refl}
 use native.Mathlib.Omega.{arith}
 use borrow.Author.Needs.{needs}
 use Rattle.engine.specs.Page.{AddsAbsent}
+use Rattle.engine.proofs.SizeLaws.{reach}
 use Rattle.engine.proofs.LinesLaws.{AbsentFor, absent-start, absent-as, absent-add, absent-leaf, absent-pair, absent-first, absent-next, page-long}
 use Prim.Native.Nat.{ℕ, _<_}
 use borrow.Fn.Kinds.{In}
@@ -16,7 +17,7 @@ use Rattle.engine.proofs.lines.+add_absent.{statement}
 use Rattle.engine.proofs.lines.+add_absent.Tie.{close}
 
 abbrev μ-add-absent : Measures 3 add-absent-kinds.ps ℕ
-μ-add-absent κs a = a .1 .1 .1 .1 .1 .1 .1 .1 .0
+μ-add-absent κs a = reach (a .0 .now) (a .1 .0 .now) (a .1 .1 .1 .1 .0)
 
 abbrev add-absent-at : ℕ → In 3 add-absent-kinds.ps
 add-absent-at t =
@@ -31,16 +32,16 @@ abbrev add-absent-claims : ℕ → add-absent-lts.Claims
 add-absent-claims t = (follow-reads.Asked, follow-reads.Learnt, add-line-reads.Asked, add-line-reads.Learnt, add-absent-below t, add-absent.Post)
 
 abbrev add-absent-Inv-loop : add-absent-lts.InvT-loop
-add-absent-Inv-loop program scratch output₀ tag term first end at pairs from₀ place₀ left₀ output from place left =
-    (left ≤ pairs) × ((g : AddsAbsent program scratch output₀ tag term first end at pairs) → AbsentFor program scratch output₀ output tag term from first end at place pairs left g)
+add-absent-Inv-loop program scratch output₀ tag term first end at from₀ place₀ output from place =
+    (reach program scratch from ≤ reach program scratch term) × ((g : AddsAbsent program scratch output₀ tag term first end at) → AbsentFor program scratch output₀ output tag term from first end at place g)
 
 abbrev add-absent-μ-loop : add-absent-lts.MeasureT-loop
-add-absent-μ-loop program scratch output₀ tag term first end at pairs from₀ place₀ left₀ output from place left = left
+add-absent-μ-loop program scratch output₀ tag term first end at from₀ place₀ output from place = reach program scratch from
 
 -- where the loop is, for what the caller knows
 now-at : (t : ℕ) (c : add-absent-lts.At-loop (add-absent-claims t) (add-absent-at t) add-absent.Post add-absent-Inv-loop add-absent-μ-loop)
     → (let a = c .before .before .before .before .args in
-    AbsentFor (a .program .now) (a .scratch .now) (a .output .now) (c .loop .output) (a .tag) (a .term) (c .loop .from) (a .first) (a .end) (a .at) (c .loop .place) (a .pairs) (c .loop .left) (c .before .before .before .before .pre .1 .2))
+    AbsentFor (a .program .now) (a .scratch .now) (a .output .now) (c .loop .output) (a .tag) (a .term) (c .loop .from) (a .first) (a .end) (a .at) (c .loop .place) (c .before .before .before .before .pre .1 .2))
 now-at t c = c .loop .inv .1 (c .before .before .before .before .pre .1 .2)
 
 add-absent-loop-holds : (t : ℕ) → add-absent-lts.Need-loop-holds (add-absent-claims t) (add-absent-at t) add-absent.Post add-absent-Inv-loop add-absent-μ-loop
@@ -54,7 +55,7 @@ add-absent-enum-known-x t c = search needs
 
 add-absent-add-line-requires : (t : ℕ) → add-absent-lts.Need-add-line-requires (add-absent-claims t) (add-absent-at t) add-absent.Post add-absent-Inv-loop add-absent-μ-loop
 add-absent-add-line-requires t c κs = let h = now-at t (c .before .before .before .before .before) in let g = h .rest in
-    (omega (arith, page-long (c .before .before .before .before .before .before .before .before .before .pre .1 .2 .writing .page) (g .writing .page) (sym (h .is-before)), c .before .before .before .before .before .before .before .before .before .pre .1 .0), c .before .before .before .before .before .before .before .before .before .pre .1 .1, g .here .follows .binds .long, (g .writing .before, g .writing .begin, g .writing .head, g .writing .lines, _, g .writing .top, g .writing .names, g .writing .page, absent-as h (c .before .before .before .before .follow .ensures) _ (c .before .before .x .given .1), g .writing .named))
+    (omega (arith, page-long (c .before .before .before .before .before .before .before .before .before .pre .1 .2 .writing .page) (g .writing .page) (sym (h .is-before)), c .before .before .before .before .before .before .before .before .before .pre .1 .0), c .before .before .before .before .before .before .before .before .before .pre .1 .1, g .here .follows .binds .long, (g .writing .before, g .writing .begin, g .writing .head, g .writing .lines, _, g .writing .top, g .writing .names, g .writing .page, absent-as h (c .before .before .before .before .follow .ensures) (c .before .before .x .given .1), g .writing .named))
 
 add-absent-same-length : (t : ℕ) → add-absent-lts.Need-same-length (add-absent-claims t) (add-absent-at t) add-absent.Post add-absent-Inv-loop add-absent-μ-loop
 add-absent-same-length t c = let h = now-at t (c .before .before .before .before .before .before .before .before) in page-long (c .before .before .before .before .before .before .before .before .before .before .before .before .pre .1 .2 .writing .page) (absent-add h (c .before .before .before .before .before .before .before .follow .ensures) (c .before .before .before .before .before .x .given .1) (c .before .before .add-line .ensures)) refl
@@ -74,18 +75,15 @@ add-absent-returns-2 t c = λ g. absent-leaf (c .before .before .before .loop .i
 add-absent-enum-known-a : (t : ℕ) → add-absent-lts.Need-enum-known-a (add-absent-claims t) (add-absent-at t) add-absent.Post add-absent-Inv-loop add-absent-μ-loop
 add-absent-enum-known-a t c = search needs
 
-add-absent-sub-left : (t : ℕ) → add-absent-lts.Need-sub-left (add-absent-claims t) (add-absent-at t) add-absent.Post add-absent-Inv-loop add-absent-μ-loop
-add-absent-sub-left t c = absent-pair (now-at t (c .before .before .before .before)) (c .before .before .before .follow .ensures) (c .before .a .given .1) .some-left
-
 add-absent-add-absent-requires : (t : ℕ) → add-absent-lts.Need-add-absent-requires (add-absent-claims t) (add-absent-at t) add-absent.Post add-absent-Inv-loop add-absent-μ-loop
 add-absent-add-absent-requires t c κs = let h = now-at t (c .before .before .before .before .before) in let p = absent-pair h (c .before .before .before .before .follow .ensures) (c .before .before .a .given .1) in
-    (omega (arith, c .before .before .before .before .before .loop .inv .0, c .before .before .before .before .before .before .before .before .before .pre .0, p .some-left), (omega (arith, page-long (c .before .before .before .before .before .before .before .before .before .pre .1 .2 .writing .page) (h .rest .writing .page) (sym (h .is-before)), c .before .before .before .before .before .before .before .before .before .pre .1 .0), c .before .before .before .before .before .before .before .before .before .pre .1 .1, absent-first h p))
+    (omega (arith, c .before .before .before .before .before .loop .inv .0, c .before .before .before .before .before .before .before .before .before .pre .0, p .first-falls), (omega (arith, page-long (c .before .before .before .before .before .before .before .before .before .pre .1 .2 .writing .page) (h .rest .writing .page) (sym (h .is-before)), c .before .before .before .before .before .before .before .before .before .pre .1 .0), c .before .before .before .before .before .before .before .before .before .pre .1 .1, absent-first h p))
 
 add-absent-loop-less : (t : ℕ) → add-absent-lts.Need-loop-less (add-absent-claims t) (add-absent-at t) add-absent.Post add-absent-Inv-loop add-absent-μ-loop
-add-absent-loop-less t c = omega (arith, absent-pair (now-at t (c .before .before .before .before .before .before .before .before)) (c .before .before .before .before .before .before .before .follow .ensures) (c .before .before .before .before .before .a .given .1) .some-left)
+add-absent-loop-less t c = let p = absent-pair (now-at t (c .before .before .before .before .before .before .before .before)) (c .before .before .before .before .before .before .before .follow .ensures) (c .before .before .before .before .before .a .given .1) in p .second-falls (p .second-here)
 
 add-absent-loop-again : (t : ℕ) → add-absent-lts.Need-loop-again (add-absent-claims t) (add-absent-at t) add-absent.Post add-absent-Inv-loop add-absent-μ-loop
-add-absent-loop-again t c = (omega (arith, c .before .before .before .before .before .before .before .before .loop .inv .0), λ g. let h = c .before .before .before .before .before .before .before .before .loop .inv .1 g in absent-next h (absent-pair h (c .before .before .before .before .before .before .before .follow .ensures) (c .before .before .before .before .before .a .given .1)) (c .before .before .add-absent .ensures))
+add-absent-loop-again t c = (let p = absent-pair (now-at t (c .before .before .before .before .before .before .before .before)) (c .before .before .before .before .before .before .before .follow .ensures) (c .before .before .before .before .before .a .given .1) in omega (arith, c .before .before .before .before .before .before .before .before .loop .inv .0, p .second-falls (p .second-here)), λ g. let h = c .before .before .before .before .before .before .before .before .loop .inv .1 g in absent-next h (absent-pair h (c .before .before .before .before .before .before .before .follow .ensures) (c .before .before .before .before .before .a .given .1)) (c .before .before .add-absent .ensures))
 
 pub +add-absent-spec : {M : Type 1} → statement M
 +add-absent-spec = close μ-add-absent λ t. add-absent-lts.spec (add-absent-claims t) (add-absent-at t) add-absent.Post
@@ -101,7 +99,6 @@ pub +add-absent-spec : {M : Type 1} → statement M
     (add-absent-same-length-2 t)
     (add-absent-returns-2 t)
     (add-absent-enum-known-a t)
-    (add-absent-sub-left t)
     (add-absent-add-absent-requires t)
     (add-absent-loop-less t)
     (add-absent-loop-again t)

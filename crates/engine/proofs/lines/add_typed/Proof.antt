@@ -2,10 +2,6 @@ use Rattle.engine.proofs.LinesLaws.{typed-as, typed-add, typed-leaf, ty
 use borrow.Author.Needs.{needs}
 use Rattle.engine.proofs.lines.add_typed.Statement.{statement}
 use Rattle.engine.proofs.lines.add_typed.Tie as tie
-use Rattle.engine.proofs.lines.add_typed.Reads as reads
-use Rattle.engine.proofs.lines.add_typed.Lts as lts
-use Rattle.engine.proofs.follow.follow.Reads as follow-reads
-use Rattle.engine.proofs.page.add_line.Reads as add-line-reads
 
 follow-requires : tie.Need-follow-requires
 follow-requires c κs = search needs
@@ -14,7 +10,7 @@ enum-known-x : tie.Need-enum-known-x
 enum-known-x c = search needs
 
 add-line-requires : tie.Need-add-line-requires
-add-line-requires c κs = let g = c .before .before .before .before .before .before .before .before .pre .2 in (c .before .before .before .before .before .before .before .before .pre .0, c .before .before .before .before .before .before .before .before .pre .1, g .here .follows .binds .long, (g .writing .before, g .writing .begin, g .writing .head, g .writing .lines, _, g .writing .top, g .writing .names, g .writing .page, typed-as g (c .before .before .before .before .follow .ensures) _ (c .before .before .x .given .1), g .writing .named))
+add-line-requires c κs = let g = c .before .before .before .before .before .before .before .before .pre .2 in (c .before .before .before .before .before .before .before .before .pre .0, c .before .before .before .before .before .before .before .before .pre .1, g .here .follows .binds .long, (g .writing .before, g .writing .begin, g .writing .head, g .writing .lines, _, g .writing .top, g .writing .names, g .writing .page, typed-as g (c .before .before .before .before .follow .ensures) (c .before .before .x .given .1), g .writing .named))
 
 same-length : tie.Need-same-length
 same-length c = search needs

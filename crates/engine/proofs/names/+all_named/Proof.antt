@@ -1,13 +1,13 @@
-use Prim.Native.Nat.{_≤_, _-_}
+use Prim.Native.Nat.{_≤_}
 use mathlib.Core.List.{List}
 use native.Mathlib.Omega.{arith}
 use borrow.Author.Needs.{needs}
 use mathlib.Core.Path.{refl}
 use Rattle.rules.specs.Syntax.{Term}
 use Rattle.semantics.specs.Answer.{vars-in}
-use Rattle.semantics.proofs.TermLaws.{term-size}
 use Rattle.engine.specs.Follow.{Resolves}
 use Rattle.engine.specs.Names.{Names}
+use Rattle.engine.proofs.SizeLaws.{reach}
 use Rattle.engine.proofs.NamingLaws.{Asking, asking-low, asking-yes, asking-no, asking-leaf, asking-pair, asking-not-first, asking-next}
 use Prim.Native.Nat.{ℕ, _<_}
 use borrow.Fn.Kinds.{In}
@@ -20,7 +20,7 @@ use Rattle.engine.proofs.names.+all_named.{statement}
 use Rattle.engine.proofs.names.+all_named.Tie.{close}
 
 abbrev μ-all-named : Measures 2 all-named-kinds.ps ℕ
-μ-all-named κs a = a .1 .1 .1 .0
+μ-all-named κs a = reach (a .0 .now) (a .1 .0 .now) (a .1 .1 .0)
 
 abbrev all-named-at : ℕ → In 2 all-named-kinds.ps
 all-named-at t = and 2 all-named-kinds.ps (is 2 all-named-kinds.ps μ-all-named t) all-named.Pre
@@ -34,18 +34,18 @@ abbrev all-named-claims : ℕ → all-named-lts.Claims
 all-named-claims t = (follow-reads.Asked, follow-reads.Learnt, all-named-below t, all-named.Post)
 
 abbrev all-named-Inv-loop : all-named-lts.InvT-loop
-all-named-Inv-loop program scratch term pairs at₀ left₀ at left = (left ≤ pairs) × ((t : Term) (top : ℕ) (names : List ℕ) → Resolves program scratch term t → Names scratch top names → term-size t ≤ pairs → Asking program scratch at left names (vars-in names t))
+all-named-Inv-loop program scratch term at₀ at = (reach program scratch at ≤ reach program scratch term) × ((t : Term) (top : ℕ) (names : List ℕ) → Resolves program scratch term t → Names scratch top names → Asking program scratch at names (vars-in names t))
 
 abbrev all-named-μ-loop : all-named-lts.MeasureT-loop
-all-named-μ-loop program scratch term pairs at₀ left₀ at left = left
+all-named-μ-loop program scratch term at₀ at = reach program scratch at
 
 -- what is left to ask, for the term and the names that the caller knows of
 now-at : (t : ℕ) (c : all-named-lts.At-loop (all-named-claims t) (all-named-at t) all-named.Post all-named-Inv-loop all-named-μ-loop)
-    → (let a = c .before .before .before .args in let p = c .before .before .before .pre .1 in Asking (a .program .now) (a .scratch .now) (c .loop .at) (c .loop .left) (p .2) (vars-in (p .2) (p .0)))
-now-at t c = let p = c .before .before .before .pre .1 in c .loop .inv .1 (p .0) (p .1) (p .2) (p .3) (p .4) (p .5)
+    → (let a = c .before .before .before .args in let p = c .before .before .before .pre .1 in Asking (a .program .now) (a .scratch .now) (c .loop .at) (p .2) (vars-in (p .2) (p .0)))
+now-at t c = let p = c .before .before .before .pre .1 in c .loop .inv .1 (p .0) (p .1) (p .2) (p .3) (p .4)
 
 all-named-loop-holds : (t : ℕ) → all-named-lts.Need-loop-holds (all-named-claims t) (all-named-at t) all-named.Post all-named-Inv-loop all-named-μ-loop
-all-named-loop-holds t c = (omega arith, λ u top names h g l. record { term = u; here = h; small = l; same = refl })
+all-named-loop-holds t c = (omega arith, λ u top names h g. record { term = u; here = h; same = refl })
 
 all-named-follow-requires : (t : ℕ) → all-named-lts.Need-follow-requires (all-named-claims t) (all-named-at t) all-named.Post all-named-Inv-loop all-named-μ-loop
 all-named-follow-requires t c κs = let g = now-at t c in (g .term, g .here)
@@ -66,34 +66,31 @@ all-named-shared-slice-read-if1 : (t : ℕ) → all-named-lts.Need-shared-slice-
 all-named-shared-slice-read-if1 t c = omega (arith, asking-low (c .before .before .before .before .before .before .before .before .pre .1 .4) (now-at t (c .before .before .before .before .before)) (c .before .before .before .before .follow .ensures) (c .before .before .x .given .1), now-at t (c .before .before .before .before .before) .here .follows .binds .long)
 
 all-named-returns : (t : ℕ) → all-named-lts.Need-returns (all-named-claims t) (all-named-at t) all-named.Post all-named-Inv-loop all-named-μ-loop
-all-named-returns t c = λ u top names h g l. asking-no g (c .before .before .before .before .before .before .loop .inv .1 u top names h g l) (c .before .before .before .before .before .follow .ensures) (c .before .before .before .x .given .1) (c .if1 .taken)
+all-named-returns t c = λ u top names h g. asking-no g (c .before .before .before .before .before .before .loop .inv .1 u top names h g) (c .before .before .before .before .before .follow .ensures) (c .before .before .before .x .given .1) (c .if1 .taken)
 
 all-named-returns-2 : (t : ℕ) → all-named-lts.Need-returns-2 (all-named-claims t) (all-named-at t) all-named.Post all-named-Inv-loop all-named-μ-loop
-all-named-returns-2 t c = λ u top names h g l. asking-yes g (c .before .before .before .before .before .before .loop .inv .1 u top names h g l) (c .before .before .before .before .before .follow .ensures) (c .before .before .before .x .given .1) (c .if1 .left)
+all-named-returns-2 t c = λ u top names h g. asking-yes g (c .before .before .before .before .before .before .loop .inv .1 u top names h g) (c .before .before .before .before .before .follow .ensures) (c .before .before .before .x .given .1) (c .if1 .left)
 
 all-named-enum-told : (t : ℕ) → all-named-lts.Need-enum-told (all-named-claims t) (all-named-at t) all-named.Post all-named-Inv-loop all-named-μ-loop
 all-named-enum-told t c = search needs
 
 all-named-returns-3 : (t : ℕ) → all-named-lts.Need-returns-3 (all-named-claims t) (all-named-at t) all-named.Post all-named-Inv-loop all-named-μ-loop
-all-named-returns-3 t c = λ u top names h g l. asking-leaf g (c .before .before .before .loop .inv .1 u top names h g l) (c .before .before .follow .ensures) (c .enum-told .given .1)
+all-named-returns-3 t c = λ u top names h g. asking-leaf g (c .before .before .before .loop .inv .1 u top names h g) (c .before .before .follow .ensures) (c .enum-told .given .1)
 
 all-named-enum-known-first : (t : ℕ) → all-named-lts.Need-enum-known-first (all-named-claims t) (all-named-at t) all-named.Post all-named-Inv-loop all-named-μ-loop
 all-named-enum-known-first t c = search needs
 
-all-named-sub-left : (t : ℕ) → all-named-lts.Need-sub-left (all-named-claims t) (all-named-at t) all-named.Post all-named-Inv-loop all-named-μ-loop
-all-named-sub-left t c = asking-pair (c .before .before .before .before .before .before .before .pre .1 .4) (now-at t (c .before .before .before .before)) (c .before .before .before .follow .ensures) (c .before .first .given .1) .some-left
-
 all-named-all-named-requires : (t : ℕ) → all-named-lts.Need-all-named-requires (all-named-claims t) (all-named-at t) all-named.Post all-named-Inv-loop all-named-μ-loop
-all-named-all-named-requires t c κs = let p = c .before .before .before .before .before .before .before .pre .1 in let q = asking-pair (p .4) (now-at t (c .before .before .before .before)) (c .before .before .before .follow .ensures) (c .before .first .given .1) in (omega (arith, c .before .before .before .before .loop .inv .0, c .before .before .before .before .before .before .before .pre .0, q .some-left), (q .first, p .1, p .2, q .first-here, p .4, q .first-small))
+all-named-all-named-requires t c κs = let p = c .before .before .before .before .before .before .before .pre .1 in let q = asking-pair (p .4) (now-at t (c .before .before .before .before)) (c .before .before .before .follow .ensures) (c .before .first .given .1) in (omega (arith, c .before .before .before .before .loop .inv .0, c .before .before .before .before .before .before .before .pre .0, q .first-falls), (q .first, p .1, p .2, q .first-here, p .4))
 
 all-named-loop-less : (t : ℕ) → all-named-lts.Need-loop-less (all-named-claims t) (all-named-at t) all-named.Post all-named-Inv-loop all-named-μ-loop
-all-named-loop-less t c = omega (arith, asking-pair (c .before .before .before .before .before .before .before .before .before .pre .1 .4) (now-at t (c .before .before .before .before .before .before)) (c .before .before .before .before .before .follow .ensures) (c .before .before .before .first .given .1) .some-left)
+all-named-loop-less t c = let q = asking-pair (c .before .before .before .before .before .before .before .before .before .pre .1 .4) (now-at t (c .before .before .before .before .before .before)) (c .before .before .before .before .before .follow .ensures) (c .before .before .before .first .given .1) in q .second-falls (q .second-here)
 
 all-named-loop-again : (t : ℕ) → all-named-lts.Need-loop-again (all-named-claims t) (all-named-at t) all-named.Post all-named-Inv-loop all-named-μ-loop
-all-named-loop-again t c = (omega (arith, c .before .before .before .before .before .before .loop .inv .0), λ u top names h g l. asking-next g (c .before .before .before .before .before .before .loop .inv .1 u top names h g l) (c .before .before .before .before .before .follow .ensures) (c .before .before .before .first .given .1) (c .before .all-named .ensures) (c .if2 .taken))
+all-named-loop-again t c = (let q = asking-pair (c .before .before .before .before .before .before .before .before .before .pre .1 .4) (now-at t (c .before .before .before .before .before .before)) (c .before .before .before .before .before .follow .ensures) (c .before .before .before .first .given .1) in omega (arith, c .before .before .before .before .before .before .loop .inv .0, q .second-falls (q .second-here)), λ u top names h g. asking-next g (c .before .before .before .before .before .before .loop .inv .1 u top names h g) (c .before .before .before .before .before .follow .ensures) (c .before .before .before .first .given .1) (c .before .all-named .ensures) (c .if2 .taken))
 
 all-named-returns-4 : (t : ℕ) → all-named-lts.Need-returns-4 (all-named-claims t) (all-named-at t) all-named.Post all-named-Inv-loop all-named-μ-loop
-all-named-returns-4 t c = λ u top names h g l. asking-not-first g (c .before .before .before .before .before .before .loop .inv .1 u top names h g l) (c .before .before .before .before .before .follow .ensures) (c .before .before .before .first .given .1) (c .before .all-named .ensures) (c .if2 .left)
+all-named-returns-4 t c = λ u top names h g. asking-not-first g (c .before .before .before .before .before .before .loop .inv .1 u top names h g) (c .before .before .before .before .before .follow .ensures) (c .before .before .before .first .given .1) (c .before .all-named .ensures) (c .if2 .left)
 
 pub +all-named-spec : {M : Type 1} → statement M
 +all-named-spec = close μ-all-named λ t. all-named-lts.spec (all-named-claims t) (all-named-at t) all-named.Post
@@ -111,7 +108,6 @@ pub +all-named-spec : {M : Type 1} → statement M
     (all-named-enum-told t)
     (all-named-returns-3 t)
     (all-named-enum-known-first t)
-    (all-named-sub-left t)
     (all-named-all-named-requires t)
     (all-named-loop-less t)
     (all-named-loop-again t)

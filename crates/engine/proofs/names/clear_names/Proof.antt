@@ -1,14 +1,11 @@
 use Prim.Native.Nat.{ℕ, _%_}
 use mathlib.Core.List.{List}
 use native.Mathlib.Omega.{arith}
-use lib.ListN.{length}
 use Rattle.engine.specs.Names.{Named}
 use Rattle.engine.proofs.NameLaws.{named-still, named-trans}
 use Rattle.engine.proofs.NamingLaws.{Popped, pop, all-taken}
 use Rattle.engine.proofs.names.clear_names.Statement.{statement}
 use Rattle.engine.proofs.names.clear_names.Tie as tie
-use Rattle.engine.proofs.names.clear_names.Reads as reads
-use Rattle.engine.proofs.names.clear_names.Lts as lts
 
 abbrev Inv-loop : tie.InvT-loop
 Inv-loop scratch₀ top last₀ scratch last = (names : List ℕ) × Named scratch₀ scratch last names

@@ -3,8 +3,6 @@ use Rattle.engine.proofs.NameLaws.{names-top, named-already, named-now}
 use borrow.Author.Needs.{needs}
 use Rattle.engine.proofs.names.name_variable.Statement.{statement}
 use Rattle.engine.proofs.names.name_variable.Tie as tie
-use Rattle.engine.proofs.names.name_variable.Reads as reads
-use Rattle.engine.proofs.names.name_variable.Lts as lts
 
 add-at : tie.Need-add-at
 add-at c = search needs

@@ -5,11 +5,6 @@ use Rattle.engine.proofs.PageLaws.{page-rows, page-full, page-dropped, 
 use borrow.Author.Needs.{needs}
 use Rattle.engine.proofs.page.add_line.Statement.{statement}
 use Rattle.engine.proofs.page.add_line.Tie as tie
-use Rattle.engine.proofs.page.add_line.Reads as reads
-use Rattle.engine.proofs.page.add_line.Lts as lts
-use Rattle.engine.proofs.line.line_named.Reads as line-named-reads
-use Rattle.engine.proofs.line.put_line.Reads as put-line-reads
-use Rattle.engine.proofs.page.repeated.Reads as repeated-reads
 
 returns : tie.Need-returns
 returns c = λ o begin head ws l top names h i n. page-full h names l (c .if1 .taken)

@@ -12,18 +12,13 @@ use Rattle.engine.specs.Page.{Rows}
 use Rattle.engine.proofs.PageLaws.{Row, row-next, row-end, row-found, row-on, row-moved}
 use Rattle.engine.proofs.page.repeated.Statement.{statement}
 use Rattle.engine.proofs.page.repeated.Tie as tie
-use Rattle.engine.proofs.page.repeated.Reads as reads
-use Rattle.engine.proofs.page.repeated.Lts as lts
-use Rattle.engine.proofs.page.same_line.Reads as same-line-reads
-use Rattle.word.proofs.Word.from_bits.Reads as from-bits-reads
-use Rattle.word.proofs.Word.payload.Reads as payload-reads
 
 abbrev Inv-loop : tie.InvT-loop
-Inv-loop program scratch output₀ line first at pairs place₀ output place = (output ≡ output₀) × ((ws : List (List ℕ)) (l : Line) (top : ℕ) (names : List ℕ) → Rows output₀ first at ws → LineAs program scratch pairs line l → Names scratch top names → line-in names l ≡ true
+Inv-loop program scratch output₀ line first at place₀ output place = (output ≡ output₀) × ((ws : List (List ℕ)) (l : Line) (top : ℕ) (names : List ℕ) → Rows output₀ first at ws → LineAs program scratch line l → Names scratch top names → line-in names l ≡ true
     → Row output place at (line-words names l) (any-same (line-words names l) ws))
 
 abbrev μ-loop : tie.MeasureT-loop
-μ-loop program scratch output₀ line first at pairs place₀ output place = at - place
+μ-loop program scratch output₀ line first at place₀ output place = at - place
 
 -- the earlier lines that are left, for the line and the names that the caller knows of
 now-at : (c : tie.At-loop Inv-loop μ-loop) → (let a = c .before .before .before .before .args in let q = c .before .before .before .before .pre .3 in Row (c .loop .output) (c .loop .place) (a .at) (line-words (q .3) (q .1)) (any-same (line-words (q .3) (q .1)) (q .0)))

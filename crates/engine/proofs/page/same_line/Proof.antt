@@ -2,9 +2,6 @@ use Rattle.engine.proofs.PageLaws.{same-missed, same-found, same-short,
 use borrow.Author.Needs.{needs}
 use Rattle.engine.proofs.page.same_line.Statement.{statement}
 use Rattle.engine.proofs.page.same_line.Tie as tie
-use Rattle.engine.proofs.page.same_line.Reads as reads
-use Rattle.engine.proofs.page.same_line.Lts as lts
-use Rattle.engine.proofs.line.put_line.Reads as put-line-reads
 
 put-line-requires : tie.Need-put-line-requires
 put-line-requires c κs = search needs

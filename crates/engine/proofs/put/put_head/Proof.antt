@@ -2,10 +2,6 @@ use Rattle.engine.proofs.PutLaws.{head-put, head-missed}
 use borrow.Author.Needs.{needs}
 use Rattle.engine.proofs.put.put_head.Statement.{statement}
 use Rattle.engine.proofs.put.put_head.Tie as tie
-use Rattle.engine.proofs.put.put_head.Reads as reads
-use Rattle.engine.proofs.put.put_head.Lts as lts
-use Rattle.engine.proofs.put.put_word.Reads as put-word-reads
-use Rattle.word.proofs.Word.new.Reads as new-reads
 
 sub-size : tie.Need-sub-size
 sub-size c = search needs

@@ -2,9 +2,6 @@ use Rattle.engine.proofs.PutLaws.{placed-last, missed-last}
 use borrow.Author.Needs.{needs}
 use Rattle.engine.proofs.put.put_last.Statement.{statement}
 use Rattle.engine.proofs.put.put_last.Tie as tie
-use Rattle.engine.proofs.put.put_last.Reads as reads
-use Rattle.engine.proofs.put.put_last.Lts as lts
-use Rattle.engine.proofs.put.put_word.Reads as put-word-reads
 
 put-word-requires : tie.Need-put-word-requires
 put-word-requires c κs = search needs

@@ -2,9 +2,6 @@ use Rattle.engine.proofs.PutLaws.{one-full}
 use borrow.Author.Needs.{needs}
 use Rattle.engine.proofs.put.put_one.Statement.{statement}
 use Rattle.engine.proofs.put.put_one.Tie as tie
-use Rattle.engine.proofs.put.put_one.Reads as reads
-use Rattle.engine.proofs.put.put_one.Lts as lts
-use Rattle.engine.proofs.put.put_last.Reads as put-last-reads
 
 returns : tie.Need-returns
 returns c = λ l. one-full (c .if1 .taken)

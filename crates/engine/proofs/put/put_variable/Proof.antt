@@ -3,10 +3,6 @@ use Rattle.engine.proofs.PutLaws.{variable-number, variable-put}
 use borrow.Author.Needs.{needs}
 use Rattle.engine.proofs.put.put_variable.Statement.{statement}
 use Rattle.engine.proofs.put.put_variable.Tie as tie
-use Rattle.engine.proofs.put.put_variable.Reads as reads
-use Rattle.engine.proofs.put.put_variable.Lts as lts
-use Rattle.engine.proofs.put.put_one.Reads as put-one-reads
-use Rattle.word.proofs.Word.new.Reads as new-reads
 
 add-number : tie.Need-add-number
 add-number c = search needs

@@ -2,8 +2,6 @@ use Rattle.engine.proofs.PutLaws.{word-written, word-there, word-differ
 use borrow.Author.Needs.{needs}
 use Rattle.engine.proofs.put.put_word.Statement.{statement}
 use Rattle.engine.proofs.put.put_word.Tie as tie
-use Rattle.engine.proofs.put.put_word.Reads as reads
-use Rattle.engine.proofs.put.put_word.Lts as lts
 
 mul-output : tie.Need-mul-output
 mul-output c = search needs

@@ -3,9 +3,6 @@ use Rattle.engine.proofs.WriterLaws.{parameter-follows, parameter-looke
 use borrow.Author.Needs.{needs}
 use Rattle.engine.proofs.query.look_parameter.Statement.{statement}
 use Rattle.engine.proofs.query.look_parameter.Tie as tie
-use Rattle.engine.proofs.query.look_parameter.Reads as reads
-use Rattle.engine.proofs.query.look_parameter.Lts as lts
-use Rattle.engine.proofs.look.look.Reads as look-reads
 
 mul-entry : tie.Need-mul-entry
 mul-entry c = search needs

@@ -3,10 +3,6 @@ use Rattle.engine.proofs.WriterLaws.{parameter-named, parameter-resolve
 use borrow.Author.Needs.{needs}
 use Rattle.engine.proofs.query.name_parameter.Statement.{statement}
 use Rattle.engine.proofs.query.name_parameter.Tie as tie
-use Rattle.engine.proofs.query.name_parameter.Reads as reads
-use Rattle.engine.proofs.query.name_parameter.Lts as lts
-use Rattle.engine.proofs.names.name_term.Reads as name-term-reads
-use Rattle.engine.proofs.names.name_variable.Reads as name-variable-reads
 
 mul-entry : tie.Need-mul-entry
 mul-entry c = search needs
@@ -21,19 +17,19 @@ same-length : tie.Need-same-length
 same-length c = search needs
 
 returns : tie.Need-returns
-returns c = λ bs names b n l. parameter-named _ b (c .before .before .before .before .before .before .before .before .pre .0) names (c .before .before .before .before .if1 .taken) (c .before .before .name-variable .ensures names n)
+returns c = λ bs names b n. parameter-named _ b (c .before .before .before .before .before .before .before .before .pre .0) names (c .before .before .before .before .if1 .taken) (c .before .before .name-variable .ensures names n)
 
 sub-name-term : tie.Need-sub-name-term
 sub-name-term c = search needs
 
 name-term-requires : tie.Need-name-term-requires
-name-term-requires c κs = let q = c .before .before .before .before .before .pre .1 in (_, q .1, parameter-resolves _ (q .2) (c .before .before .before .before .before .pre .0) (c .before .if1 .left), q .3, q .4)
+name-term-requires c κs = let q = c .before .before .before .before .before .pre .1 in (_, q .1, parameter-resolves _ (q .2) (c .before .before .before .before .before .pre .0) (c .before .if1 .left), q .3)
 
 same-length-2 : tie.Need-same-length-2
 same-length-2 c = search needs
 
 returns-2 : tie.Need-returns-2
-returns-2 c = λ bs names b n l. c .before .before .name-term .ensures _ names (parameter-resolves _ b (c .before .before .before .before .before .before .before .before .pre .0) (c .before .before .before .before .if1 .left)) n l
+returns-2 c = λ bs names b n. c .before .before .name-term .ensures _ names (parameter-resolves _ b (c .before .before .before .before .before .before .before .before .pre .0) (c .before .before .before .before .if1 .left)) n
 
 pub name-parameter-spec : {M : Type 1} → statement M
 name-parameter-spec =

@@ -3,10 +3,6 @@ use Rattle.engine.proofs.WriterLaws.{parameter-member, parameter-put, p
 use borrow.Author.Needs.{needs}
 use Rattle.engine.proofs.query.put_parameter.Statement.{statement}
 use Rattle.engine.proofs.query.put_parameter.Tie as tie
-use Rattle.engine.proofs.query.put_parameter.Reads as reads
-use Rattle.engine.proofs.query.put_parameter.Lts as lts
-use Rattle.engine.proofs.put.put_term.Reads as put-term-reads
-use Rattle.engine.proofs.put.put_variable.Reads as put-variable-reads
 
 mul-entry : tie.Need-mul-entry
 mul-entry c = search needs
@@ -21,19 +17,19 @@ same-length : tie.Need-same-length
 same-length c = search needs
 
 returns : tie.Need-returns
-returns c = λ bs top names b n e l. parameter-put _ b (c .before .before .before .before .before .before .before .before .before .pre .3) names (c .before .before .before .before .if1 .taken) (c .before .before .put-variable .ensures top names n (parameter-member _ b (c .before .before .before .before .before .before .before .before .before .pre .3) names (c .before .before .before .before .if1 .taken) e) (c .before .before .before .before .before .before .before .before .before .pre .0))
+returns c = λ bs top names b n e. parameter-put _ b (c .before .before .before .before .before .before .before .before .before .pre .3) names (c .before .before .before .before .if1 .taken) (c .before .before .put-variable .ensures top names n (parameter-member _ b (c .before .before .before .before .before .before .before .before .before .pre .3) names (c .before .before .before .before .if1 .taken) e) (c .before .before .before .before .before .before .before .before .before .pre .0))
 
 sub-put-term : tie.Need-sub-put-term
 sub-put-term c = search needs
 
 put-term-requires : tie.Need-put-term-requires
-put-term-requires c κs = let q = c .before .before .before .before .before .before .pre .4 in (c .before .before .before .before .before .before .pre .0, c .before .before .before .before .before .before .pre .1, c .before .before .before .before .before .before .pre .2, (_, q .1, q .2, parameter-resolves _ (q .3) (c .before .before .before .before .before .before .pre .3) (c .before .if1 .left), q .4, q .5, q .6))
+put-term-requires c κs = let q = c .before .before .before .before .before .before .pre .4 in (c .before .before .before .before .before .before .pre .0, c .before .before .before .before .before .before .pre .1, c .before .before .before .before .before .before .pre .2, (_, q .1, q .2, parameter-resolves _ (q .3) (c .before .before .before .before .before .before .pre .3) (c .before .if1 .left), q .4, q .5))
 
 same-length-2 : tie.Need-same-length-2
 same-length-2 c = search needs
 
 returns-2 : tie.Need-returns-2
-returns-2 c = λ bs top names b n e l. c .before .before .put-term .ensures _ top names (parameter-resolves _ b (c .before .before .before .before .before .before .before .before .before .pre .3) (c .before .before .before .before .if1 .left)) n e l
+returns-2 c = λ bs top names b n e. c .before .before .put-term .ensures _ top names (parameter-resolves _ b (c .before .before .before .before .before .before .before .before .before .pre .3) (c .before .before .before .before .if1 .left)) n e
 
 pub put-parameter-spec : {M : Type 1} → statement M
 put-parameter-spec =

@@ -11,10 +11,10 @@ use Rattle.engine.proofs.query.put_parameters.Statement.{statement}
 use Rattle.engine.proofs.query.put_parameters.Tie as tie
 
 abbrev Inv-loop : tie.InvT-loop
-Inv-loop program scratch output₀ count start end pairs at₀ x₀ output at x = (bs : Substitution) (names : List ℕ) → Query program scratch count pairs bs names → PuttingAll output₀ output bs names count start end x at
+Inv-loop program scratch output₀ count start end at₀ x₀ output at x = (bs : Substitution) (names : List ℕ) → Query program scratch count bs names → PuttingAll output₀ output bs names count start end x at
 
 abbrev μ-loop : tie.MeasureT-loop
-μ-loop program scratch output₀ count start end pairs at₀ x₀ output at x = count - x
+μ-loop program scratch output₀ count start end at₀ x₀ output at x = count - x
 
 -- what is put so far, for the query terms that the caller knows of
 now-at : (c : tie.At-loop Inv-loop μ-loop) → (let a = c .before .before .before .before .args in let q = c .before .before .before .before .pre .4 in PuttingAll (a .output .now) (c .loop .output) (q .0) (q .1) (a .count) (a .start) (a .end) (c .loop .x) (c .loop .at))
@@ -24,7 +24,7 @@ loop-holds : tie.Need-loop-holds Inv-loop μ-loop
 loop-holds c = λ bs names q. putting-all-start _ bs names _ _ _ (c .before .before .before .pre .0)
 
 put-parameter-requires : tie.Need-put-parameter-requires Inv-loop μ-loop
-put-parameter-requires c κs = let p = c .before .before .before .before .before .before .pre in let q = p .4 .2 in let g = now-at (c .before .before) in (g .laid .fits, omega (arith, g .laid .touched .long, p .1), p .2, omega (arith, c .before .loop-test .taken, p .3), (p .4 .0, q .top, p .4 .1, q .binds, q .named, q .known _ (c .before .loop-test .taken), q .small _ (c .before .loop-test .taken)))
+put-parameter-requires c κs = let p = c .before .before .before .before .before .before .pre in let q = p .4 .2 in let g = now-at (c .before .before) in (g .laid .fits, omega (arith, g .laid .touched .long, p .1), p .2, omega (arith, c .before .loop-test .taken, p .3), (p .4 .0, q .top, p .4 .1, q .binds, q .named, q .known _ (c .before .loop-test .taken)))
 
 enum-known-next : tie.Need-enum-known-next Inv-loop μ-loop
 enum-known-next c = search needs
@@ -36,16 +36,16 @@ loop-less : tie.Need-loop-less Inv-loop μ-loop
 loop-less c = omega (arith, c .before .before .before .before .before .before .before .loop-test .taken)
 
 loop-again : tie.Need-loop-again Inv-loop μ-loop
-loop-again c = λ bs names q. let l = c .before .before .before .before .before .before .before .loop-test .taken in putting-all-next (c .before .before .before .before .before .before .before .before .loop .inv bs names q) l (c .before .before .before .before .before .put-parameter .ensures bs (q .top) names (q .binds) (q .named) (q .known _ l) (q .small _ l)) (c .before .next .given .1)
+loop-again c = λ bs names q. let l = c .before .before .before .before .before .before .before .loop-test .taken in putting-all-next (c .before .before .before .before .before .before .before .before .loop .inv bs names q) l (c .before .before .before .before .before .put-parameter .ensures bs (q .top) names (q .binds) (q .named) (q .known _ l)) (c .before .next .given .1)
 
 enum-told : tie.Need-enum-told Inv-loop μ-loop
 enum-told c = search needs
 
 same-length : tie.Need-same-length Inv-loop μ-loop
-same-length c = let p = c .before .before .before .before .before .before .before .before .before .before .before .pre .4 in let q = p .2 in let l = c .before .before .before .before .before .before .loop-test .taken in placed-long (putting-all-missed (now-at (c .before .before .before .before .before .before .before)) l (c .before .before .before .before .put-parameter .ensures (p .0) (q .top) (p .1) (q .binds) (q .named) (q .known _ l) (q .small _ l)) (c .enum-told .given .1))
+same-length c = let p = c .before .before .before .before .before .before .before .before .before .before .before .pre .4 in let q = p .2 in let l = c .before .before .before .before .before .before .loop-test .taken in placed-long (putting-all-missed (now-at (c .before .before .before .before .before .before .before)) l (c .before .before .before .before .put-parameter .ensures (p .0) (q .top) (p .1) (q .binds) (q .named) (q .known _ l)) (c .enum-told .given .1))
 
 returns : tie.Need-returns Inv-loop μ-loop
-returns c = λ bs names q. let l = c .before .before .before .before .before .before .loop-test .taken in putting-all-missed (c .before .before .before .before .before .before .before .loop .inv bs names q) l (c .before .before .before .before .put-parameter .ensures bs (q .top) names (q .binds) (q .named) (q .known _ l) (q .small _ l)) (c .enum-told .given .1)
+returns c = λ bs names q. let l = c .before .before .before .before .before .before .loop-test .taken in putting-all-missed (c .before .before .before .before .before .before .before .loop .inv bs names q) l (c .before .before .before .before .put-parameter .ensures bs (q .top) names (q .binds) (q .named) (q .known _ l)) (c .enum-told .given .1)
 
 same-length-2 : tie.Need-same-length-2 Inv-loop μ-loop
 same-length-2 c = now-at (c .before) .laid .touched .long

@@ -103,17 +103,16 @@ module _ (words : List ℕ) (round-limit step-limit : ℕ) (output scratch : Lis
           few-rounds = a .few-rounds;
         }
 
-    pub kept-run : (s t s′ output′ : List ℕ) (r : code.Report) → t ≡ cleared scratch 0 → length s ≡ length t
-        → ResultAs s output s′ output′ (rounds step-limit (a .program) query-of round-limit 0 (usable (length output)) step-limit []) r
+    pub kept-run : (s′ output′ : List ℕ) (r : code.Report) → length s′ ≡ length scratch → length output′ ≡ length output
+        → ResultAs output′ (rounds step-limit (a .program) query-of round-limit 0 (usable (length output)) step-limit []) r
         → Kept words round-limit step-limit output scratch r (cleared output′ (r .words)) (cleared s′ 0)
     unfolding comes-to
-    kept-run s t s′ output′ r c n h =
-        let m : length s ≡ length scratch = n ∙ ap length c ∙ cleared-length scratch 0 in
+    kept-run s′ output′ r f g h =
         let x : Result = rounds step-limit (a .program) query-of round-limit 0 (usable (length output)) step-limit [] in
         let z : run words round-limit step-limit output scratch ≡ leave (ran x) output scratch = ap (λ y. leave y output scratch) comes-to-run in
         let o : cleared output′ (r .words) ≡ page (x .answers) ++ replicate (length output - length (page (x .answers))) 0 =
-        ap (λ p. p ++ replicate (length output′ - r .words) 0) (h .page-is) ∙ ap (λ m. page (x .answers) ++ replicate m 0) (ap (λ m. m - r .words) (h .lengths .output-length) ∙ ap (λ m. length output - m) (h .is-words)) in
-        let y : length s′ - 0 ≡ length scratch = omega (arith, h .lengths .scratch-length) in
+        ap (λ p. p ++ replicate (length output′ - r .words) 0) (h .page-is) ∙ ap (λ m. page (x .answers) ++ replicate m 0) (ap (λ m. m - r .words) g ∙ ap (λ m. length output - m) (h .is-words)) in
+        let y : length s′ - 0 ≡ length scratch = omega (arith, f) in
         kept-said r (cleared output′ (r .words)) (cleared s′ 0) (rw z (record {
           is-end = h .is-end;
           is-round = h .is-round;

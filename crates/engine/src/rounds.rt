@@ -36,7 +36,7 @@ pub(crate) fn rounds(
 ) -> Report
     requires { ⌜ ((P : Program) × (R : Relation) × Ready (now program) (now scratch) P R limit) ⌝ }
     ensures { λ r. ⌜ ((P : Program) (R : Relation) → Ready (now (program .entry)) (now (scratch .entry)) P R limit
-        → ResultAs (now (scratch .entry)) (now (output .entry)) (now (scratch .exit)) (now (output .exit)) (definition.rounds steps P R limit 0 (usable (length (now (output .entry)))) steps []) r) ⌝ }
+        → ResultAs (now (output .exit)) (definition.rounds steps P R limit 0 (usable (length (now (output .entry)))) steps []) r) ⌝ }
 {
     let mut number = 0;
     let mut tally = Tally {

@@ -17,12 +17,12 @@ use Rattle.semantics.specs.Substitution.{argument}
 use Rattle.semantics.specs.Round as round
 use Rattle.semantics.specs.Round.{Tally, Next, going, over, Rounded, completed, broken, end-of, output-full, spend, write, back, give, onward, search, start, one-round}
 use Rattle.semantics.proofs.Basics.{clash}
+use Rattle.semantics.proofs.Sound.{sound-start}
 use Rattle.semantics.proofs.StepLaws.{Spent}
 use Rattle.semantics.proofs.Counts.{answer-spent}
-use Rattle.semantics.proofs.Programs.{ProgramIn, program-in}
+use Rattle.semantics.proofs.Programs.{RelationIn, ProgramIn, program-in}
 use Rattle.semantics.proofs.Turn.{StateFine}
 use Rattle.semantics.proofs.Fair.{RoundedFair, search-fair}
-use Rattle.semantics.proofs.Whole.{start-fine}
 use Rattle.engine.specs.Reference.{pos-of}
 use Rattle.engine.specs.Memory.{Registers, Stored}
 use Rattle.engine.specs.Trail.{Undone}
@@ -71,18 +71,21 @@ pub record Rounding (ws : List ℕ) (P : Program) (R : Relation) (k n : ℕ) (a 
 
 -- The start.
 
-fine-first : (P : Program) (wf : ProgramIn P) (R : Relation) (k : ℕ) (t : Tally) → getElem? P 0 ≡ some R → t .room < 268435456 → StateFine P wf (R .params) k (start R t)
-fine-first [] wf R k t e small = clash (cc)
-fine-first (Q ∷ Rs) wf R k t e small = let q : Q ≡ R = cc in subst (λ (X : Relation). StateFine (Q ∷ Rs) wf (X .params) k (start X t)) q (start-fine Q Rs wf k t small)
+fine-first : (P : Program) (wf : ProgramIn P) (query : ℕ) (R : Relation) (k : ℕ) (t : Tally) → getElem? P query ≡ some R → t .room < 268435456 → StateFine P wf (R .params) k (start R t)
+fine-first P wf query R k t e small = let r : RelationIn P R = wf query R e in record {
+  fine = record { sound = sound-start (R .vars) (omega (arith, r .few-vars)); query-made = r .params-vars; few-calls = omega arith; tasks-in = ((R .vars, omega arith, r .body-in), tt) };
+  fine-choices = tt;
+  small-room = small;
+}
 
-pub round-starts : {ws s output : List ℕ} {P : Program} {R : Relation} {k : ℕ} {t : code.Tally} {a : Tally} {n vars body : ℕ} → Starting ws s output P R k t a → RelationIs ws n vars body R
+pub round-starts : {ws s output : List ℕ} {P : Program} {query : ℕ} {R : Relation} {k : ℕ} {t : code.Tally} {a : Tally} {n vars body : ℕ} → Starting ws s output P query R k t a → RelationIs ws n vars body R
     → Rounding ws P R k n a s output (record { head = 0; trail = 0; made = vars; put = 1; kept = 0; calls = 0; choices = 0; left = t .left }) body (t .used) (t .answers) 0
-round-starts {ws} {s} {output} {P} {R} {k} {t} {a} {n} {vars} {body} h r =
+round-starts {ws} {s} {output} {P} {query} {R} {k} {t} {a} {n} {vars} {body} h r =
     let w = read-is-written ws P (h .ready .is-read) in
     let wf : ProgramIn P = program-in P (w .well-formed) in
     let first : Tally = record { left = a .left; room = a .room; cuts = 0; written = a .written } in
     let small : a .room < 268435456 = omega (arith, h .tally .room) in
-    let few : R .vars ≤ 2048 = omega (arith, wf 0 R (h .ready .query) .few-vars) in
+    let few : R .vars ≤ 2048 = omega (arith, wf query R (h .ready .query-is) .few-vars) in
     let below : body < 16384 = omega (arith, r .small) in
     let e : pos-of body ≡ body = omega (arith, below) in
     record {
@@ -96,7 +99,7 @@ round-starts {ws} {s} {output} {P} {R} {k} {t} {a} {n} {vars} {body} h r =
         left-is = sym (h .tally .left);
         cuts-are = refl;
         fits = omega (arith, h .tally .counted);
-        fine = subst (λ m. StateFine P wf m k (start R first)) (sym (r .params-is)) (fine-first P wf R k first (h .ready .query) small);
+        fine = subst (λ m. StateFine P wf m k (start R first)) (sym (r .params-is)) (fine-first P wf query R k first (h .ready .query-is) small);
       };
       enough = omega arith;
       same = ap (λ m. search P m k (suc (a .left)) (start R first)) (sym (r .params-is));

@@ -35,19 +35,19 @@ fewer P R k a x e =
     go (broken e t) f = f .0
 
 -- what is known when a round is to begin: the rounds still to come give the run's result
-pub record Going (ws s₀ output₀ : List ℕ) (limit steps : ℕ) (s output : List ℕ) (k : ℕ) (t : code-tally.Tally) : Type 0 where
+pub record Going (ws s₀ output₀ : List ℕ) (query limit steps : ℕ) (s output : List ℕ) (k : ℕ) (t : code-tally.Tally) : Type 0 where
   pub up-to : k ≤ limit
-  pub on : (P : Program) (R : Relation) → Ready ws s₀ P R limit → (a : Tally) × Starting ws s output P R k t a × (a .left ≤ steps)
+  pub on : (P : Program) (R : Relation) → Ready ws s₀ P query R limit → (a : Tally) × Starting ws s output P query R k t a × (a .left ≤ steps)
       × (definition.rounds steps P R limit 0 (usable (length output₀)) steps [] ≡ definition.rounds steps P R (limit - k) k (a .room) (a .left) (a .written))
 
-pub start-going : (ws s output : List ℕ) (limit steps : ℕ) (t : code-tally.Tally) → t .left ≡ steps → t .used ≡ 0 → t .answers ≡ 0 → steps ≤ 4294967295 → Going ws s output limit steps s output 0 t
-start-going ws s output limit steps t l u a few =
+pub start-going : (ws s output : List ℕ) (query limit steps : ℕ) (t : code-tally.Tally) → t .left ≡ steps → t .used ≡ 0 → t .answers ≡ 0 → steps ≤ 4294967295 → Going ws s output query limit steps s output 0 t
+start-going ws s output query limit steps t l u a few =
     record {
       up-to = omega arith;
       on = λ P R r. (
         record { left = steps; room = usable (length output); cuts = 0; written = [] },
         record {
-          ready = record { is-read = r .is-read; query = r .query; clean = r .clean; few-rounds = omega arith };
+          ready = record { is-read = r .is-read; query-is = r .query-is; clean = r .clean; few-rounds = omega arith };
           tally = record { left = l; used = u; room = omega (arith, u); answers = a; page-is = rw u refl; counted = omega arith };
         },
         omega arith,
@@ -105,11 +105,11 @@ resulted {limit = limit} ta q h = record {
   page-is = rw (h .is-words) (ta .page-is);
 }
 
-module _ {ws s₀ output₀ : List ℕ} {limit steps : ℕ} {s output : List ℕ} {k : ℕ} {t : code-tally.Tally} (g : Going ws s₀ output₀ limit steps s output k t) {P : Program} {R : Relation} (q : Ready ws s₀ P R limit) where
+module _ {ws s₀ output₀ : List ℕ} {query limit steps : ℕ} {s output : List ℕ} {k : ℕ} {t : code-tally.Tally} (g : Going ws s₀ output₀ query limit steps s output k t) {P : Program} {R : Relation} (q : Ready ws s₀ P query R limit) where
   abbrev pub tally-now : Tally
   tally-now = g .on P R q .0
 
-  pub starting : Starting ws s output P R k t tally-now
+  pub starting : Starting ws s output P query R k t tally-now
   starting = g .on P R q .1
 
   abbrev pub round-now : Rounded
@@ -156,16 +156,16 @@ module _ {ws s₀ output₀ : List ℕ} {limit steps : ℕ} {s output : List ℕ
     pub rounds-result : {x : Report} → (c ≡ 0 → ⊥) → limit ≤ k → Reported Rounds k steps u x → ResultAs output′ run-whole x
     rounds-result w m y = ends-as (run-rest (o .is-round) ∙ last-rest steps P R (limit - k) k _ _ _ (o .last) (λ v. w (o .cuts-are ∙ v)) (omega arith)) (o .tally) refl y
 
-    next-on : (c ≡ 0 → ⊥) → k < limit → (a : Tally) × Starting ws s′ output′ P R (k + 1) u a × (a .left ≤ steps) × (run-whole ≡ definition.rounds steps P R (limit - (k + 1)) (k + 1) (a .room) (a .left) (a .written))
+    next-on : (c ≡ 0 → ⊥) → k < limit → (a : Tally) × Starting ws s′ output′ P query R (k + 1) u a × (a .left ≤ steps) × (run-whole ≡ definition.rounds steps P R (limit - (k + 1)) (k + 1) (a .room) (a .left) (a .written))
     next-on w m =
         let v : suc k ≡ k + 1 = omega arith in (
           o .last,
-          record { ready = record { is-read = q .is-read; query = q .query; clean = o .clean; few-rounds = omega (arith, q .few-rounds) }; tally = o .tally },
+          record { ready = record { is-read = q .is-read; query-is = q .query-is; clean = o .clean; few-rounds = omega (arith, q .few-rounds) }; tally = o .tally },
           omega (arith, completed-fewer o, o .tally .left),
           run-rest (o .is-round) ∙ next-rest steps P R (limit - k) k _ _ _ (o .last) (λ v. w (o .cuts-are ∙ v)) (limit - (k + 1)) (omega arith)
               ∙ ap (λ j. definition.rounds steps P R (limit - (k + 1)) j (o .last .room) (o .last .left) (o .last .written)) v,
         )
 
-pub next-going : {ws s₀ output₀ : List ℕ} {limit steps : ℕ} {s output : List ℕ} {k : ℕ} {t : code-tally.Tally} (g : Going ws s₀ output₀ limit steps s output k t) {s′ output′ : List ℕ} {u : code-tally.Tally} {c : ℕ}
-    → ((P : Program) (R : Relation) (q : Ready ws s₀ P R limit) → CompletedAs ws s′ output′ P (round-now g q) u c) → (c ≡ 0 → ⊥) → k < limit → Going ws s₀ output₀ limit steps s′ output′ (k + 1) u
+pub next-going : {ws s₀ output₀ : List ℕ} {query limit steps : ℕ} {s output : List ℕ} {k : ℕ} {t : code-tally.Tally} (g : Going ws s₀ output₀ query limit steps s output k t) {s′ output′ : List ℕ} {u : code-tally.Tally} {c : ℕ}
+    → ((P : Program) (R : Relation) (q : Ready ws s₀ P query R limit) → CompletedAs ws s′ output′ P (round-now g q) u c) → (c ≡ 0 → ⊥) → k < limit → Going ws s₀ output₀ query limit steps s′ output′ (k + 1) u
 next-going g told w m = record { up-to = omega arith; on = λ P R q. next-on g q (told P R q) w m }

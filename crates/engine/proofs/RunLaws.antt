@@ -91,14 +91,14 @@ module _ (words : List ℕ) (round-limit step-limit : ℕ) (output scratch : Lis
 
     -- the table filled, in a scratch that was all 0
     pub ready : (s s′ : List ℕ) → s ≡ cleared scratch 0 → length s′ ≡ length s → ((P : Program) → RelationsAt words 0 P → length P ≤ 256 → TableIn words s′ P) → Same s s′ 0 11776
-        → Ready words s′ (a .program) query-of round-limit
+        → Ready words s′ (a .program) 0 query-of round-limit
     ready s s′ e l table low =
         let n : length s ≡ length scratch = ap length e ∙ cleared-length scratch 0 in
         let r = relations-there words (a .program) (a .is-read) in
         let zeros : (i : ℕ) → i < 11776 → at s′ i ≡ 0 = λ i h. low i (omega arith) h ∙ ap (λ (ws : List ℕ). at ws i) e ∙ cleared-zero scratch i (omega (arith, a .long)) in
         record {
           is-read = a .is-read;
-          query = is-query;
+          query-is = is-query;
           clean = record { long = omega (arith, a .long); table = table (a .program) (r .0) (r .1); open-all = λ x h. zeros x (omega arith); nameless = λ i h k. zeros i (omega arith) };
           few-rounds = a .few-rounds;
         }

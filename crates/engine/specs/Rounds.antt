@@ -30,10 +30,10 @@ pub record Clean (ws s : List ℕ) (P : Program) : Type 0 where
   pub open-all : (x : ℕ) → x < 2048 → at s x ≡ 0
   pub nameless : Nameless s
 
--- an accepted program with its query, its scratch clean, and a round limit in its bounds
-pub record Ready (ws s : List ℕ) (P : Program) (R : Relation) (limit : ℕ) : Type 0 where
+-- an accepted program with its query relation, its scratch clean, and a round limit in its bounds
+pub record Ready (ws s : List ℕ) (P : Program) (query : ℕ) (R : Relation) (limit : ℕ) : Type 0 where
   pub is-read : read ws ≡ accepted P
-  pub query : getElem? P 0 ≡ some R
+  pub query-is : getElem? P query ≡ some R
   pub clean : Clean ws s P
   pub few-rounds : limit ≤ 255
 
@@ -47,8 +47,8 @@ pub record TallyAs (output : List ℕ) (t : Tally) (a : definition.Tally) : Type
   -- each answer has taken a step, so that they are few
   pub counted : t .answers + t .left ≤ 4294967295
 
-pub record Starting (ws s output : List ℕ) (P : Program) (R : Relation) (k : ℕ) (t : Tally) (a : definition.Tally) : Type 0 where
-  pub ready : Ready ws s P R k
+pub record Starting (ws s output : List ℕ) (P : Program) (query : ℕ) (R : Relation) (k : ℕ) (t : Tally) (a : definition.Tally) : Type 0 where
+  pub ready : Ready ws s P query R k
   pub tally : TallyAs output t a
 
 -- How a round is completed, and how it is broken off, where the definition's comes to x.

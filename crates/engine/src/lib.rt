@@ -131,7 +131,7 @@ fn run_accepted(
 {
     clear(scratch, 0);
     fill(program, scratch);
-    let report = rounds(program, scratch, output, limit, steps);
+    let report = rounds(program, scratch, output, 0, limit, steps);
     let used = report.words as usize;
     clear(scratch, 0);
     clear(output, used);

@@ -105,30 +105,32 @@ fn give(
     }
 }
 
+// A round of this number, asked of the relation `query`.
 pub(crate) fn round(
     program: &[u32],
     scratch: &mut [u32],
     output: &mut [u32],
+    query: u32,
     number: u32,
     tally: Tally,
 ) -> Rounded
-    requires { ⌜ ((P : Program) × (R : Relation) × (a : definition.Tally) × Starting (now program) (now scratch) (now output) P R number tally a) ⌝ }
-    ensures { λ r. ⌜ ((P : Program) (R : Relation) (a : definition.Tally) → Starting (now (program .entry)) (now (scratch .entry)) (now (output .entry)) P R number tally a
+    requires { ⌜ ((P : Program) × (R : Relation) × (a : definition.Tally) × Starting (now program) (now scratch) (now output) P query R number tally a) ⌝ }
+    ensures { λ r. ⌜ ((P : Program) (R : Relation) (a : definition.Tally) → Starting (now (program .entry)) (now (scratch .entry)) (now (output .entry)) P query R number tally a
         → RoundedAs (now (program .entry)) (now (scratch .exit)) (now (output .exit)) P (definition.one-round P R number (a .room) (a .left) (a .written)) r) ⌝ }
 {
-    let query = relation(program, scratch, 0);
-    let params = query.params;
+    let asked = relation(program, scratch, query);
+    let params = asked.params;
     let mut state = State {
         head: 0,
         trail: 0,
-        made: query.vars,
+        made: asked.vars,
         put: 1,
         kept: 0,
         calls: 0,
         choices: 0,
         left: tally.left,
     };
-    let mut goal = query.body;
+    let mut goal = asked.body;
     let mut used = tally.used;
     let mut answers = tally.answers;
     let mut cuts = 0;

@@ -20,19 +20,19 @@ use Rattle.engine.proofs.search.search.Reads as search-reads
 use Rattle.engine.proofs.table.relation.Reads as relation-reads
 
 abbrev Inv-loop : tie.InvT-loop
-Inv-loop program scratch₀ output₀ number params state₀ goal₀ used₀ answers₀ cuts₀ scratch output state goal used answers cuts =
+Inv-loop program scratch₀ output₀ query number params state₀ goal₀ used₀ answers₀ cuts₀ scratch output state goal used answers cuts =
     (length scratch ≡ length scratch₀) × (length output ≡ length output₀)
-    × ((P : Program) (R : Relation) (a : definition.Tally) → Starting program scratch₀ output₀ P R number (record { left = state₀ .left; used = used₀; answers = answers₀ }) a
+    × ((P : Program) (R : Relation) (a : definition.Tally) → Starting program scratch₀ output₀ P query R number (record { left = state₀ .left; used = used₀; answers = answers₀ }) a
     → Rounding program P R number params a scratch output state goal used answers cuts)
 
 abbrev μ-loop : tie.MeasureT-loop
-μ-loop program scratch₀ output₀ number params state₀ goal₀ used₀ answers₀ cuts₀ scratch output state goal used answers cuts = state .left
+μ-loop program scratch₀ output₀ query number params state₀ goal₀ used₀ answers₀ cuts₀ scratch output state goal used answers cuts = state .left
 
 relation-requires : tie.Need-relation-requires Inv-loop μ-loop
-relation-requires c κs = let x = c .before .before .before .before .pre in (x .0, x .1, x .3 .ready .clean .table, x .3 .ready .query, x .3 .ready .clean .long)
+relation-requires c κs = let x = c .before .before .before .before .pre in (x .0, x .1, x .3 .ready .clean .table, x .3 .ready .query-is, x .3 .ready .clean .long)
 
 loop-holds : tie.Need-loop-holds Inv-loop μ-loop
-loop-holds c = (refl, refl, λ P R a h. round-starts h (c .relation .ensures P R (h .ready .clean .table) (h .ready .query)))
+loop-holds c = (refl, refl, λ P R a h. round-starts h (c .relation .ensures P R (h .ready .clean .table) (h .ready .query-is)))
 
 search-requires : tie.Need-search-requires Inv-loop μ-loop
 search-requires c κs =

@@ -9,14 +9,14 @@ use Rattle.engine.proofs.rounds.rounds.Statement.{statement}
 use Rattle.engine.proofs.rounds.rounds.Tie as tie
 
 abbrev Inv-loop : tie.InvT-loop
-Inv-loop program scratch₀ output₀ limit steps number₀ tally₀ scratch output number tally =
-    (length scratch ≡ length scratch₀) × (length output ≡ length output₀) × Going program scratch₀ output₀ limit steps scratch output number tally
+Inv-loop program scratch₀ output₀ query limit steps number₀ tally₀ scratch output number tally =
+    (length scratch ≡ length scratch₀) × (length output ≡ length output₀) × Going program scratch₀ output₀ query limit steps scratch output number tally
 
 abbrev μ-loop : tie.MeasureT-loop
-μ-loop program scratch₀ output₀ limit steps number₀ tally₀ scratch output number tally = limit - number
+μ-loop program scratch₀ output₀ query limit steps number₀ tally₀ scratch output number tally = limit - number
 
 loop-holds : tie.Need-loop-holds Inv-loop μ-loop
-loop-holds c = (refl, refl, start-going _ _ _ _ _ _ refl refl refl (omega arith))
+loop-holds c = (refl, refl, start-going _ _ _ _ _ _ _ refl refl refl (omega arith))
 
 round-requires : tie.Need-round-requires Inv-loop μ-loop
 round-requires c κs = let q = c .before .before .before .before .before .before .pre in (q .0, q .1, _, starting (c .before .before .loop .inv .2) (q .2))

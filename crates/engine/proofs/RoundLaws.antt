@@ -15,7 +15,7 @@ use Rattle.semantics.specs.Answer.{answer}
 use Rattle.semantics.specs.Run.{usable, page}
 use Rattle.semantics.specs.Substitution.{argument}
 use Rattle.semantics.specs.Round as round
-use Rattle.semantics.specs.Round.{Tally, Next, going, over, Rounded, completed, broken, end-of, output-full, spend, write, back, give, onward, search, start, one-round}
+use Rattle.semantics.specs.Round.{Tally, Next, over, Rounded, completed, broken, end-of, output-full, spend, write, back, give, onward, search, start, one-round}
 use Rattle.semantics.proofs.Basics.{clash}
 use Rattle.semantics.proofs.Sound.{sound-start}
 use Rattle.semantics.proofs.StepLaws.{Spent}
@@ -27,7 +27,7 @@ use Rattle.engine.specs.Reference.{pos-of}
 use Rattle.engine.specs.Memory.{Registers, Stored}
 use Rattle.engine.specs.Trail.{Undone}
 use Rattle.engine.specs.Report.{ran, ended}
-use Rattle.engine.specs.Taking.{Holds, RelationIs, BackAs, narrow, stop-of}
+use Rattle.engine.specs.Taking.{Holds, RelationIs, OverAs, ResumedAs, BackAs, narrow, stop-of}
 use Rattle.engine.specs.Searching.{Searching, counted-to, Answers, SearchedAs}
 use Rattle.engine.specs.Answering.{AnswerSays, AnsweredAs}
 use Rattle.engine.specs.Rounds.{Clean, TallyAs, Starting, RoundedAs, Giving, GoesAs, GivenAs}
@@ -324,35 +324,25 @@ module _ {P : Program} {ws s output : List ℕ} {st : State} {p : Path} {cs : Li
     tally-of e = subst (λ z. TallyAs output′ (record { left = z; used = words; answers = answers + 1 }) (y .tally)) (sym e) (y .tally-as)
 
     module _ (s″ : List ℕ) (r : Resumed) (told : BackAs P ws s″ after (y .tally) (back cs (y .tally)) r) where
-      none-left : r ≡ resumed.Over → (back cs (y .tally) ≡ over (completed (y .tally))) × ((p : Path) × Holds P ws s″ after p [])
+      pub none-left : r ≡ resumed.Over → OverAs P ws s″ after (y .tally) (back cs (y .tally))
       unfolding BackAs
-      none-left e = go (back cs (y .tally)) (subst (BackAs P ws s″ after (y .tally) (back cs (y .tally))) e told)
-        where
-          go : (z : Next) → BackAs P ws s″ after (y .tally) z resumed.Over → (z ≡ over (completed (y .tally))) × ((p : Path) × Holds P ws s″ after p [])
-          go (over d) b = (ap over (b .0), b .1)
-          go (going state) b = absurd b
-
-      pub last-held : r ≡ resumed.Over → (p : Path) × Holds P ws s″ after p []
-      last-held e = none-left e .1
+      none-left e = rw e at told
 
       pub gives-last : {s‴ : List ℕ} → r ≡ resumed.Over → Clean ws s‴ P → Gave s‴ (Ends (Completed (record { left = after .left; used = words; answers = answers + 1 }) cuts))
       unfolding GivenAs RoundedAs
-      gives-last e clean = (completed (y .tally), y .is-back ∙ none-left e .0, record { last = y .tally; is-round = refl; clean = clean; tally = tally-of left-is; cuts-are = sym (y .cuts-are) })
+      gives-last e clean = (completed (y .tally), y .is-back ∙ none-left e .says, record { last = y .tally; is-round = refl; clean = clean; tally = tally-of left-is; cuts-are = sym (y .cuts-are) })
 
       pub gives-next : {next : State} {v : ℕ} → r ≡ resumed.Goal next v → Gave s″ (Goes next v words)
       unfolding BackAs GivenAs
-      gives-next {next} {v} e = go (back cs (y .tally)) refl (subst (BackAs P ws s″ after (y .tally) (back cs (y .tally))) e told)
-        where
-          go : (z : Next) → back cs (y .tally) ≡ z → BackAs P ws s″ after (y .tally) z (resumed.Goal next v) → Gave s″ (Goes next v words)
-          go (over d) f b = absurd b
-          go (going state) f b =
-              let same-left : next .left ≡ l = b .2 ∙ left-is in
-              record {
-                state = state;
-                is-next = y .is-back ∙ f;
-                held = b .1;
-                task-at = b .0;
-                tally = subst (TallyAs output′ (record { left = next .left; used = words; answers = answers + 1 })) (sym (b .3)) (tally-of same-left);
-                cuts-are = ap (λ z. z .cuts) (b .3) ∙ y .cuts-are;
-                fewer = omega (arith, same-left, y .fewer);
-              }
+      gives-next {next} {v} e =
+          let b : ResumedAs P ws s″ after (y .tally) (back cs (y .tally)) next v = rw e at told in
+          let same-left : next .left ≡ l = b .left-is ∙ left-is in
+          record {
+            state = record { task = b .task; path = b .path; choices = b .choices; tally = y .tally };
+            is-next = y .is-back ∙ b .says;
+            held = b .held;
+            task-at = b .task-at;
+            tally = tally-of same-left;
+            cuts-are = y .cuts-are;
+            fewer = omega (arith, same-left, y .fewer);
+          }

@@ -1,7 +1,7 @@
 -- `give` has the writer write a path's answer, and backtracks.
 use mathlib.Core.List.{[]}
 use native.Mathlib.Omega.{arith}
-use Rattle.engine.proofs.RoundLaws.{gives-full, gives-steps-out, gives-path-out, wrote, wrote-held, last-held, gives-last, gives-next}
+use Rattle.engine.proofs.RoundLaws.{gives-full, gives-steps-out, gives-path-out, wrote, wrote-held, none-left, gives-last, gives-next}
 use borrow.Author.Needs.{needs}
 use Rattle.engine.proofs.round.give.Statement.{statement}
 use Rattle.engine.proofs.round.give.Tie as tie
@@ -62,8 +62,8 @@ completed-requires c κs =
     let y = wrote (q .4) 0 (writer .write-answer .kept .1 .1 .0) said (c .before .before .before .before .before .before .before .before .before .words .given .1) in
     let is = c .before .before .before .before .before .before .before .narrowed .ensures in
     let led = c .before .before .before .before .before .back .ensures (q .0) (q .1) (q .2) (y .tally) (wrote-held (q .4) 0 (writer .write-answer .kept .1 .1 .0) said y _ is) in
-    let o = last-held (q .4) 0 (writer .write-answer .kept .1 .1 .0) said y _ is _ _ led (c .before .enum-told2 .given .1) in
-    (q .0, _, o .0, [], o .1)
+    let o = none-left (q .4) 0 (writer .write-answer .kept .1 .1 .0) said y _ is _ _ led (c .before .enum-told2 .given .1) in
+    (q .0, _, o .path, [], o .held)
 
 enum-known-next : tie.Need-enum-known-next
 enum-known-next c = search needs
@@ -118,8 +118,8 @@ returns-4 c = λ P k p cs a g.
     let is = c .before .before .before .before .before .before .before .before .before .before .narrowed .ensures in
     let led = c .before .before .before .before .before .before .before .before .back .ensures P p cs (y .tally) (wrote-held g k (writer .write-answer .kept .1 .1 .0) said y _ is) in
     let over = c .before .before .before .before .enum-told2 .given .1 in
-    let o = last-held g k (writer .write-answer .kept .1 .1 .0) said y _ is _ _ led over in
-    rw (c .before .before .completed .ensures .0) (gives-last g k (writer .write-answer .kept .1 .1 .0) said y _ is _ _ led over (c .before .before .completed .ensures .1 P _ (o .0) [] (o .1)))
+    let o = none-left g k (writer .write-answer .kept .1 .1 .0) said y _ is _ _ led over in
+    rw (c .before .before .completed .ensures .0) (gives-last g k (writer .write-answer .kept .1 .1 .0) said y _ is _ _ led over (c .before .before .completed .ensures .1 P _ (o .path) [] (o .held)))
 
 same-length-9 : tie.Need-same-length-9
 same-length-9 c = search needs

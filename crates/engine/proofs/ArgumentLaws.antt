@@ -11,7 +11,7 @@ use Rattle.rules.specs.Reading.{payload-at}
 use Rattle.rules.specs.Lists.{Each}
 use Rattle.semantics.specs.Substitution.{shift, Substitution, lookup, argument}
 use Rattle.semantics.specs.Path.{bind-params}
-use Rattle.semantics.specs.Invariant.{TermIn}
+use Rattle.semantics.specs.Invariant.{TermIn, term-size}
 use Rattle.semantics.proofs.Basics.{each-map}
 use Rattle.semantics.proofs.SubstitutionLaws.{Last, last-here, last-some, in-open}
 use Rattle.semantics.proofs.TermLaws.{term-more}
@@ -21,7 +21,6 @@ use Rattle.engine.specs.Memory.{Bound, Entry, BindingsIn, bound}
 use Rattle.engine.specs.Walk.{NodeAt, Follows}
 use Rattle.engine.specs.Calling.{Passing, Passed}
 use Rattle.engine.specs.Trail.{Apart}
-use Rattle.semantics.proofs.TermLaws.{term-size}
 use Rattle.engine.proofs.ReferenceLaws.{term-longer, terms-longer, atom-low}
 use Rattle.engine.proofs.GoalLaws.{term-shift}
 use Rattle.engine.proofs.TrailLaws.{fresh-room, bind-in, apart-trans, bound-apart}

@@ -31,7 +31,7 @@ back-none {P} {ws} {s} {p} {cs} st t h e = go cs (h .choices-are)
     none-left (d ∷ ds) q = absurd (omega (arith, q))
 
     go : (ds : List ChoicePoint) → st .choices ≡ length ds → BackAs P ws s st t (back ds t) Over
-    go [] q = (refl, (p, subst (λ ds. Holds P ws s st p ds) (none-left cs (h .choices-are)) h))
+    go [] q = record { path = p; says = refl; held = subst (λ ds. Holds P ws s st p ds) (none-left cs (h .choices-are)) h }
     go (d ∷ ds) q = absurd (omega (arith, q))
 
 -- The newest choice point, s′ being the scratch when the trail is taken back.
@@ -105,7 +105,8 @@ module _ {P : Program} {ws s s′ : List ℕ} {st : State} {cs : List ChoicePoin
               → BackAs P ws s′ st t (back (record { path = c .path; base = c .base; rest = gs } ∷ k .others) t) (Goal (resumed s′ st (st .choices - 1)) w)
           inside (one g) j =
               let o = resume-last (st .choices - 1) j in
-              (o .1, subst (λ y. Stored P ws s′ (counted y) (st .choices - 1) (waiting-on (c .path) (c .path .stack) (suc (c .path .put))) (k .others)) (sym same-saved) (o .2), refl, refl)
+              let q′ : Path = waiting-on (c .path) (c .path .stack) (suc (c .path .put)) in
+              record { task = (c .base, g); path = q′; choices = k .others; says = refl; task-at = o .1; held = subst (λ y. Stored P ws s′ (counted y) (st .choices - 1) q′ (k .others)) (sym same-saved) (o .2); left-is = refl }
           inside (more g gs) j = absurd (omega (arith, e, is-here, i .is-payload, resume-next (st .choices - 1) (k .few) j .0))
 
   -- another one is left
@@ -136,4 +137,4 @@ module _ {P : Program} {ws s s′ : List ℕ} {st : State} {cs : List ChoicePoin
               let q′ : Path = waiting-on (c .path) (c .path .stack) (suc (c .path .put)) in
               let a : Stored P ws s″ (counted (saved s (st .choices - 1))) (st .choices - 1 + 1) q′ ds = subst (λ y. Stored P ws (set s′ (point-at (st .choices - 1)) (w + 1 + y)) (counted (saved s (st .choices - 1))) (st .choices - 1 + 1) q′ ds) (sym (i .is-payload)) (o .2) in
               let b : Stored P ws s″ (counted (saved s (st .choices - 1))) (st .choices) q′ ds = subst (λ y. Stored P ws s″ (counted (saved s (st .choices - 1))) y q′ ds) count a in
-              (o .1, subst (λ y. Stored P ws s″ (counted y) (st .choices) q′ ds) (sym (moved-saved (w + 1 + z))) b, refl, refl)
+              record { task = (c .base, g); path = q′; choices = ds; says = refl; task-at = o .1; held = subst (λ y. Stored P ws s″ (counted y) (st .choices) q′ ds) (sym (moved-saved (w + 1 + z))) b; left-is = refl }

@@ -8,14 +8,14 @@ use native.Mathlib.Omega.{arith}
 use lib.Dec.{ltb, leb}
 use lib.ListN.{length, getElem?}
 use borrow.Author.Tests.{lt-ltb, le-ltb, le-leb, lt-leb}
+use Rattle.rules.specs.Lists.{Each}
 use Rattle.rules.specs.Syntax.{Term, call, Relation, Program}
 use Rattle.rules.specs.Reading.{after}
-use Rattle.rules.specs.Lists.{Each}
 use Rattle.semantics.specs.Substitution.{shift, Substitution, argument}
 use Rattle.semantics.specs.Path.{Path, ChoicePoint, bound-to, bind-params, called, take-call}
 use Rattle.semantics.specs.Invariant.{TermIn, TermsIn, RelationIn}
 use Rattle.semantics.proofs.TermLaws.{shift-in}
-use Rattle.engine.specs.Reference.{at, pos-of, base-of, TaskAt}
+use Rattle.engine.specs.Reference.{pos-of, base-of, TaskAt}
 use Rattle.engine.specs.Memory.{Registers, TableIn, Stored, cell}
 use Rattle.engine.specs.Walk.{NodeAt}
 use Rattle.engine.specs.Taking.{registers, Ready, TookAs, one-waits, RelationIs}
@@ -24,6 +24,7 @@ use Rattle.engine.specs.declared.state.State.{State}
 use Rattle.engine.specs.declared.Bound.the-variants.{Variables, Goals as GoalsBound}
 use Rattle.engine.specs.declared.state.Stop.the-variants.{Path as PathLimit}
 use Rattle.engine.specs.declared.state.Way.the-variants.{Cut, Goes, Stops}
+use Rattle.engine.proofs.TookLaws.{took-goes, took-cut, took-bound}
 use Rattle.engine.proofs.ReferenceLaws.{terms-longer, pos-refer, base-refer}
 use Rattle.engine.proofs.ClaimLaws.{stays, claim}
 use Rattle.engine.proofs.StepLaws.{wait-one}
@@ -95,26 +96,23 @@ module _ {P : Program} {ws s : List ℕ} {st : State} {w : ℕ} {p : Path} {cs :
   call-found i f = f P callee (stored .table) (ap (getElem? P) (call-number i) ∙ is-callee)
 
   pub call-cut : {round : ℕ} → round ≤ st .calls → TookAs P ws s cs (take-call round P p cs base n ts (st .left)) Cut st
-  unfolding TookAs
   call-cut {round} le =
       let e : ltb (p .calls) round ≡ false = le-ltb (p .calls) round (omega (arith, stored .path-in .calls)) in
-      rw e (refl, (p, stored))
+      took-cut stored (rw e refl)
 
   module _ {a v c : ℕ} (is : RelationIs ws a v c callee) where
     pub call-variables : {round : ℕ} (s′ : List ℕ) → st .calls < round → 2048 < st .made + v → TookAs P ws s′ cs (take-call round P p cs base n ts (st .left)) (Stops (PathLimit Variables) (st .left + 1)) st
-    unfolding TookAs
     call-variables {round} s′ lt full =
         let e : ltb (p .calls) round ≡ true = lt-ltb (p .calls) round (omega (arith, stored .path-in .calls)) in
         let f : leb (p .made + callee .vars) 2048 ≡ false = lt-leb (p .made + callee .vars) 2048 (omega (arith, stored .path-in .made, is .vars-is)) in
-        rw (e, is-callee, f) (refl, omega arith)
+        took-bound p (rw (e, is-callee, f) refl)
 
     pub call-goals : {round : ℕ} (s′ : List ℕ) → st .calls < round → st .made + v ≤ 2048 → 1024 ≤ st .put → TookAs P ws s′ cs (take-call round P p cs base n ts (st .left)) (Stops (PathLimit GoalsBound) (st .left + 1)) st
-    unfolding TookAs
     call-goals {round} s′ lt fits full =
         let e : ltb (p .calls) round ≡ true = lt-ltb (p .calls) round (omega (arith, stored .path-in .calls)) in
         let f : leb (p .made + callee .vars) 2048 ≡ true = le-leb (p .made + callee .vars) 2048 (omega (arith, stored .path-in .made, is .vars-is)) in
         let g : leb (suc (p .put)) 1024 ≡ false = lt-leb (suc (p .put)) 1024 (omega (arith, stored .path-in .put)) in
-        rw (e, is-callee, f, g) (refl, omega arith)
+        took-bound p (rw (e, is-callee, f, g) refl)
 
     -- its arguments are passed
     pub call-passes : st .made + v ≤ 2048 → Passing ws s s base (after ws (pos-of w)) (bind-params (p .made) base ts (p .bindings)) (st .made) (st .trail) (w + 2) a
@@ -153,7 +151,6 @@ module _ {P : Program} {ws s : List ℕ} {st : State} {w : ℕ} {p : Path} {cs :
         → r ≡ one-waits (record { head = st .head; trail = trail; made = st .made + v; put = st .put; kept = st .kept; calls = st .calls + 1; choices = st .choices; left = st .left })
         → s″ ≡ cell s′ (st .put + 1) (c + 16384 * st .made) (st .head)
         → TookAs P ws s″ cs (take-call round P p cs base n ts (st .left)) Goes r
-    unfolding TookAs
     call-goes {round} {s′} {s″} {trail} {r} lt fits put-fits d is-r is-s =
         let m = stored .path-in in
         let made-is : st .made ≡ p .made = m .made in
@@ -171,4 +168,4 @@ module _ {P : Program} {ws s : List ℕ} {st : State} {w : ℕ} {p : Path} {cs :
         let body : TaskAt ws (c + 16384 * st .made) (p .made, callee .body) = record { base = is-base ∙ made-is; goal = rw is-pos (is .body-at); inside = rw is-pos (is .inside); small = rw is-pos (is .small); below = omega (arith, low .1) } in
         let vars-is : callee .vars ≡ v = sym (is .vars-is) in
         let h₃ = wait-one (p .made) (callee .body) (c + 16384 * st .made) put-fits body (makes (callee .vars) (omega (arith, vars-is)) h₂) in
-        rw (e, is-callee, f, g, is-r, is-s) (refl, subst (λ z. Stored P ws (cell s′ (st .put + 1) (c + 16384 * st .made) (st .head)) (record { head = st .put + 1; trail = trail; made = st .made + z; put = st .put + 1; kept = st .kept; calls = st .calls + 1 }) (st .choices) (called p base ts callee) cs) vars-is h₃)
+        rw (is-r, is-s) (took-goes (subst (λ z. Stored P ws (cell s′ (st .put + 1) (c + 16384 * st .made) (st .head)) (record { head = st .put + 1; trail = trail; made = st .made + z; put = st .put + 1; kept = st .kept; calls = st .calls + 1 }) (st .choices) (called p base ts callee) cs) vars-is h₃) (rw (e, is-callee, f, g) refl))

@@ -17,6 +17,7 @@ use Rattle.engine.specs.declared.state.State.{State}
 use Rattle.engine.specs.declared.Bound.the-variants.{Goals as GoalsBound}
 use Rattle.engine.specs.declared.state.Stop.the-variants.{Path as PathLimit}
 use Rattle.engine.specs.declared.state.Way.the-variants.{Goes, Stops}
+use Rattle.engine.proofs.TookLaws.{took-goes, took-bound}
 use Rattle.engine.proofs.GoalLaws.{conj-rest}
 use Rattle.engine.proofs.ConjLaws.{Lining, lining-start, lining-full, lining-last, lining-more, conj-all, Rowed}
 
@@ -40,17 +41,15 @@ module _ {P : Program} {ws s₀ : List ℕ} {st : State} {w : ℕ} {p : Path} {c
 
   pub conj-stops : {s : List ℕ} {to goal filled : ℕ} (s′ : List ℕ) → Lining ws s₀ s (st .put) (st .head) (w + 1) to base gs goal filled → 1024 ≤ filled
       → TookAs P ws s′ cs (take-conj p cs base gs (st .left)) (Stops (PathLimit GoalsBound) (st .left + 1)) st
-  unfolding TookAs
   conj-stops {s} {to} {goal} {filled} s′ l full =
       let e : st .put ≡ p .put = t .stored .path-in .put in
       let f : leb (p .put + goals-count gs) 1024 ≡ false = lt-leb (p .put + goals-count gs) 1024 (omega (arith, lining-full ws s₀ s (st .put) (st .head) (w + 1) to base gs goal filled l full)) in
-      rw f (refl, omega arith)
+      took-bound p (rw f refl)
 
   pub conj-goes : {s : List ℕ} {b k n to goal filled c l m here : ℕ} → NodeAt ws w b k n → to ≡ pos-of w + 1 + n → Lining ws s₀ s (st .put) (st .head) (w + 1) to base gs goal filled → filled < 1024
       → NodeAt ws goal c l m → here ≡ pos-of goal + 1 + m → here ≡ to
       → TookAs P ws (set (set s (goal-at (filled + 1)) goal) (goal-at (filled + 1) + 1) (st .head)) cs (take-conj p cs base gs (st .left))
       Goes (record { head = st .put + 1; trail = st .trail; made = st .made; put = filled + 1; kept = st .kept; calls = st .calls; choices = st .choices; left = st .left })
-  unfolding TookAs
   conj-goes {s} {to = to} {goal = goal} {filled = filled} i is-to li lt j is-here e =
       let put-is : st .put ≡ p .put = t .stored .path-in .put in
       let r = lining-last ws s₀ s (st .put) (st .head) (w + 1) to base gs goal filled li lt (omega (arith, e, is-here, j .is-payload)) in
@@ -60,7 +59,7 @@ module _ {P : Program} {ws s₀ : List ℕ} {st : State} {w : ℕ} {p : Path} {c
       let h = conj-all base gs (w + 1) to (cell s (filled + 1) goal (st .head)) few (conj-goals i is-to) rowed (t .stored) in
       let g : Stored P ws (cell s (filled + 1) goal (st .head)) (record { head = st .put + 1; trail = st .trail; made = st .made; put = filled + 1; kept = st .kept; calls = st .calls }) (st .choices) (waiting-on p (wait-all base gs (p .stack)) (p .put + goals-count gs)) cs
       = subst (λ q. Stored P ws (cell s (filled + 1) goal (st .head)) (record { head = st .put + 1; trail = st .trail; made = st .made; put = q; kept = st .kept; calls = st .calls }) (st .choices) (waiting-on p (wait-all base gs (p .stack)) (p .put + goals-count gs)) cs) (sym (r .1)) h in
-      rw (f, cell-stores s (filled + 1) goal (st .head)) (refl, g)
+      rw (cell-stores s (filled + 1) goal (st .head)) (took-goes g (rw f refl))
 
   pub conj-on : {s : List ℕ} {to goal filled c l m here : ℕ} → Lining ws s₀ s (st .put) (st .head) (w + 1) to base gs goal filled → filled < 1024 → NodeAt ws goal c l m → here ≡ pos-of goal + 1 + m → (here ≡ to → ⊥)
       → Lining ws s₀ (set (set s (goal-at (filled + 1)) goal) (goal-at (filled + 1) + 1) (filled + 2)) (st .put) (st .head) (w + 1) to base gs (goal + 1 + m) (filled + 1)

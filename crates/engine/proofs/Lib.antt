@@ -15,6 +15,7 @@ pub mod ConjLaws
 pub mod ArgumentLaws
 pub mod ReadLaws
 pub mod StartLaws
+pub mod TookLaws
 pub mod ConjTaken
 pub mod DisjTaken
 pub mod BackTaken

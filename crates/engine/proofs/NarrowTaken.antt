@@ -32,6 +32,7 @@ use Rattle.engine.specs.declared.review.Reviewed.{Reviewed}
 use Rattle.engine.specs.declared.review.Reviewed.the-variants as reviewed
 use Rattle.engine.specs.declared.unify.Unified.{Unified}
 use Rattle.engine.specs.declared.unify.Unified.the-variants as unified
+use Rattle.engine.proofs.TookLaws.{took-goes, took-leaves, took-stops, took-bound}
 use Rattle.engine.proofs.ReferenceLaws.{term-longer}
 use Rattle.engine.proofs.GoalLaws.{term-shift, keeps-task}
 use Rattle.engine.proofs.ArgumentLaws.{term-vars}
@@ -55,11 +56,11 @@ review-path st e = rw e refl
 -- a path after a review
 reviewed-took : {P : Program} {ws s : List ℕ} {p : Path} {cs : List ChoicePoint} (st : State) (q : Reviewed) (o : Outcome Bool) → Holds P ws s st p cs → o ≡ review-says q
     → TookAs P ws s cs (and-then o (λ broken l. choose broken (λ _. done leaves l) (λ _. done (goes p cs) l))) (review-took st q .way) (review-took st q .state)
-unfolding TookAs review-says
-reviewed-took {p = p} st (reviewed.Fails l) o h e = rw e (refl, (p, h))
-reviewed-took st (reviewed.Holds l) o h e = rw e (refl, h)
-reviewed-took st reviewed.StepsOut o h e = rw e (refl, refl)
-reviewed-took st (reviewed.PathOut l) o h e = rw e (refl, refl)
+unfolding review-says
+reviewed-took st (reviewed.Fails l) o h e = took-leaves h (rw e refl)
+reviewed-took st (reviewed.Holds l) o h e = took-goes h (rw e refl)
+reviewed-took {p = p} st reviewed.StepsOut o h e = took-stops p (rw e refl)
+reviewed-took {p = p} st (reviewed.PathOut l) o h e = took-stops p (rw e refl)
 
 -- Equal.
 
@@ -123,22 +124,22 @@ module _ {P : Program} {ws s : List ℕ} {st : State} {w : ℕ} {p : Path} {cs :
 
   module _ (s′ : List ℕ) (r : Unified) (told : UnifiedAs ws s s′ (p .bindings) (unify-terms (p .bindings) (shift base u) (shift base v) (st .left)) r) where
     pub equal-fails : {n l : ℕ} {st′ : State} → r ≡ unified.Failed n l → st′ ≡ narrow st n (st .kept) l → says s′ Leaves st′
-    unfolding TookAs UnifiedAs
+    unfolding UnifiedAs
     equal-fails {n} {l} {st′} e f =
         let q : (g : Went ws s (p .bindings) s′ n) × (unify-terms (p .bindings) (shift base u) (shift base v) (st .left) ≡ done none l) = rw e at told in
-        rw (q .1, f) (refl, (bound-to p (q .0 .next), unified-stored stored (q .0)))
+        rw f (took-leaves (unified-stored stored (q .0)) (rw (q .1) refl))
 
     pub equal-steps : {n : ℕ} → r ≡ unified.StepsOut n → says s′ (Stops Steps 0) st
-    unfolding TookAs UnifiedAs
+    unfolding UnifiedAs
     equal-steps {n} e =
         let q : (g : Went ws s (p .bindings) s′ n) × (unify-terms (p .bindings) (shift base u) (shift base v) (st .left) ≡ stop no-steps 0) = rw e at told in
-        rw (q .1) (refl, refl)
+        took-stops p (rw (q .1) refl)
 
     pub equal-path : {n l : ℕ} → r ≡ unified.PathOut n l → says s′ (Stops (PathLimit Waiting) l) st
-    unfolding TookAs UnifiedAs
+    unfolding UnifiedAs
     equal-path {n} {l} e =
         let q : (g : Went ws s (p .bindings) s′ n) × (unify-terms (p .bindings) (shift base u) (shift base v) (st .left) ≡ stop (at-bound waiting) l) = rw e at told in
-        rw (q .1) (refl, refl)
+        took-stops p (rw (q .1) refl)
 
     module _ {n l : ℕ} (joined : r ≡ unified.Joined n l) where
       pub went : (g : Went ws s (p .bindings) s′ n) × (unify-terms (p .bindings) (shift base u) (shift base v) (st .left) ≡ done (some (g .next)) l)
@@ -147,14 +148,13 @@ module _ {P : Program} {ws s : List ℕ} {st : State} {w : ℕ} {p : Path} {cs :
 
       -- nothing was bound
       pub equal-same : {st′ : State} → st′ ≡ narrow st n (st .kept) l → n ≡ st .trail → says s′ Goes st′
-      unfolding TookAs
       equal-same {st′} f z =
           let g : Went ws s (p .bindings) s′ n = went .0 in
           let many : length (g .next) ≡ length (p .bindings) = sym (g .trail-is) ∙ z ∙ stored .path-in .trail in
           let y : eqb (length (g .next)) (length (p .bindings)) ≡ true = eq-eqb (length (g .next)) (length (p .bindings)) many in
           let same : g .next ≡ p .bindings = none-new (g .new) (g .grows) many in
           let h : Stored P ws s′ (trailed (registers st) n) (st .choices) p cs = subst (λ bs. Stored P ws s′ (trailed (registers st) n) (st .choices) (bound-to p bs) cs) same (unified-stored stored g) in
-          rw (went .1, y, f) (refl, h)
+          rw f (took-goes h (rw (went .1, y) refl))
         where
           none-new : {bs : Substitution} (new : Substitution) → bs ≡ new ++ p .bindings → length bs ≡ length (p .bindings) → bs ≡ p .bindings
           none-new [] e q = e
@@ -187,10 +187,9 @@ module _ {P : Program} {ws s : List ℕ} {st : State} {w : ℕ} {p : Path} {cs :
   held = k .taking .stored
 
   pub constraint-full : (s′ : List ℕ) → 512 ≤ st .kept → TookAs P ws s′ cs (take-constraint p cs (shift-constraint base c) (st .left)) (Stops (PathLimit Constraints) (st .left + 1)) st
-  unfolding TookAs
   constraint-full s′ full =
       let f : leb (suc (length (p .kept))) 512 ≡ false = lt-leb (suc (length (p .kept))) 512 (omega (arith, held .path-in .kept)) in
-      rw f (refl, omega arith)
+      took-bound p (rw f refl)
 
   pub constraint-keeps : KeepsAt ws w (shift-constraint base c)
   constraint-keeps =

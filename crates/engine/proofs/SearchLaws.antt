@@ -112,6 +112,9 @@ module _ {P : Program} {wf : ProgramIn P} {n k : ℕ} {ws s : List ℕ} {st : St
       let q : (turn P n k (g .state) ≡ over (completed (tallied (g .state .tally) (next .left) c))) × ((p : Path) × Holds P ws s′ next p []) = rw e at told in
       omega (arith, g .under .left-is, over-spent P n k (g .state) (g .state .tally .left) _ (q .0))
 
+  keeps : {new : round.State} → turn P n k (g .state) ≡ going new → StateFine P wf n k new
+  keeps e = subst (NextWell P wf n k (open-of P wf n k (g .state)) (g .state .tally .written) (g .state .tally .cuts)) e (turn-keeps P wf n k (g .state) (g .under .fine)) .0
+
   -- the round goes on
   pub searched-goal : {d : ℕ} → to ≡ lead.Goal → d ≡ count-cuts cuts c → Going P wf n k ws s′ next v d state₀ fuel₀ × (next .left < st .left)
   unfolding NextAs
@@ -120,7 +123,6 @@ module _ {P : Program} {wf : ProgramIn P} {n k : ℕ} {ws s : List ℕ} {st : St
       let new : round.State = q .0 in
       let t = turn-of P n k (g .fuel) (g .state) (going new) (g .enough) (q .1) in
       let falls : new .tally .left < g .state .tally .left = subst (NextFair (g .state .tally .left) total) (q .1) fair .0 in
-      let keeps : StateFine P wf n k new = subst (NextWell P wf n k (open-of P wf n k (g .state)) (g .state .tally .written) (g .state .tally .cuts)) (q .1) (turn-keeps P wf n k (g .state) (g .under .fine)) .0 in
       let is : new .tally ≡ counted-to (state₀ .tally) (next .left) (count-cuts cuts c) = q .4 ∙ cuts-as (next .left) c in
       let left-is : new .tally .left ≡ next .left = ap (λ x. x .left) is in
       let less : next .left < st .left = omega (arith, left-is, falls, g .under .left-is) in
@@ -128,7 +130,7 @@ module _ {P : Program} {wf : ProgramIn P} {n k : ℕ} {ws s : List ℕ} {st : St
         record {
           state = new;
           fuel = t .0;
-          under = record { held = q .3; task-at = q .2; short = g .under .short; left-is = left-is; cuts-are = ap (λ x. x .cuts) is ∙ sym f; fits = omega (arith, f, count-few cuts c, g .under .fits); fine = keeps };
+          under = record { held = q .3; task-at = q .2; short = g .under .short; left-is = left-is; cuts-are = ap (λ x. x .cuts) is ∙ sym f; fits = omega (arith, f, count-few cuts c, g .under .fits); fine = keeps (q .1) };
           enough = omega (arith, left-is, more, t .1, g .enough);
           same = g .same ∙ t .2;
           room = ap (λ x. x .room) is;
@@ -146,21 +148,21 @@ module _ {P : Program} {wf : ProgramIn P} {n k : ℕ} {ws s : List ℕ} {st : St
       let q : (p : Path) × (cs : List ChoicePoint) × (turn P n k (g .state) ≡ give P n k cs (spend (g .state .tally) (next .left)) (answer p n (next .left))) × Holds P ws s′ next p cs × (p .stack ≡ []) × (p .calls ≡ k) × (o ≡ done (goes p cs) (next .left)) = rw e at told in
       let p : Path = q .0 in
       let cs : List ChoicePoint = q .1 in
-      let t = turn-of P n k (g .fuel) (g .state) _ (g .enough) (q .2) in
       let well : GoesOn P wf n k (g .state .path) (g .state .task) (g .state .choices) p cs
       = subst (TakenWell P wf n k (g .state .path) (g .state .task) (g .state .choices)) (q .6) (goal-well P wf n k (g .state .path) (g .state .task .0) (g .state .choices) (g .under .fine .fine-choices) (g .state .task .1) (st .left) (g .under .fine .fine)) in
       let spent : next .left < st .left = take-spent k P (g .state .path) (g .state .choices) (g .state .task .0) (g .state .task .1) (st .left) (goes p cs) (next .left) (q .6) in
+      let counted : spend (g .state .tally) (next .left) ≡ counted-to (state₀ .tally) (next .left) cuts = tally-as (next .left) (g .state .tally .cuts) ∙ ap (counted-to (state₀ .tally) (next .left)) (g .under .cuts-are) in
+      let given : turn P n k (g .state) ≡ give P n k cs (counted-to (state₀ .tally) (next .left) cuts) (answer p n (next .left)) = q .2 ∙ ap (λ x. give P n k cs x (answer p n (next .left))) counted in
+      let t = turn-of P n k (g .fuel) (g .state) _ (g .enough) given in
       record {
         path = p;
         choices = cs;
         rest = t .0;
-        same = g .same ∙ t .2 ∙ ap (λ x. onward P n k (give P n k cs x (answer p n (next .left))) (λ y. search P n k (t .0) y)) (tally-as (next .left) (g .state .tally .cuts) ∙ ap (counted-to (state₀ .tally) (next .left)) (g .under .cuts-are));
+        same = g .same ∙ t .2;
         enough = omega (arith, spent, t .1, g .enough, g .under .left-is);
         fewer = omega (arith, spent, g .fewer, g .under .left-is);
         held = q .3;
-        no-goal = q .4;
-        all-calls = q .5;
         fine = subst (Fine P wf n k p) (q .4) (well .fine);
-        fine-choices = well .fine-choices;
+        next-fine = λ new e. keeps (given ∙ e);
         fits = omega (arith, spent, g .under .fits);
       }

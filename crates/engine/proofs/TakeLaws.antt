@@ -16,6 +16,7 @@ use Rattle.engine.specs.declared.state.State.{State}
 use Rattle.engine.specs.declared.state.Stop.the-variants.{Steps}
 use Rattle.engine.specs.declared.state.Way.the-variants.{Stops}
 use Rattle.engine.specs.declared.state.Took.{Took}
+use Rattle.engine.proofs.TookLaws.{took-stops}
 
 -- the kind of each goal's word
 abbrev pub kind-of : Goal → ℕ
@@ -85,8 +86,7 @@ is-constraint (call r ts) a b c d = absurd (d refl)
 
 -- no step is left
 pub take-none : (P : Program) (ws s : List ℕ) (p : Path) (cs : List ChoicePoint) (round left : ℕ) (task : Task) (st : State) → left ≡ 0 → TookAs P ws s cs (take-goal round P p cs (task .0) (task .1) left) (Stops Steps 0) st
-unfolding TookAs
-take-none P ws s p cs round left task st e = rw e (refl, refl)
+take-none P ws s p cs round left task st e = took-stops p (rw e refl)
 
 step-is : {A : Type 0} (left : ℕ) (go : ℕ → Outcome A) → (left ≡ 0 → ⊥) → step left go ≡ go (left - 1)
 step-is zero go n = absurd (n refl)

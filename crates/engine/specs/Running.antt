@@ -2,15 +2,19 @@
 use Prim.Native.Nat.{ℕ, _-_, _≤_}
 use mathlib.Core.Path.{_≡_}
 use mathlib.Core.List.{List, _++_}
-use lib.ListN.{length, replicate, take}
+use lib.ListN.{length, replicate, take, drop}
 use Rattle.rules.specs.Syntax.{Program}
 use Rattle.rules.specs.Accept.{read, accepted}
 use Rattle.engine.specs.declared.End.the-variants.{Refused}
 use Rattle.engine.specs.declared.Report.{Report}
 
--- "0 to its end" from a place on
-abbrev pub cleared : List ℕ → ℕ → List ℕ
-cleared ws from = take from ws ++ replicate (length ws - from) 0
+-- the first n words are 0
+abbrev pub zeroed : ℕ → List ℕ → List ℕ
+zeroed n ws = replicate (length (take n ws)) 0 ++ drop n ws
+
+-- the words from one place up to another are 0, and all others stay
+abbrev pub cleared : List ℕ → ℕ → ℕ → List ℕ
+cleared ws from to = take from ws ++ zeroed (to - from) (drop from ws)
 
 -- the report of a refused call: "number and place with all counts 0"
 pub record Turned (number place : ℕ) (r : Report) : Type 0 where

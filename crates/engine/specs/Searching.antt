@@ -7,8 +7,8 @@ use Rattle.rules.specs.Syntax.{Program}
 use Rattle.semantics.specs.Path.{Path, ChoicePoint}
 use Rattle.semantics.specs.Answer.{answer}
 use Rattle.semantics.specs.Round as round
-use Rattle.semantics.specs.Round.{Tally, completed, broken, end-of, give, onward, search}
-use Rattle.semantics.specs.Invariant.{ProgramIn, Fine, ChoicesFine, StateFine}
+use Rattle.semantics.specs.Round.{Tally, going, completed, broken, end-of, give, onward, search}
+use Rattle.semantics.specs.Invariant.{ProgramIn, Fine, StateFine}
 use Rattle.engine.specs.Reference.{TaskAt}
 use Rattle.engine.specs.Taking.{Holds, stop-of}
 use Rattle.engine.specs.declared.state.State.{State}
@@ -43,10 +43,8 @@ pub record Answers (P : Program) (wf : ProgramIn P) (n k : ℕ) (ws s : List ℕ
   pub enough : st .left < rest
   pub fewer : st .left < state .tally .left
   pub held : Holds P ws s st path choices
-  pub no-goal : path .stack ≡ []
-  pub all-calls : path .calls ≡ k
   pub fine : Fine P wf n k path []
-  pub fine-choices : ChoicesFine P wf n k choices
+  pub next-fine : (next : round.State) → give P n k choices (counted-to (state .tally) (st .left) cuts) (answer path n (st .left)) ≡ going next → StateFine P wf n k next
   pub fits : cuts + st .left ≤ 4294967295
 
 unfoldable pub SearchedAs : (P : Program) → ProgramIn P → ℕ → ℕ → List ℕ → List ℕ → round.State → ℕ → Searched → Type 0

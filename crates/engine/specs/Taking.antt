@@ -61,24 +61,26 @@ abbrev pub stop-of : Stop → steps.Stop
 stop-of Steps = steps.no-steps
 stop-of (PathLimit b) = steps.at-bound (bound-of b)
 
--- A goal has been taken, with this state then. Where the path is left or cut, some path is there with the same choice points: one that fails in the middle has more bindings than the definition's.
-unfoldable pub TookAs : Program → List ℕ → List ℕ → List ChoicePoint → Outcome Taken → Way → State → Type 0
-TookAs P ws s cs (done leaves l) Leaves st = (st .left ≡ l) × ((p : Path) × Holds P ws s st p cs)
-TookAs P ws s cs (done leaves l) Cut st = ⊥
-TookAs P ws s cs (done leaves l) Goes st = ⊥
-TookAs P ws s cs (done leaves l) (Stops why m) st = ⊥
-TookAs P ws s cs (done cut l) Leaves st = ⊥
-TookAs P ws s cs (done cut l) Cut st = (st .left ≡ l) × ((p : Path) × Holds P ws s st p cs)
-TookAs P ws s cs (done cut l) Goes st = ⊥
-TookAs P ws s cs (done cut l) (Stops why m) st = ⊥
-TookAs P ws s cs (done (goes p cs′) l) Leaves st = ⊥
-TookAs P ws s cs (done (goes p cs′) l) Cut st = ⊥
-TookAs P ws s cs (done (goes p cs′) l) Goes st = (st .left ≡ l) × Holds P ws s st p cs′
-TookAs P ws s cs (done (goes p cs′) l) (Stops why m) st = ⊥
-TookAs P ws s cs (stop why l) Leaves st = ⊥
-TookAs P ws s cs (stop why l) Cut st = ⊥
-TookAs P ws s cs (stop why l) Goes st = ⊥
-TookAs P ws s cs (stop why l) (Stops y m) st = (stop-of y ≡ why) × (m ≡ l)
+-- what each case says, with the path and the choice points that go on, and the steps left
+unfoldable pub took-says : Path → List ChoicePoint → Way → ℕ → Outcome Taken
+took-says p cs Goes l = done (goes p cs) l
+took-says p cs Leaves l = done leaves l
+took-says p cs Cut l = done cut l
+took-says p cs (Stops why m) l = stop (stop-of why) m
+
+-- What the state holds then, when cs were the choice points before: where the path is left or cut it is some path, because one that fails in the middle has more bindings than the definition's. After a stop it is not used.
+unfoldable pub TookHolds : Program → List ℕ → List ℕ → List ChoicePoint → State → Path → List ChoicePoint → Way → Type 0
+TookHolds P ws s cs st p cs′ Goes = Holds P ws s st p cs′
+TookHolds P ws s cs st p cs′ Leaves = Holds P ws s st p cs
+TookHolds P ws s cs st p cs′ Cut = Holds P ws s st p cs
+TookHolds P ws s cs st p cs′ (Stops why m) = Unit {0}
+
+-- a goal has been taken, with this state then
+pub record TookAs (P : Program) (ws s : List ℕ) (cs : List ChoicePoint) (o : Outcome Taken) (y : Way) (st : State) : Type 0 where
+  pub path : Path
+  pub choices : List ChoicePoint
+  pub says : o ≡ took-says path choices y (st .left)
+  pub held : TookHolds P ws s cs st path choices y
 
 -- one goal more waits, in the next cell
 abbrev pub one-waits : State → State
@@ -88,12 +90,25 @@ one-waits st = record { head = st .put + 1; trail = st .trail; made = st .made; 
 abbrev pub one-choice-more : State → State
 one-choice-more st = record { head = st .head; trail = st .trail; made = st .made; put = st .put; kept = st .kept; calls = st .calls; choices = st .choices + 1; left = st .left }
 
--- Backtracking with a tally t: the round is over, or the next alternative is to be taken on the path as it was when its disjunction was taken.
+-- Backtracking, with a tally t: the round is over ..
+pub record OverAs (P : Program) (ws s : List ℕ) (st : State) (t : Tally) (x : Next) : Type 0 where
+  pub path : Path
+  pub says : x ≡ over (completed t)
+  pub held : Holds P ws s st path []
+
+-- .. or the next alternative is to be taken on the path as it was when its disjunction was taken
+pub record ResumedAs (P : Program) (ws s : List ℕ) (st : State) (t : Tally) (x : Next) (next : State) (w : ℕ) : Type 0 where
+  pub task : Task
+  pub path : Path
+  pub choices : List ChoicePoint
+  pub says : x ≡ going (record { task = task; path = path; choices = choices; tally = t })
+  pub task-at : TaskAt ws w task
+  pub held : Holds P ws s next path choices
+  pub left-is : next .left ≡ st .left
+
 unfoldable pub BackAs : Program → List ℕ → List ℕ → State → Tally → Next → Resumed → Type 0
-BackAs P ws s st t (over r) Over = (r ≡ completed t) × ((p : Path) × Holds P ws s st p [])
-BackAs P ws s st t (over r) (Goal next w) = ⊥
-BackAs P ws s st t (going state) Over = ⊥
-BackAs P ws s st t (going state) (Goal next w) = TaskAt ws w (state .task) × Holds P ws s next (state .path) (state .choices) × (next .left ≡ st .left) × (state .tally ≡ t)
+BackAs P ws s st t x Over = OverAs P ws s st t x
+BackAs P ws s st t x (Goal next w) = ResumedAs P ws s st t x next w
 
 -- the state of the newest choice point, with one goal more put to wait, and so many choice points
 abbrev pub resumed : List ℕ → State → ℕ → State

@@ -127,11 +127,13 @@ fn run_accepted(
     requires { ⌜ Admitted (now program) limit (now scratch) ⌝ }
     ensures { λ r. ⌜ Kept (now (program .entry)) limit steps (now (output .entry)) (now (scratch .entry)) r (now (output .exit)) (now (scratch .exit)) ⌝ }
 {
-    clear(scratch, 0);
+    let size = scratch.len();
+    clear(scratch, 0, size);
     fill(program, scratch);
-    let report = rounds(program, scratch, output, limit, steps);
+    let report = rounds(program, scratch, output, 0, limit, steps);
     let used = report.words as usize;
-    clear(scratch, 0);
-    clear(output, used);
+    clear(scratch, 0, size);
+    let room = output.len();
+    clear(output, used, room);
     report
 }

@@ -19,11 +19,18 @@ ghost use mathlib.Core.List.{List};
 ghost use Prim.Native.Nat.{ℕ};
 ghost use Rattle.rules.specs.Syntax.{Program, Relation};
 ghost use Rattle.semantics.specs.Path.{Path, ChoicePoint};
+ghost use Rattle.semantics.specs.Answer.{answer};
 ghost use Rattle.semantics.specs.Round as definition;
 ghost use Rattle.engine.specs.Report.{ran, ended};
 ghost use Rattle.engine.specs.Taking.{Holds, stop-of};
-ghost use Rattle.engine.specs.Rounds.{Clean, Starting, RoundedAs};
+ghost use Rattle.engine.specs.Rounds.{Clean, Starting, RoundedAs, Giving, GivenAs};
 ghost use Rattle.engine.specs.declared.tally.Rounded.the-variants.{Completed, Broken};
+
+// What comes of an answer: the round's end, or a goal to be taken next, by its reference, and the output words used then.
+enum Given {
+    Ends(Rounded),
+    Goes(State, u32, u32),
+}
 
 fn end_of(stop: Stop) -> End
     ensures { λ r. ⌜ ended r ≡ ran (definition.end-of (stop-of stop)) ⌝ }
@@ -64,30 +71,66 @@ fn completed(scratch: &mut [u32], state: State, used: u32, answers: u32, cuts: u
     )
 }
 
+// A path gives its answer, behind the `used` words of those before it, and is left.
+fn give(
+    program: &[u32],
+    scratch: &mut [u32],
+    output: &mut [u32],
+    st: State,
+    params: u32,
+    used: u32,
+    answers: u32,
+    cuts: u32,
+) -> Given
+    requires { ⌜ ((P : Program) × (p : Path) × (cs : List ChoicePoint) × (a : definition.Tally) × Giving P (now program) (now scratch) (now output) st p cs params used answers cuts a) ⌝ }
+    ensures { λ r. ⌜ ((P : Program) (k : ℕ) (p : Path) (cs : List ChoicePoint) (a : definition.Tally) → Giving P (now (program .entry)) (now (scratch .entry)) (now (output .entry)) st p cs params used answers cuts a
+        → GivenAs P (now (program .entry)) (now (scratch .exit)) (now (output .exit)) st answers cuts (definition.give P params k cs a (answer p params (st .left))) r) ⌝ }
+{
+    match write_answer(program, scratch, output, st, params, used) {
+        Answered::Full(left) => Given::Ends(broken(End::Output, left, used, answers)),
+        Answered::StepsOut => Given::Ends(broken(End::Steps, 0, used, answers)),
+        Answered::PathOut(left) => Given::Ends(broken(
+            End::Path(Bound::Waiting),
+            left,
+            used,
+            answers,
+        )),
+        Answered::Written(words, left) => {
+            let after = narrowed(st, st.trail, st.kept, left);
+            match back(program, scratch, after) {
+                Resumed::Over => Given::Ends(completed(scratch, after, words, answers + 1, cuts)),
+                Resumed::Goal(next, goal) => Given::Goes(next, goal, words),
+            }
+        }
+    }
+}
+
+// A round of this number, asked of the relation `query`.
 pub(crate) fn round(
     program: &[u32],
     scratch: &mut [u32],
     output: &mut [u32],
+    query: u32,
     number: u32,
     tally: Tally,
 ) -> Rounded
-    requires { ⌜ ((P : Program) × (R : Relation) × (a : definition.Tally) × Starting (now program) (now scratch) (now output) P R number tally a) ⌝ }
-    ensures { λ r. ⌜ ((P : Program) (R : Relation) (a : definition.Tally) → Starting (now (program .entry)) (now (scratch .entry)) (now (output .entry)) P R number tally a
-        → RoundedAs (now (program .entry)) (now (scratch .entry)) (now (output .entry)) (now (scratch .exit)) (now (output .exit)) P (definition.one-round P R number (a .room) (a .left) (a .written)) r) ⌝ }
+    requires { ⌜ ((P : Program) × (R : Relation) × (a : definition.Tally) × Starting (now program) (now scratch) (now output) P query R number tally a) ⌝ }
+    ensures { λ r. ⌜ ((P : Program) (R : Relation) (a : definition.Tally) → Starting (now (program .entry)) (now (scratch .entry)) (now (output .entry)) P query R number tally a
+        → RoundedAs (now (program .entry)) (now (scratch .exit)) (now (output .exit)) P (definition.one-round P R number (a .room) (a .left) (a .written)) r) ⌝ }
 {
-    let query = relation(program, scratch, 0);
-    let params = query.params;
+    let asked = relation(program, scratch, query);
+    let params = asked.params;
     let mut state = State {
         head: 0,
         trail: 0,
-        made: query.vars,
+        made: asked.vars,
         put: 1,
         kept: 0,
         calls: 0,
         choices: 0,
         left: tally.left,
     };
-    let mut goal = query.body;
+    let mut goal = asked.body;
     let mut used = tally.used;
     let mut answers = tally.answers;
     let mut cuts = 0;
@@ -99,31 +142,17 @@ pub(crate) fn round(
             Searched::Over(last, cut) => {
                 return completed(scratch, last, used, answers, cut);
             }
-            Searched::Answer(ended, cut) => {
-                match write_answer(program, scratch, output, ended, params, used) {
-                    Answered::Full(left) => {
-                        return broken(End::Output, left, used, answers);
+            Searched::Answer(last, cut) => {
+                match give(program, scratch, output, last, params, used, answers, cut) {
+                    Given::Ends(rounded) => {
+                        return rounded;
                     }
-                    Answered::StepsOut => {
-                        return broken(End::Steps, 0, used, answers);
-                    }
-                    Answered::PathOut(left) => {
-                        return broken(End::Path(Bound::Waiting), left, used, answers);
-                    }
-                    Answered::Written(words, left) => {
-                        let after = narrowed(ended, ended.trail, ended.kept, left);
+                    Given::Goes(next, found, words) => {
+                        state = next;
+                        goal = found;
                         used = words;
                         answers += 1;
                         cuts = cut;
-                        match back(program, scratch, after) {
-                            Resumed::Over => {
-                                return completed(scratch, after, used, answers, cuts);
-                            }
-                            Resumed::Goal(next, found) => {
-                                state = next;
-                                goal = found;
-                            }
-                        }
                     }
                 }
             }

@@ -26,17 +26,18 @@ fn report(end: End, round: u32, limit: u32, tally: Tally) -> Report
     }
 }
 
-// Rounds 0, 1, 2 and so on, up to one that is broken off, that cut no branch, or that is the limit.
+// Rounds 0, 1, 2 and so on of the relation `query`, up to one that is broken off, that cut no branch, or that is the limit.
 pub(crate) fn rounds(
     program: &[u32],
     scratch: &mut [u32],
     output: &mut [u32],
+    query: u32,
     limit: u32,
     steps: u32,
 ) -> Report
-    requires { ⌜ ((P : Program) × (R : Relation) × Ready (now program) (now scratch) P R limit) ⌝ }
-    ensures { λ r. ⌜ ((P : Program) (R : Relation) → Ready (now (program .entry)) (now (scratch .entry)) P R limit
-        → ResultAs (now (scratch .entry)) (now (output .entry)) (now (scratch .exit)) (now (output .exit)) (definition.rounds steps P R limit 0 (usable (length (now (output .entry)))) steps []) r) ⌝ }
+    requires { ⌜ ((P : Program) × (R : Relation) × Ready (now program) (now scratch) P query R limit) ⌝ }
+    ensures { λ r. ⌜ ((P : Program) (R : Relation) → Ready (now (program .entry)) (now (scratch .entry)) P query R limit
+        → ResultAs (now (output .exit)) (definition.rounds steps P R limit 0 (usable (length (now (output .entry)))) steps []) r) ⌝ }
 {
     let mut number = 0;
     let mut tally = Tally {
@@ -45,7 +46,7 @@ pub(crate) fn rounds(
         answers: 0,
     };
     loop {
-        match round(program, scratch, output, number, tally) {
+        match round(program, scratch, output, query, number, tally) {
             Rounded::Broken(end, last) => {
                 return report(end, number, steps, last);
             }

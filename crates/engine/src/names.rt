@@ -30,7 +30,8 @@ pub(crate) fn name_variable(scratch: &mut [u32], x: u32, top: u32) -> u32
 // Names the open variables of a term.
 pub(crate) fn name_term(program: &[u32], scratch: &mut [u32], term: u32, top: u32) -> u32
     requires { ⌜ ((t : Term) × (names : List ℕ) × Resolves (now program) (now scratch) term t × Names (now scratch) top names) ⌝ }
-    ensures { λ r. ⌜ ((t : Term) (names : List ℕ) → Resolves (now (program .entry)) (now (scratch .entry)) term t → Names (now (scratch .entry)) top names → Named (now (scratch .entry)) (now (scratch .exit)) r (appear names t)) ⌝ }
+    ensures { λ r. ⌜ ((t : Term) (names : List ℕ) → Resolves (now (program .entry)) (now (scratch .entry)) term t → Names (now (scratch .entry)) top names
+        → Named (now (scratch .entry)) (now (scratch .exit)) r (appear names t)) ⌝ }
 {
     let mut at = term;
     let mut given = top;
@@ -66,7 +67,8 @@ pub(crate) fn clear_names(scratch: &mut [u32], top: u32)
 // Whether every open variable of a term has a name.
 pub(crate) fn all_named(program: &[u32], scratch: &[u32], term: u32) -> bool
     requires { ⌜ ((t : Term) × (top : ℕ) × (names : List ℕ) × Resolves (now program) (now scratch) term t × Names (now scratch) top names) ⌝ }
-    ensures { λ r. ⌜ ((t : Term) (top : ℕ) (names : List ℕ) → Resolves (now (program .entry)) (now (scratch .entry)) term t → Names (now (scratch .entry)) top names → r ≡ vars-in names t) ⌝ }
+    ensures { λ r. ⌜ ((t : Term) (top : ℕ) (names : List ℕ) → Resolves (now (program .entry)) (now (scratch .entry)) term t → Names (now (scratch .entry)) top names
+        → r ≡ vars-in names t) ⌝ }
 {
     let mut at = term;
     loop {

@@ -26,10 +26,10 @@ enum-known-line-3 : tie.Need-enum-known-line-3
 enum-known-line-3 c = search needs
 
 equations-named-requires : tie.Need-equations-named-requires
-equations-named-requires c κs = let q = c .before .before .before .before .before .pre .1 in let d = differ-line (q .3) (c .before .line3 .given .1) in (d .room, (d .one ∷ d .rest, q .1, q .2, d .here, d .many, q .4))
+equations-named-requires c κs = let q = c .before .before .before .before .before .pre .1 in let d = differ-line (q .3) (c .before .line3 .given .1) in (d .one ∷ d .rest, q .1, q .2, d .here, q .4)
 
 returns-3 : tie.Need-returns-3
-returns-3 c = λ l top names h n. let d = differ-line h (c .before .before .line3 .given .1) in differ-named names d (c .equations-named .ensures (d .one ∷ d .rest) top names (d .here) (d .many) n)
+returns-3 c = λ l top names h n. let d = differ-line h (c .before .before .line3 .given .1) in differ-named names d (c .equations-named .ensures (d .one ∷ d .rest) top names (d .here) n)
 
 pub line-named-spec : {M : Type 1} → statement M
 line-named-spec =

@@ -40,18 +40,15 @@ use Rattle.engine.specs.declared.constraints.Added.the-variants.{Done, S
 use Rattle.engine.proofs.ReferenceLaws.{atom-word-is}
 use Rattle.engine.proofs.FrameLaws.{kept-same}
 use Rattle.engine.proofs.TrailLaws.{fresh-few, apart-same, apart-trans, undone-apart}
-use Rattle.engine.proofs.NameLaws.{names-apart}
+use Rattle.engine.proofs.NameLaws.{given-apart}
 use Rattle.engine.proofs.PutLaws.{room-same}
 use Rattle.engine.proofs.LinesLaws.{add-append}
 use Rattle.engine.proofs.WriterLaws.{absent-once, trial-new, equations-kept}
 use Rattle.engine.proofs.ReviewSteps.{absento-term, absento-tag, DifferAt, Trial, trial-failed, trial-stepped, trial-pathed, kept-again}
 
-pub apart-long : {s s′ : List ℕ} → Apart s s′ → 12288 ≤ length s → 12288 ≤ length s′
-apart-long p l = omega (arith, p .long)
-
 -- a trial leaves the answer under way as it is
 abbrev pub writing-apart : {s s′ out : List ℕ} {first end place : ℕ} → Apart s s′ → Writing s out first end place → Writing s′ out first end place
-writing-apart p g = record { before = g .before; begin = g .begin; head = g .head; lines = g .lines; top = g .top; names = g .names; page = g .page; named = names-apart p (g .named); room = g .room; long = apart-long p (g .long) }
+writing-apart p g = record { before = g .before; begin = g .begin; head = g .head; lines = g .lines; names = g .names; page = g .page; given = given-apart p (g .given); room = g .room }
 
 -- the page of lines that are done
 page-done : {o out : List ℕ} {begin first end place rest : ℕ} {head : List ℕ} {lines : List (List ℕ)} → Page o out begin first end place head lines → (next left : ℕ) → Done place rest ≡ Done next left → Page o out begin first end next head lines
@@ -282,7 +279,7 @@ module _ {ws s₀ out₀ : List ℕ} {first end place₀ : ℕ} {g : Writing s�
 
   -- the answer under way is that of the caller, with more lines
   abbrev pub adding-writing : Writing s out first end place
-  adding-writing = record { before = g .before; begin = g .begin; head = g .head; lines = add-lines (g .names) (g .lines) (h .lines); top = g .top; names = g .names; page = h .page; named = names-apart (h .apart) (g .named); room = room-same adding-long (g .room); long = apart-long (h .apart) (g .long) }
+  adding-writing = record { before = g .before; begin = g .begin; head = g .head; lines = add-lines (g .names) (g .lines) (h .lines); names = g .names; page = h .page; given = given-apart (h .apart) (g .given); room = room-same adding-long (g .room) }
 
   pub record AddingNext : Type 0 where
     pub one : Constraint

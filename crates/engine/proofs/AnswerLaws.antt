@@ -28,7 +28,7 @@ use Rattle.engine.specs.Memory.{BindingsIn, Nameless, Stored}
 use Rattle.engine.specs.Walk.{Binds}
 use Rattle.engine.specs.Trail.{Apart}
 use Rattle.engine.specs.Review.{Kept}
-use Rattle.engine.specs.Names.{top-from, word-from, Distinct, Names, Named}
+use Rattle.engine.specs.Names.{top-from, word-from, Distinct, Names, Given, Named}
 use Rattle.engine.specs.Put.{Room, Touched, Laid, Placed, all-laid, some-missing}
 use Rattle.engine.specs.Page.{joined, add-lines, Wholes, Page, Writing}
 use Rattle.engine.specs.Query.{Known, query-words, Query, Ends, end-says, EndedAs}
@@ -222,8 +222,11 @@ module _ {P : Program} {ws s output : List ℕ} {st : State} {p : Path} {cs : Li
 
   -- with names
   module _ {s₁ : List ℕ} {top : ℕ} (m : Named s s₁ top names) where
+    pub answer-given : Given s₁ names
+    answer-given = record { long = binds-named m answer-binds .long; top = top; named = m .given }
+
     pub answer-query : Query ws s₁ params bs names
-    answer-query = record { top = top; binds = binds-named m answer-binds; named = m .given; known = query-known bs params }
+    answer-query = record { binds = binds-named m answer-binds; given = answer-given; known = query-known bs params }
 
     pub answer-kept : Kept ws s₁ bs (p .kept) (st .trail) (st .kept)
     answer-kept =
@@ -239,7 +242,7 @@ module _ {P : Program} {ws s output : List ℕ} {st : State} {p : Path} {cs : Li
     -- with the query terms put
     module _ {out₁ : List ℕ} {end place : ℕ} (room : Room output end) (page : Page output out₁ (used + 1) place end place (query-words bs names 0 params) []) where
       abbrev pub answer-writing : Writing s₁ out₁ place end place
-      answer-writing = record { before = output; begin = used + 1; head = query-words bs names 0 params; lines = []; top = top; names = names; page = page; named = m .given; room = room-same (page .touched .long) room; long = binds-named m answer-binds .long }
+      answer-writing = record { before = output; begin = used + 1; head = query-words bs names 0 params; lines = []; names = names; page = page; given = answer-given; room = room-same (page .touched .long) room }
 
       -- with the lines of the constraints
       module _ {s₂ out₂ : List ℕ} (o : Outcome (List Line)) (r : Added) (d : AddedAs ws s₁ s₂ answer-writing out₂ bs o r) where

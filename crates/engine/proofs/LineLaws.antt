@@ -12,7 +12,7 @@ use Rattle.rules.specs.Written.{part, term-words, goal-words, goals-words, sort
 use Rattle.semantics.specs.Answer.{member, index, reify, vars-in, reify-bindings, differ-goals, bindings-in, line-in, line-words, Line, is-sort, lacks, not-all}
 use Rattle.semantics.proofs.Basics.{clash, and-true}
 use Rattle.engine.specs.Reference.{at}
-use Rattle.engine.specs.Names.{Names}
+use Rattle.engine.specs.Names.{Given}
 use Rattle.engine.specs.Put.{Puts, Laid, Placed, all-laid, some-missing}
 use Rattle.engine.specs.Lines.{half, Equation, Equations, EquationsIn, equation-in, equation-words, equations-words, LineAs, as-sort, as-lacks, as-differ}
 use Rattle.engine.specs.declared.line.Listed.{Listed}
@@ -273,12 +273,12 @@ pub differ-in : {ws s : List ℕ} {mark count : ℕ} {l : Line} (names : List �
 differ-in names h e = subst (λ l. line-in names l ≡ true) (h .is) e
 
 -- names of a line's variables
-module _ {s : List ℕ} {top x : ℕ} {names : List ℕ} (low : x < 2048) (n : Names s top names) where
+module _ {s : List ℕ} {x : ℕ} {names : List ℕ} (low : x < 2048) (g : Given s names) where
   pub name-missing : at s (4096 + x) ≡ 0 → false ≡ member x names
-  name-missing z = sym (no-name n x low z)
+  name-missing z = sym (no-name (g .named) x low z)
 
   pub name-there : ¬ (at s (4096 + x) ≡ 0) → true ≡ member x names
-  name-there z = sym (has-name n x low z)
+  name-there z = sym (has-name (g .named) x low z)
 
 module _ {ws s : List ℕ} {mark i x : ℕ} {b : ℕ × Term} {has : Bool} (names : List ℕ) (h : Equation ws s mark i b) (e : x ≡ half s i) (f : has ≡ member x names) where
   is-member : has ≡ member (b .0) names

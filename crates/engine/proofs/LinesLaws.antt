@@ -106,12 +106,10 @@ module _ {ws s before out : List ℕ} {begin tag w first end place : ℕ} {head 
             begin = k .begin;
             head = k .head;
             lines = add-lines (k .names) (k .lines) (lacks-each tag-of (occurrences (p .first)));
-            top = k .top;
             names = k .names;
             page = n (absent-first p);
-            named = k .named;
+            given = k .given;
             room = room-same (page-long (k .page) (n (absent-first p)) refl) (k .room);
-            long = k .long;
           };
           tag-of = tag-of;
           is-tag = h .rest .is-tag;

@@ -67,7 +67,7 @@ read-back (some-missing h) = h .read-only refl
 
 -- a line is compared with an earlier one, between its ends
 pub puts-between : {s o o′ : List ℕ} {first at place next : ℕ} {names v : List ℕ} {a : Bool} → Puts s o first at names a → length o′ ≡ length o → Stretch o′ place next v → next ≤ at → Puts s o′ place next names a
-puts-between g e h l = record { from = omega (arith, h .ends); room = record { inside = omega (arith, g .room .inside, e); short = omega (arith, g .room .short) }; long = g .long; top = g .top; named = g .named; known = g .known }
+puts-between g e h l = record { from = omega (arith, h .ends); room = record { inside = omega (arith, g .room .inside, e); short = omega (arith, g .room .short) }; given = g .given; known = g .known }
 
 -- earlier lines, one after the other
 pub record Row (o : List ℕ) (place to : ℕ) (v : List ℕ) (goal : Bool) : Type 0 where
@@ -179,14 +179,12 @@ module _ {s out : List ℕ} {first end place : ℕ} (g : Writing s out first end
     earlier-puts = record {
       from = omega (arith, page-rows e .stretch .ends);
       room = record { inside = omega (arith, g .room .inside); short = omega (arith, g .room .short) };
-      long = g .long;
-      top = g .top;
-      named = g .named;
+      given = g .given;
       known = k;
     }
 
     pub behind-puts : {out′ : List ℕ} → out′ ≡ out → Puts s out′ place end (g .names) all-named
-    behind-puts q = record { from = e; room = room-same (ap length q) (g .room); long = g .long; top = g .top; named = g .named; known = k }
+    behind-puts q = record { from = e; room = room-same (ap length q) (g .room); given = g .given; known = k }
 
   module _ (l : Line) where
     -- nothing more fits

@@ -165,7 +165,7 @@ room-same e r = record { inside = omega (arith, r .inside, e); short = r .short 
 
 -- what is put next: at another place, or behind words that are laid
 pub puts-at : {s o o′ : List ℕ} {start start′ end : ℕ} {names : List ℕ} {a b : Bool} → Puts s o start end names a → length o′ ≡ length o → start′ ≤ end → b ≡ true → Puts s o′ start′ end names b
-puts-at g e l k = record { from = l; room = room-same e (g .room); long = g .long; top = g .top; named = g .named; known = k }
+puts-at g e l k = record { from = l; room = room-same e (g .room); given = g .given; known = k }
 
 pub puts-behind : {s o o′ : List ℕ} {start next end : ℕ} {names v : List ℕ} {write a b : Bool} → Puts s o start end names a → Laid o o′ start end write v next → b ≡ true → Puts s o′ next end names b
 puts-behind g d k = puts-at g (d .touched .long) (d .fits) k

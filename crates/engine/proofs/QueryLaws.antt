@@ -88,7 +88,7 @@ module _ {ws s₀ s : List ℕ} {bs : Substitution} {n x top : ℕ} (g : NamingA
 
 -- one of them is put next
 pub query-puts : {ws s o₀ o : List ℕ} {start place end x n : ℕ} {v names : List ℕ} {bs : Substitution} → Room o₀ end → Query ws s n bs names → Laid o₀ o start end true v place → x < n → Puts s o place end names (vars-in names (resolve bs (var x)))
-query-puts {x = x} r q d l = record { from = d .fits; room = room-same (d .touched .long) r; long = q .binds .long; top = q .top; named = q .named; known = q .known x l }
+query-puts {x = x} r q d l = record { from = d .fits; room = room-same (d .touched .long) r; given = q .given; known = q .known x l }
 
 -- putting: what is put already, and what is left
 pub record PuttingAll (o₀ o : List ℕ) (bs : Substitution) (names : List ℕ) (n start end x place : ℕ) : Type 0 where

@@ -10,7 +10,7 @@ use Rattle.rules.specs.Written.{part, atom-word, sort-kind}
 use Rattle.rules.specs.Inner.{Stands as Spells}
 use Rattle.semantics.specs.Answer.{Line, line-in, line-words, any-same}
 use Rattle.engine.specs.Follow.{Resolves}
-use Rattle.engine.specs.Names.{Names}
+use Rattle.engine.specs.Names.{Given}
 use Rattle.engine.specs.Put.{Room, Touched, Laid}
 
 -- words one after the other
@@ -62,12 +62,10 @@ pub record Writing (s out : List ℕ) (first end place : ℕ) : Type 0 where
   pub begin : ℕ
   pub head : List ℕ
   pub lines : List (List ℕ)
-  pub top : ℕ
   pub names : List ℕ
   pub page : Page before out begin first end place head lines
-  pub named : Names s top names
+  pub given : Given s names
   pub room : Room out end
-  pub long : 12288 ≤ length s
 
 -- and with these lines more
 abbrev pub Extended : {s out : List ℕ} {first end place : ℕ} → Writing s out first end place → List ℕ → ℕ → List Line → Type 0

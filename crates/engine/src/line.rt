@@ -10,14 +10,13 @@ use crate::put::put_term;
 use crate::put::put_variable;
 use word::Word;
 ghost use mathlib.Core.Path.{_≡_};
-ghost use mathlib.Core.Bool.{true};
 ghost use mathlib.Core.List.{List, _∷_};
 ghost use Prim.Native.Nat.{ℕ, _≤_, _<_, _+_};
 ghost use lib.ListN.{length};
 ghost use Rattle.rules.specs.Syntax.{Term, var};
 ghost use Rattle.rules.specs.Written.{part, term-words};
 ghost use Rattle.semantics.specs.Answer.{member, index, bindings-in, line-in, line-words, Line, not-all};
-ghost use Rattle.engine.specs.Names.{Names};
+ghost use Rattle.engine.specs.Names.{Given};
 ghost use Rattle.engine.specs.Put.{Puts, Placed};
 ghost use Rattle.engine.specs.Lines.{half, Equation, EquationsIn, equation-in, equation-words, equations-words, LineAs};
 
@@ -228,7 +227,7 @@ pub(crate) fn put_line(
 
 pub(crate) fn has_name(scratch: &[u32], x: u32) -> bool
     requires { ⌜ (12288 ≤ length (now scratch)) × (x < 2048) ⌝ }
-    ensures { λ r. ⌜ ((top : ℕ) (names : List ℕ) → Names (now (scratch .entry)) top names → r ≡ member x names) ⌝ }
+    ensures { λ r. ⌜ ((names : List ℕ) → Given (now (scratch .entry)) names → r ≡ member x names) ⌝ }
 {
     if scratch[NAMES + x as usize] == 0 {
         return false;
@@ -238,8 +237,8 @@ pub(crate) fn has_name(scratch: &[u32], x: u32) -> bool
 
 // Whether every variable of equation `i` has a name.
 pub(crate) fn equation_named(program: &[u32], scratch: &[u32], mark: usize, i: usize) -> bool
-    requires { ⌜ (mark + i < 2048) × ((b : ℕ × Term) × (top : ℕ) × (names : List ℕ) × Equation (now program) (now scratch) mark i b × Names (now scratch) top names) ⌝ }
-    ensures { λ r. ⌜ ((b : ℕ × Term) (top : ℕ) (names : List ℕ) → Equation (now (program .entry)) (now (scratch .entry)) mark i b → Names (now (scratch .entry)) top names
+    requires { ⌜ (mark + i < 2048) × ((b : ℕ × Term) × (names : List ℕ) × Equation (now program) (now scratch) mark i b × Given (now scratch) names) ⌝ }
+    ensures { λ r. ⌜ ((b : ℕ × Term) (names : List ℕ) → Equation (now (program .entry)) (now (scratch .entry)) mark i b → Given (now (scratch .entry)) names
         → r ≡ equation-in names b) ⌝ }
 {
     let x = variable_at(scratch, i);
@@ -252,9 +251,9 @@ pub(crate) fn equation_named(program: &[u32], scratch: &[u32], mark: usize, i: u
 
 // Of the first `count` equations.
 pub(crate) fn equations_named(program: &[u32], scratch: &[u32], mark: usize, count: usize) -> bool
-    requires { ⌜ ((cs : List (ℕ × Term)) × (top : ℕ) × (names : List ℕ) × EquationsIn (now program) (now scratch) mark count cs × Names (now scratch) top names) ⌝ }
-    ensures { λ r. ⌜ ((cs : List (ℕ × Term)) (top : ℕ) (names : List ℕ) → EquationsIn (now (program .entry)) (now (scratch .entry)) mark count cs
-        → Names (now (scratch .entry)) top names → r ≡ bindings-in names cs) ⌝ }
+    requires { ⌜ ((cs : List (ℕ × Term)) × (names : List ℕ) × EquationsIn (now program) (now scratch) mark count cs × Given (now scratch) names) ⌝ }
+    ensures { λ r. ⌜ ((cs : List (ℕ × Term)) (names : List ℕ) → EquationsIn (now (program .entry)) (now (scratch .entry)) mark count cs → Given (now (scratch .entry)) names
+        → r ≡ bindings-in names cs) ⌝ }
 {
     let mut i = 0;
     while i < count {
@@ -269,8 +268,8 @@ pub(crate) fn equations_named(program: &[u32], scratch: &[u32], mark: usize, cou
 
 // Of a line. One that mentions a variable with no name is dropped.
 pub(crate) fn line_named(program: &[u32], scratch: &[u32], line: Listed) -> bool
-    requires { ⌜ (12288 ≤ length (now scratch)) × ((l : Line) × (top : ℕ) × (names : List ℕ) × LineAs (now program) (now scratch) line l × Names (now scratch) top names) ⌝ }
-    ensures { λ r. ⌜ ((l : Line) (top : ℕ) (names : List ℕ) → LineAs (now (program .entry)) (now (scratch .entry)) line l → Names (now (scratch .entry)) top names
+    requires { ⌜ ((l : Line) × (names : List ℕ) × LineAs (now program) (now scratch) line l × Given (now scratch) names) ⌝ }
+    ensures { λ r. ⌜ ((l : Line) (names : List ℕ) → LineAs (now (program .entry)) (now (scratch .entry)) line l → Given (now (scratch .entry)) names
         → r ≡ line-in names l) ⌝ }
 {
     match line {

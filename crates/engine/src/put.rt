@@ -4,7 +4,6 @@ use crate::follow::Shape;
 use crate::follow::follow;
 use crate::layout::NAMES;
 use word::Word;
-ghost use mathlib.Core.Bool.{true};
 ghost use mathlib.Core.List.{List, [], _∷_};
 ghost use Prim.Native.Nat.{ℕ, _≤_, _<_, _+_};
 ghost use lib.ListN.{length};

@@ -78,7 +78,7 @@ put-term-shared-slice-read-number : (t : ℕ) → put-term-lts.Need-shared-slice
 put-term-shared-slice-read-number t c = omega (arith, putting-low (now-at t (c .before .before .before .before .before .before)) (c .before .before .before .before .follow .ensures) (c .before .before .x .given .1), now-at t (c .before .before .before .before .before .before) .here .follows .binds .long)
 
 put-term-sub-number : (t : ℕ) → put-term-lts.Need-sub-number (put-term-claims t) (put-term-at t) put-term.Post put-term-Inv-loop put-term-μ-loop
-put-term-sub-number t c = omega (arith, putting-named (now-at t (c .before .before .before .before .before .before)) (c .before .before .before .before .follow .ensures) (c .before .before .before .before .before .before .before .before .before .before .pre .1 .3 .named) (c .before .before .x .given .1))
+put-term-sub-number t c = omega (arith, putting-named (now-at t (c .before .before .before .before .before .before)) (c .before .before .before .before .follow .ensures) (c .before .before .before .before .before .before .before .before .before .before .pre .1 .3 .given .named) (c .before .before .x .given .1))
 
 put-term-new-requires : (t : ℕ) → put-term-lts.Need-new-requires (put-term-claims t) (put-term-at t) put-term.Post put-term-Inv-loop put-term-μ-loop
 put-term-new-requires t c κs = search needs
@@ -87,10 +87,10 @@ put-term-put-last-requires : (t : ℕ) → put-term-lts.Need-put-last-requires (
 put-term-put-last-requires t c κs = (omega (arith, c .before .before .before .before .before .before .before .if1 .left), omega (arith, now-at t (c .before .before .before .before .before .before .before .before) .laid .touched .long, c .before .before .before .before .before .before .before .before .before .before .before .before .pre .1 .3 .room .inside))
 
 put-term-same-length-2 : (t : ℕ) → put-term-lts.Need-same-length-2 (put-term-claims t) (put-term-at t) put-term.Post put-term-Inv-loop put-term-μ-loop
-put-term-same-length-2 t c = placed-long (putting-open (now-at t (c .before .before .before .before .before .before .before .before .before .before .before)) (c .before .before .before .before .before .before .before .before .before .follow .ensures) (c .before .before .before .before .before .before .before .before .before .before .before .before .before .before .before .pre .1 .3 .named) (c .before .before .before .before .before .before .before .x .given .1) (c .before .before .before .new .ensures) (c .before .before .put-last .ensures))
+put-term-same-length-2 t c = placed-long (putting-open (now-at t (c .before .before .before .before .before .before .before .before .before .before .before)) (c .before .before .before .before .before .before .before .before .before .follow .ensures) (c .before .before .before .before .before .before .before .before .before .before .before .before .before .before .before .pre .1 .3 .given .named) (c .before .before .before .before .before .before .before .x .given .1) (c .before .before .before .new .ensures) (c .before .before .put-last .ensures))
 
 put-term-returns-2 : (t : ℕ) → put-term-lts.Need-returns-2 (put-term-claims t) (put-term-at t) put-term.Post put-term-Inv-loop put-term-μ-loop
-put-term-returns-2 t c = λ u names h q. putting-open (c .before .before .before .before .before .before .before .before .before .before .before .loop .inv .1 u names h q) (c .before .before .before .before .before .before .before .before .before .follow .ensures) (q .named) (c .before .before .before .before .before .before .before .x .given .1) (c .before .before .before .new .ensures) (c .before .before .put-last .ensures)
+put-term-returns-2 t c = λ u names h q. putting-open (c .before .before .before .before .before .before .before .before .before .before .before .loop .inv .1 u names h q) (c .before .before .before .before .before .before .before .before .before .follow .ensures) (q .given .named) (c .before .before .before .before .before .before .before .x .given .1) (c .before .before .before .new .ensures) (c .before .before .put-last .ensures)
 
 put-term-enum-known-bits : (t : ℕ) → put-term-lts.Need-enum-known-bits (put-term-claims t) (put-term-at t) put-term.Post put-term-Inv-loop put-term-μ-loop
 put-term-enum-known-bits t c = search needs

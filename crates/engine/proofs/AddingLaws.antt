@@ -24,9 +24,9 @@ use Rattle.engine.specs.Trail.{Trailed, Undone, Apart}
 use Rattle.engine.specs.Unify.{Went, UnifiedAs}
 use Rattle.engine.specs.Keep.{AllKept}
 use Rattle.engine.specs.Look.{look-says, LookedAs, Looks, rights, ThroughAs}
-use Rattle.engine.specs.Lines.{Equations, LineAs, as-differ}
+use Rattle.engine.specs.Lines.{EquationsIn, LineAs, as-differ}
 use Rattle.engine.specs.Put.{Touched}
-use Rattle.engine.specs.Page.{Page, add-line, add-lines, Writing, Extended, occurrences, AddsAbsent, AddsTyped}
+use Rattle.engine.specs.Page.{Page, add-lines, Writing, Extended, occurrences, AddsAbsent, AddsTyped}
 use Rattle.engine.specs.Adding.{added-says, AddedAs, Differs, Lists}
 use Rattle.engine.specs.Review.{Kept}
 use Rattle.engine.specs.declared.line.Listed.the-variants.{Differ}
@@ -39,10 +39,15 @@ use Rattle.engine.specs.declared.constraints.Added.the-variants.{Done, S
 use Rattle.engine.proofs.ReferenceLaws.{atom-word-is}
 use Rattle.engine.proofs.FrameLaws.{kept-same}
 use Rattle.engine.proofs.TrailLaws.{fresh-few, apart-same, apart-trans, undone-apart}
-use Rattle.engine.proofs.NameLaws.{names-apart}
+use Rattle.engine.proofs.NameLaws.{given-apart}
+use Rattle.engine.proofs.PutLaws.{room-same}
 use Rattle.engine.proofs.LinesLaws.{add-append}
 use Rattle.engine.proofs.WriterLaws.{absent-once, trial-new, equations-kept}
 use Rattle.engine.proofs.ReviewSteps.{absento-term, absento-tag, DifferAt, Trial, trial-failed, trial-stepped, trial-pathed, kept-again}
+
+-- a trial leaves the answer under way as it is
+abbrev pub writing-apart : {s s′ out : List ℕ} {first end place : ℕ} → Apart s s′ → Writing s out first end place → Writing s′ out first end place
+writing-apart p g = record { before = g .before; begin = g .begin; head = g .head; lines = g .lines; names = g .names; page = g .page; given = given-apart p (g .given); room = g .room }
 
 -- the page of lines that are done
 page-done : {o out : List ℕ} {begin first end place rest : ℕ} {head : List ℕ} {lines : List (List ℕ)} → Page o out begin first end place head lines → (next left : ℕ) → Done place rest ≡ Done next left → Page o out begin first end next head lines
@@ -125,9 +130,9 @@ right-length : (bs : Substitution) (cs : List (ℕ × Term)) → length (resolve
 right-length bs [] = refl
 right-length bs (b ∷ cs) = ap suc (right-length bs cs)
 
-equations-line : {ws s : List ℕ} {mark count : ℕ} (es : List (ℕ × Term)) → 0 < length es → Equations ws s mark 0 es → count ≡ length es → mark + count ≤ 2048 → LineAs ws s (Differ mark count) (not-all es)
-equations-line [] l h n f = absurd (omega arith)
-equations-line (b ∷ cs) l h n f = as-differ b cs h n f
+equations-line : {ws s : List ℕ} {mark count : ℕ} (es : List (ℕ × Term)) → 0 < length es → EquationsIn ws s mark count es → LineAs ws s (Differ mark count) (not-all es)
+equations-line [] l h = absurd (omega arith)
+equations-line (b ∷ cs) l h = as-differ b cs h
 
 module _ {ws s s₂ : List ℕ} {bs : Substitution} {u v : Term} {trail n steps rest : ℕ} (t : Tried ws s s₂ bs u v trail n steps rest) where
   pub tried-line-is : Line
@@ -138,7 +143,7 @@ module _ {ws s s₂ : List ℕ} {bs : Substitution} {u v : Term} {trail n steps 
   tried-line =
       let h = t .looks in
       let l : length (resolve-right bs (reverse (t .new))) ≡ length (reverse (t .new)) = right-length bs (reverse (t .new)) in
-      equations-line (resolve-right bs (reverse (t .new))) (omega (arith, length-reverse (t .new), t .some-new)) (equations-kept trail 0 (reverse (t .new)) (h .held) (h .kept)) (h .count-is ∙ sym l) (h .few)
+      equations-line (resolve-right bs (reverse (t .new))) (omega (arith, length-reverse (t .new), t .some-new)) (record { here = equations-kept trail 0 (reverse (t .new)) (h .held) (h .kept); count-is = h .count-is ∙ sym l; few = h .few })
 
   module _ (r : Looked) (told : ThroughAs bs (rights (reverse (t .new))) rest r) {out : List ℕ} {first end place : ℕ} (g : Writing s out first end place) where
     lines-tried : lines-of bs (differ u v) steps ≡ and-then (look-says {A = Unit {0}} tt r) (λ _ l. done (tried-line-is ∷ []) l)
@@ -157,8 +162,7 @@ module _ {ws s s₂ : List ℕ} {bs : Substitution} {u v : Term} {trail n steps 
     pub tried-path : {after : ℕ} → r ≡ looked.PathOut after → AddedAs ws s s₂ g out bs (lines-of bs (differ u v) steps) (PathOut after)
     tried-path e = kept-back (rw e refl) (λ next left q. clash (cc)) (g .page .touched)
 
-    pub tried-done : {after : ℕ} {out′ : List ℕ} {next : ℕ} → r ≡ looked.Done after → Page (g .before) out′ (g .begin) first end next (g .head) (add-line (g .names) (g .lines) tried-line-is) → AddedAs ws s s₂ g out′ bs (lines-of bs (differ u v) steps) (Done next after)
-    unfolding add-lines
+    pub tried-done : {after : ℕ} {out′ : List ℕ} {next : ℕ} → r ≡ looked.Done after → Extended g out′ next (tried-line-is ∷ []) → AddedAs ws s s₂ g out′ bs (lines-of bs (differ u v) steps) (Done next after)
     tried-done e p = kept-back (rw e refl) (page-done p) (p .touched)
 
 -- A term that was looked through, with the lines that its constraint comes to
@@ -274,7 +278,7 @@ module _ {ws s₀ out₀ : List ℕ} {first end place₀ : ℕ} {g : Writing s�
 
   -- the answer under way is that of the caller, with more lines
   abbrev pub adding-writing : Writing s out first end place
-  adding-writing = record { before = g .before; begin = g .begin; head = g .head; lines = add-lines (g .names) (g .lines) (h .lines); top = g .top; names = g .names; page = h .page; named = names-apart (h .apart) (g .named) }
+  adding-writing = record { before = g .before; begin = g .begin; head = g .head; lines = add-lines (g .names) (g .lines) (h .lines); names = g .names; page = h .page; given = given-apart (h .apart) (g .given); room = room-same adding-long (g .room) }
 
   pub record AddingNext : Type 0 where
     pub one : Constraint

@@ -28,8 +28,8 @@ use Rattle.engine.specs.Memory.{BindingsIn, Nameless, Stored}
 use Rattle.engine.specs.Walk.{Binds}
 use Rattle.engine.specs.Trail.{Apart}
 use Rattle.engine.specs.Review.{Kept}
-use Rattle.engine.specs.Names.{top-from, word-from, Distinct, Names, Named}
-use Rattle.engine.specs.Put.{Touched, Laid, Placed, all-laid, some-missing}
+use Rattle.engine.specs.Names.{top-from, word-from, Distinct, Names, Given, Named}
+use Rattle.engine.specs.Put.{Room, Touched, Laid, Placed, all-laid, some-missing}
 use Rattle.engine.specs.Page.{joined, add-lines, Wholes, Page, Writing}
 use Rattle.engine.specs.Query.{Known, query-words, Query, Ends, end-says, EndedAs}
 use Rattle.engine.specs.Look.{ThroughAs}
@@ -49,7 +49,7 @@ use Rattle.engine.proofs.TrailLaws.{fresh-few}
 use Rattle.engine.proofs.FrameLaws.{bindings-same, kept-same}
 use Rattle.engine.proofs.StoredLaws.{trailed, rebound, stored-binds}
 use Rattle.engine.proofs.NameLaws.{names-apart}
-use Rattle.engine.proofs.PutLaws.{untouched, touched-then, laid-of, missing-of}
+use Rattle.engine.proofs.PutLaws.{room-same, untouched, touched-then, laid-of, missing-of}
 use Rattle.engine.proofs.PageLaws.{page-over, lines-listed}
 use Rattle.engine.proofs.QueryLaws.{binds-named}
 
@@ -222,8 +222,11 @@ module _ {P : Program} {ws s output : List ℕ} {st : State} {p : Path} {cs : Li
 
   -- with names
   module _ {s₁ : List ℕ} {top : ℕ} (m : Named s s₁ top names) where
+    pub answer-given : Given s₁ names
+    answer-given = record { long = binds-named m answer-binds .long; top = top; named = m .given }
+
     pub answer-query : Query ws s₁ params bs names
-    answer-query = record { top = top; binds = binds-named m answer-binds; named = m .given; known = query-known bs params }
+    answer-query = record { binds = binds-named m answer-binds; given = answer-given; known = query-known bs params }
 
     pub answer-kept : Kept ws s₁ bs (p .kept) (st .trail) (st .kept)
     answer-kept =
@@ -237,9 +240,9 @@ module _ {P : Program} {ws s output : List ℕ} {st : State} {p : Path} {cs : Li
         }
 
     -- with the query terms put
-    module _ {out₁ : List ℕ} {end place : ℕ} (page : Page output out₁ (used + 1) place end place (query-words bs names 0 params) []) where
+    module _ {out₁ : List ℕ} {end place : ℕ} (room : Room output end) (page : Page output out₁ (used + 1) place end place (query-words bs names 0 params) []) where
       abbrev pub answer-writing : Writing s₁ out₁ place end place
-      answer-writing = record { before = output; begin = used + 1; head = query-words bs names 0 params; lines = []; top = top; names = names; page = page; named = m .given }
+      answer-writing = record { before = output; begin = used + 1; head = query-words bs names 0 params; lines = []; names = names; page = page; given = answer-given; room = room-same (page .touched .long) room }
 
       -- with the lines of the constraints
       module _ {s₂ out₂ : List ℕ} (o : Outcome (List Line)) (r : Added) (d : AddedAs ws s₁ s₂ answer-writing out₂ bs o r) where
@@ -325,12 +328,12 @@ module _ {P : Program} {ws s output : List ℕ} {st : State} {p : Path} {cs : Li
     pub query-now : Query ws s₁ params (p .bindings) (names-of (p .bindings) params)
     query-now = answer-query a named-now
 
-    module _ {out₁ : List ℕ} {end place : ℕ} (begin : (bs : Substitution) (names : List ℕ) → Query ws s₁ params bs names → Page output out₁ (used + 1) place end place (query-words bs names 0 params) []) where
+    module _ {out₁ : List ℕ} {end place : ℕ} (room : Room output end) (begin : (bs : Substitution) (names : List ℕ) → Query ws s₁ params bs names → Page output out₁ (used + 1) place end place (query-words bs names 0 params) []) where
       pub page-now : Page output out₁ (used + 1) place end place (query-words (p .bindings) (names-of (p .bindings) params) 0 params) []
       page-now = begin (p .bindings) (names-of (p .bindings) params) query-now
 
       abbrev pub writing-now : Writing s₁ out₁ place end place
-      writing-now = answer-writing a named-now page-now
+      writing-now = answer-writing a named-now room page-now
 
       module _ {s₂ out₂ : List ℕ} {left : ℕ} (d : Added)
           (add : (g : Writing s₁ out₁ place end place) (bs : Substitution) (ks : List Constraint) (made : ℕ) → Kept ws s₁ bs ks (st .trail) (st .kept) → Sound bs ks made → AddedAs ws s₁ s₂ g out₂ bs (all-lines bs ks left) d) where
@@ -344,14 +347,14 @@ module _ {P : Program} {ws s output : List ℕ} {st : State} {p : Path} {cs : Li
         touched-now = added-now .touched
 
         pub names-now : Names s₂ top (names-of (p .bindings) params)
-        names-now = answer-named a named-now page-now _ d added-now
+        names-now = answer-named a named-now room page-now _ d added-now
 
         pub ends-now : Ends output out₂ used end (page-words (p .bindings) params (added-now .lines)) d
-        ends-now = answer-ends a named-now page-now _ d added-now
+        ends-now = answer-ends a named-now room page-now _ d added-now
 
         pub answered-now : (r : Looked) → ((bs : Substitution) → Binds ws s bs → ThroughAs bs (parameters 0 params) (st .left) r) → r ≡ looked.Done left
             → {s₃ : List ℕ} (out₃ : List ℕ) (q : Answered) → end ≡ usable (length output) → ((names : List ℕ) → Names s₂ top names → Named s₂ s₃ 0 [])
             → ((o : List ℕ) (v : List ℕ) → Ends o out₂ used end v d → EndedAs o out₂ out₃ used end v d q)
             → AnsweredAs P ws s output s₃ out₃ st p cs used (answer p params (st .left)) q
         answered-now r look e out₃ q is-end clear finish =
-            answer-done a named-now page-now _ d added-now out₃ q (finish output _ ends-now) is-end (clear _ names-now) (answer-on a r (look (p .bindings) (answer-binds a)) e)
+            answer-done a named-now room page-now _ d added-now out₃ q (finish output _ ends-now) is-end (clear _ names-now) (answer-on a r (look (p .bindings) (answer-binds a)) e)

@@ -12,15 +12,15 @@ use Rattle.rules.specs.Written.{part, term-words, goal-words, goals-words, sort
 use Rattle.semantics.specs.Answer.{member, index, reify, vars-in, reify-bindings, differ-goals, bindings-in, line-in, line-words, Line, is-sort, lacks, not-all}
 use Rattle.semantics.proofs.Basics.{clash, and-true}
 use Rattle.engine.specs.Reference.{at}
-use Rattle.engine.specs.Names.{Names}
-use Rattle.engine.specs.Put.{Laid, Placed, all-laid, some-missing}
-use Rattle.engine.specs.Lines.{half, Equation, Equations, equation-words, equations-words, LineAs, as-sort, as-lacks, as-differ}
+use Rattle.engine.specs.Names.{Given}
+use Rattle.engine.specs.Put.{Puts, Laid, Placed, all-laid, some-missing}
+use Rattle.engine.specs.Lines.{half, Equation, Equations, EquationsIn, equation-in, equation-words, equations-words, LineAs, as-sort, as-lacks, as-differ}
 use Rattle.engine.specs.declared.line.Listed.{Listed}
 use Rattle.engine.specs.declared.line.Listed.the-variants.{Typed, Lacks, Differ}
 use Rattle.engine.specs.declared.put.Put.{Put}
 use Rattle.engine.specs.declared.put.Put.the-variants.{End, Missed}
 use Rattle.engine.proofs.NameLaws.{has-name, no-name}
-use Rattle.engine.proofs.PutLaws.{laid-of, missing-of, missing-inner, laid-none, laid-then, missing-then, placed-then, missed-part, missing-end, missing-more}
+use Rattle.engine.proofs.PutLaws.{laid-of, missing-of, missing-inner, laid-none, laid-then, missing-then, placed-then, missed-part, missing-end, missing-more, puts-at}
 
 pub half-low : (s : List ℕ) (i : ℕ) → i % 2 ≡ 0 → at s (10752 + i / 2) % 65536 ≡ half s i
 unfolding half
@@ -68,9 +68,9 @@ pub record Going (ws s o₀ o : List ℕ) (mark count i start place end : ℕ) (
   pub laid : Laid o₀ o start end write put place
   pub is : put ++ equations-words names rest ≡ goal
 
-pub going-start : {ws s : List ℕ} {mark count : ℕ} (o : List ℕ) (start end : ℕ) (write : Bool) (names : List ℕ) (cs : List (ℕ × Term)) → start ≤ end → Equations ws s mark 0 cs → count ≡ length cs → bindings-in names cs ≡ true
+pub going-start : {ws s o : List ℕ} {mark count start end : ℕ} {names : List ℕ} (write : Bool) (cs : List (ℕ × Term)) → EquationsIn ws s mark count cs → Puts s o start end names (bindings-in names cs)
     → Going ws s o o mark count 0 start start end write names (equations-words names cs)
-going-start o start end write names cs l h k e = record { rest = cs; here = h; left = omega (arith, k); known = e; put = []; laid = laid-none o start end write l; is = refl }
+going-start {o = o} {start = start} {end = end} write cs h q = record { rest = cs; here = h .here; left = omega (arith, h .count-is); known = q .known; put = []; laid = laid-none o start end write (q .from); is = refl }
 
 -- the next one
 pub record Next (ws s o₀ o : List ℕ) (mark count i start place end : ℕ) (write : Bool) (names goal : List ℕ) : Type 0 where
@@ -79,7 +79,7 @@ pub record Next (ws s o₀ o : List ℕ) (mark count i start place end : ℕ) (w
   pub here : Equation ws s mark i one
   pub later : Equations ws s mark (i + 1) rest
   pub left : count ≡ i + 1 + length rest
-  pub known : (member (one .0) names && vars-in names (one .1)) ≡ true
+  pub known : equation-in names one ≡ true
   pub later-known : bindings-in names rest ≡ true
   pub put : List ℕ
   pub laid : Laid o₀ o start end write put place
@@ -93,7 +93,7 @@ module _ {ws s o₀ o : List ℕ} {mark count i start place end : ℕ} {write : 
       go : (cs : List (ℕ × Term)) → Equations ws s mark i cs → count ≡ i + length cs → bindings-in names cs ≡ true → g .put ++ equations-words names cs ≡ goal → Next ws s o₀ o mark count i start place end write names goal
       go [] h k e q = absurd (omega (arith, k))
       go (b ∷ cs) h k e q =
-          let a = and-true (member (b .0) names && vars-in names (b .1)) (bindings-in names cs) e in
+          let a = and-true (equation-in names b) (bindings-in names cs) e in
           record { one = b; rest = cs; here = h .0; later = h .1; left = omega (arith, k); known = a .0; later-known = a .1; put = g .put; laid = g .laid; is = q }
 
   pub going-end : count ≤ i → Placed o₀ o start end write goal (End place)
@@ -124,15 +124,16 @@ module _ {ws s : List ℕ} {mark i x : ℕ} {b : ℕ × Term} (h : Equation ws s
   pub equation-low : x < 2048
   equation-low = subst (λ y. y < 2048) (sym (e ∙ h .variable)) (h .low)
 
-  pub equation-member : (names : List ℕ) → (member (b .0) names && vars-in names (b .1)) ≡ true → member x names ≡ true
-  equation-member names k = subst (λ y. member y names ≡ true) (sym (e ∙ h .variable)) (and-true (member (b .0) names) (vars-in names (b .1)) k .0)
+  -- its variable is put behind its own word
+  pub equation-puts : {o : List ℕ} {start end : ℕ} {names : List ℕ} → Puts s o start end names (equation-in names b) → start < end → Puts s o (start + 1) end names (member x names)
+  equation-puts {names = names} q l = puts-at q refl (omega arith) (subst (λ y. member y names ≡ true) (sym (e ∙ h .variable)) (and-true (member (b .0) names) (vars-in names (b .1)) (q .known) .0))
 
-  pub equation-variable : {o o₁ : List ℕ} {end : ℕ} {write : Bool} {r : Put} {top : ℕ} (start : ℕ) (names : List ℕ) → Names s top names → (member (b .0) names && vars-in names (b .1)) ≡ true → start < end
-      → ((top : ℕ) (names : List ℕ) → Names s top names → member x names ≡ true → start + 1 ≤ end → Placed o o₁ (start + 1) end write (term-words (var (index x names))) r) → Placed o o₁ (start + 1) end write (term-words (var (index (b .0) names))) r
-  equation-variable {o} {o₁} {end} {write} {r} {top} start names n k l f = subst (λ y. Placed o o₁ (start + 1) end write (term-words (var (index y names))) r) (e ∙ h .variable) (f top names n (equation-member names k) (omega arith))
+  pub equation-variable : {o o₁ : List ℕ} {end : ℕ} {write : Bool} {r : Put} {start : ℕ} {names : List ℕ} → Puts s o start end names (equation-in names b) → start < end
+      → ((names : List ℕ) → Puts s o (start + 1) end names (member x names) → Placed o o₁ (start + 1) end write (term-words (var (index x names))) r) → Placed o o₁ (start + 1) end write (term-words (var (index (b .0) names))) r
+  equation-variable {o} {o₁} {end} {write} {r} {start} {names} q l f = subst (λ y. Placed o o₁ (start + 1) end write (term-words (var (index y names))) r) (e ∙ h .variable) (f names (equation-puts q l))
 
-pub equation-right : (names : List ℕ) (b : ℕ × Term) → (member (b .0) names && vars-in names (b .1)) ≡ true → vars-in names (b .1) ≡ true
-equation-right names b k = and-true (member (b .0) names) (vars-in names (b .1)) k .1
+pub right-puts : {s o o₁ : List ℕ} {start mid end : ℕ} {names v : List ℕ} {write : Bool} (b : ℕ × Term) → Puts s o start end names (equation-in names b) → Laid o o₁ (start + 1) end write v mid → Puts s o₁ mid end names (vars-in names (b .1))
+right-puts {names = names} b q d = puts-at q (d .touched .long) (d .fits) (and-true (member (b .0) names) (vars-in names (b .1)) (q .known) .1)
 
 -- short lines: words, then a variable
 pub variable-one : (names : List ℕ) (x : ℕ) → length (term-words (var (index x names))) ≡ 1
@@ -218,9 +219,7 @@ pub record LacksLine (tag x : ℕ) (l : Line) : Type 0 where
 pub record DifferLine (ws s : List ℕ) (mark count : ℕ) (l : Line) : Type 0 where
   pub one : ℕ × Term
   pub rest : List (ℕ × Term)
-  pub here : Equations ws s mark 0 (one ∷ rest)
-  pub many : count ≡ suc (length rest)
-  pub room : mark + count ≤ 2048
+  pub here : EquationsIn ws s mark count (one ∷ rest)
   pub is : l ≡ not-all (one ∷ rest)
 
 sort-small : (k : Sort) → sort-kind k < 16
@@ -233,21 +232,21 @@ module _ {ws s : List ℕ} where
       let a : m ≡ k = cc in let b : y ≡ x = cc in
       record { sort = sort; is-kind = sym a ∙ e; low = subst (λ z. z < 2048) b low; is = ap (is-sort sort) b; small = subst (λ z. z < 16) (sym (sym a ∙ e)) (sort-small sort) }
   typed-line (as-lacks a e low) q = clash (cc)
-  typed-line (as-differ b cs h m r) q = clash (cc)
+  typed-line (as-differ b cs h) q = clash (cc)
 
   pub lacks-line : {c : Listed} {l : Line} {tag x : ℕ} → LineAs ws s c l → c ≡ Lacks tag x → LacksLine tag x l
   lacks-line (as-sort sort e low) q = clash (cc)
   lacks-line {tag = tag} {x = x} (as-lacks {tag = m} {x = y} t e low) q =
       let a : m ≡ tag = cc in let b : y ≡ x = cc in
       record { tag-of = t; is-tag = sym a ∙ e; low = subst (λ z. z < 2048) b low; is = ap (lacks t) b }
-  lacks-line (as-differ b cs h m r) q = clash (cc)
+  lacks-line (as-differ b cs h) q = clash (cc)
 
   pub differ-line : {c : Listed} {l : Line} {mark count : ℕ} → LineAs ws s c l → c ≡ Differ mark count → DifferLine ws s mark count l
   differ-line (as-sort sort e low) q = clash (cc)
   differ-line (as-lacks a e low) q = clash (cc)
-  differ-line {mark = mark} {count = count} (as-differ {mark = m} {count = n} b cs h k r) q =
+  differ-line {mark = mark} {count = count} (as-differ {mark = m} {count = n} b cs h) q =
       let a : m ≡ mark = cc in let d : n ≡ count = cc in
-      record { one = b; rest = cs; here = subst (λ z. Equations ws s z 0 (b ∷ cs)) a h; many = sym d ∙ k; room = omega arith; is = refl }
+      record { one = b; rest = cs; here = subst (λ z. EquationsIn ws s z count (b ∷ cs)) a (subst (λ z. EquationsIn ws s m z (b ∷ cs)) d h); is = refl }
 
 -- its words
 pub typed-words : {o o′ : List ℕ} {start end k x : ℕ} {write : Bool} {r : Put} {l : Line} (names : List ℕ) → SortLine k x l → Placed o o′ start end write (part k (term-words (var (index x names)))) r → Placed o o′ start end write (line-words names l) r
@@ -274,21 +273,21 @@ pub differ-in : {ws s : List ℕ} {mark count : ℕ} {l : Line} (names : List �
 differ-in names h e = subst (λ l. line-in names l ≡ true) (h .is) e
 
 -- names of a line's variables
-module _ {s : List ℕ} {top x : ℕ} {names : List ℕ} (low : x < 2048) (n : Names s top names) where
+module _ {s : List ℕ} {x : ℕ} {names : List ℕ} (low : x < 2048) (g : Given s names) where
   pub name-missing : at s (4096 + x) ≡ 0 → false ≡ member x names
-  name-missing z = sym (no-name n x low z)
+  name-missing z = sym (no-name (g .named) x low z)
 
   pub name-there : ¬ (at s (4096 + x) ≡ 0) → true ≡ member x names
-  name-there z = sym (has-name n x low z)
+  name-there z = sym (has-name (g .named) x low z)
 
 module _ {ws s : List ℕ} {mark i x : ℕ} {b : ℕ × Term} {has : Bool} (names : List ℕ) (h : Equation ws s mark i b) (e : x ≡ half s i) (f : has ≡ member x names) where
   is-member : has ≡ member (b .0) names
   is-member = f ∙ ap (λ y. member y names) (e ∙ h .variable)
 
-  pub equation-asks : {q : Bool} → has ≡ true → q ≡ vars-in names (b .1) → q ≡ (member (b .0) names && vars-in names (b .1))
+  pub equation-asks : {q : Bool} → has ≡ true → q ≡ vars-in names (b .1) → q ≡ equation-in names b
   equation-asks {q} t k = k ∙ ap (λ m. m && vars-in names (b .1)) (sym t ∙ is-member)
 
-  pub equation-lacks : has ≡ false → false ≡ (member (b .0) names && vars-in names (b .1))
+  pub equation-lacks : has ≡ false → false ≡ equation-in names b
   equation-lacks t = ap (λ m. m && vars-in names (b .1)) (sym t ∙ is-member)
 
 pub record Checking (ws s : List ℕ) (mark count i : ℕ) (names : List ℕ) (goal : Bool) : Type 0 where
@@ -303,7 +302,7 @@ pub record CheckNext (ws s : List ℕ) (mark count i : ℕ) (names : List ℕ) (
   pub here : Equation ws s mark i one
   pub later : Equations ws s mark (i + 1) rest
   pub left : count ≡ i + 1 + length rest
-  pub same : ((member (one .0) names && vars-in names (one .1)) && bindings-in names rest) ≡ goal
+  pub same : (equation-in names one && bindings-in names rest) ≡ goal
 
 module _ {ws s : List ℕ} {mark count i : ℕ} {names : List ℕ} {goal : Bool} (g : Checking ws s mark count i names goal) where
   pub check-next : i < count → CheckNext ws s mark count i names goal
@@ -321,7 +320,7 @@ module _ {ws s : List ℕ} {mark count i : ℕ} {names : List ℕ} {goal : Bool}
       go [] k e = e
       go (b ∷ cs) k e = absurd (omega (arith, k))
 
-module _ {ws s : List ℕ} {mark count i : ℕ} {names : List ℕ} {goal has : Bool} (g : CheckNext ws s mark count i names goal) (f : has ≡ (member (g .one .0) names && vars-in names (g .one .1))) where
+module _ {ws s : List ℕ} {mark count i : ℕ} {names : List ℕ} {goal has : Bool} (g : CheckNext ws s mark count i names goal) (f : has ≡ equation-in names (g .one)) where
   pub check-fails : has ≡ false → false ≡ goal
   check-fails e = ap (λ m. m && bindings-in names (g .rest)) (sym e ∙ f) ∙ g .same
 

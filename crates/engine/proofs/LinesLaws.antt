@@ -6,19 +6,18 @@ use lib.ListN.{length}
 use Rattle.rules.specs.Syntax.{Atom}
 use Rattle.semantics.specs.Answer.{Line, is-sort, lacks, typed-lines, lacks-each}
 use Rattle.engine.specs.Follow.{Shaped}
-use Rattle.engine.specs.Names.{Names}
 use Rattle.engine.specs.Lines.{LineAs, as-sort, as-lacks}
 use Rattle.engine.specs.Page.{add-line, add-lines, Page, Writing, Extended, occurrences, AddsAbsent, AddsTyped}
 use Rattle.engine.specs.declared.follow.Shape.{Shape}
 use Rattle.engine.specs.declared.follow.Shape.the-variants.{Open, Atom as Leaf, Pair}
 use Rattle.engine.specs.declared.line.Listed.{Listed}
 use Rattle.engine.specs.declared.line.Listed.the-variants.{Typed, Lacks}
+use Rattle.engine.proofs.PutLaws.{room-same}
 use Rattle.engine.proofs.NamingLaws.{Told, told-open, told-leaf, told-pair, Halves, halved}
 
 -- what `add_line` tells
 abbrev pub Adds : List ℕ → List ℕ → List ℕ → List ℕ → Listed → ℕ → ℕ → ℕ → ℕ → Type 0
-Adds ws s out out′ line first end place place′ = (o : List ℕ) (begin : ℕ) (head : List ℕ) (lines : List (List ℕ)) (l : Line) (top : ℕ) (names : List ℕ) → Page o out begin first end place head lines → LineAs ws s line l → Names s top names
-    → Page o out′ begin first end place′ head (add-line names lines l)
+Adds ws s out out′ line first end place place′ = (g : Writing s out first end place) (l : Line) → LineAs ws s line l → Extended g out′ place′ (l ∷ [])
 
 -- a type
 module _ {ws s out : List ℕ} {kind w first end place : ℕ} (g : AddsTyped ws s out kind w first end place) {r : Shape} (f : Told ws s w r) where
@@ -26,11 +25,7 @@ module _ {ws s out : List ℕ} {kind w first end place : ℕ} (g : AddsTyped ws 
   typed-as e = as-sort (g .sort) (g .is-kind) (told-open (g .term) f e (g .here) .1)
 
   pub typed-add : {out′ : List ℕ} {x place′ : ℕ} → r ≡ Open x → Adds ws s out out′ (Typed kind x) first end place place′ → Extended (g .writing) out′ place′ (typed-lines (g .sort) (g .term))
-  unfolding add-lines
-  typed-add {out′} {x} {place′} e a =
-      let k : Writing s out first end place = g .writing in
-      subst (λ t. Extended k out′ place′ (typed-lines (g .sort) t)) (sym (told-open (g .term) f e (g .here) .0))
-      (a (k .before) (k .begin) (k .head) (k .lines) (is-sort (g .sort) x) (k .top) (k .names) (k .page) (typed-as e) (k .named))
+  typed-add {out′} {x} {place′} e a = subst (λ t. Extended (g .writing) out′ place′ (typed-lines (g .sort) t)) (sym (told-open (g .term) f e (g .here) .0)) (a (g .writing) (is-sort (g .sort) x) (typed-as e))
 
   pub typed-leaf : {v : ℕ} → r ≡ Leaf v → Extended (g .writing) out place (typed-lines (g .sort) (g .term))
   unfolding add-lines Shaped
@@ -39,6 +34,10 @@ module _ {ws s out : List ℕ} {kind w first end place : ℕ} (g : AddsTyped ws 
   pub typed-pair : {a b : ℕ} → r ≡ Pair a b → Extended (g .writing) out place (typed-lines (g .sort) (g .term))
   unfolding add-lines Shaped
   typed-pair e = subst (λ t. Extended (g .writing) out place (typed-lines (g .sort) t)) (sym (told-pair (g .term) f e (g .here) .2)) (g .writing .page)
+
+-- the output is as long as before
+pub page-long : {o o′ out out′ : List ℕ} {begin first end place first′ end′ place′ begin′ : ℕ} {head head′ : List ℕ} {lines lines′ : List (List ℕ)} → Page o out begin first end place head lines → Page o′ out′ begin′ first′ end′ place′ head′ lines′ → o ≡ o′ → length out′ ≡ length out
+page-long h i e = i .touched .long ∙ ap length (sym e) ∙ sym (h .touched .long)
 
 -- an absence
 pub lacks-append : (a : Atom) (xs ys : List ℕ) → lacks-each a (xs ++ ys) ≡ lacks-each a xs ++ lacks-each a ys
@@ -79,11 +78,9 @@ module _ {ws s before out : List ℕ} {begin tag w first end place : ℕ} {head 
       (subst (λ z. Page (k .before) out′ (k .begin) first end place′ (k .head) z) (h .is-goal) p)))
 
   pub absent-add : {r : Shape} → Told ws s w r → {out′ : List ℕ} {x place′ : ℕ} → r ≡ Open x → Adds ws s out out′ (Lacks tag x) first end place place′ → Page before out′ begin first end place′ head goal
-  unfolding add-lines occurrences
+  unfolding occurrences
   absent-add {r} f {out′} {x} {place′} e a =
-      let k : Writing s out first end place = h .rest .writing in
-      close (subst (λ t. Extended k out′ place′ (lacks-each (h .rest .tag-of) (occurrences t))) (sym (told-open (h .rest .term) f e (h .rest .here) .0))
-      (a (k .before) (k .begin) (k .head) (k .lines) (lacks (h .rest .tag-of) x) (k .top) (k .names) (k .page) (absent-as f e) (k .named)))
+      close (subst (λ t. Extended (h .rest .writing) out′ place′ (lacks-each (h .rest .tag-of) (occurrences t))) (sym (told-open (h .rest .term) f e (h .rest .here) .0)) (a (h .rest .writing) (lacks (h .rest .tag-of) x) (absent-as f e)))
 
   pub absent-leaf : {r : Shape} → Told ws s w r → {v : ℕ} → r ≡ Leaf v → Page before out begin first end place head goal
   unfolding add-lines occurrences Shaped
@@ -109,10 +106,10 @@ module _ {ws s before out : List ℕ} {begin tag w first end place : ℕ} {head 
             begin = k .begin;
             head = k .head;
             lines = add-lines (k .names) (k .lines) (lacks-each tag-of (occurrences (p .first)));
-            top = k .top;
             names = k .names;
             page = n (absent-first p);
-            named = k .named;
+            given = k .given;
+            room = room-same (page-long (k .page) (n (absent-first p)) refl) (k .room);
           };
           tag-of = tag-of;
           is-tag = h .rest .is-tag;
@@ -126,6 +123,3 @@ module _ {ws s before out : List ℕ} {begin tag w first end place : ℕ} {head 
             ∙ ap (add-lines (k .names) (k .lines)) (sym (lacks-append tag-of (occurrences (p .first)) (occurrences (p .second))))
             ∙ ap (λ t. add-lines (k .names) (k .lines) (lacks-each tag-of (occurrences t))) (sym (p .is)) ∙ h .is-goal;
       }
-
-pub page-long : {o o′ out out′ : List ℕ} {begin first end place first′ end′ place′ begin′ : ℕ} {head head′ : List ℕ} {lines lines′ : List (List ℕ)} → Page o out begin first end place head lines → Page o′ out′ begin′ first′ end′ place′ head′ lines′ → o ≡ o′ → length out′ ≡ length out
-page-long h i e = i .touched .long ∙ ap length (sym e) ∙ sym (h .touched .long)

@@ -11,7 +11,7 @@ use Rattle.semantics.specs.Answer.{appear, vars-in}
 use Rattle.semantics.proofs.Basics.{compared, same, other}
 use Rattle.engine.specs.Reference.{at}
 use Rattle.engine.specs.Follow.{Resolves, Shaped}
-use Rattle.engine.specs.Names.{next-top, top-from, Names, Named}
+use Rattle.engine.specs.Names.{next-top, top-from, Names, Given, Named}
 use Rattle.engine.specs.declared.follow.Shape.{Shape}
 use Rattle.engine.specs.declared.follow.Shape.the-variants.{Open, Atom as Leaf, Pair}
 use Rattle.engine.proofs.FollowLaws.{resolves-same}
@@ -102,15 +102,15 @@ pub record Asking (ws s : List ℕ) (w : ℕ) (names : List ℕ) (goal : Bool) :
   pub here : Resolves ws s w term
   pub same : vars-in names term ≡ goal
 
-module _ {ws s : List ℕ} {w top : ℕ} {names : List ℕ} {goal : Bool} {r : Shape} (given : Names s top names) (g : Asking ws s w names goal) (f : Told ws s w r) where
+module _ {ws s : List ℕ} {w : ℕ} {names : List ℕ} {goal : Bool} {r : Shape} (given : Given s names) (g : Asking ws s w names goal) (f : Told ws s w r) where
   pub asking-low : {x : ℕ} → r ≡ Open x → x < 2048
   asking-low e = told-open (g .term) f e (g .here) .1
 
   pub asking-yes : {x : ℕ} → r ≡ Open x → ¬ (at s (4096 + x) ≡ 0) → true ≡ goal
-  asking-yes {x} e n = let o = told-open (g .term) f e (g .here) in sym (has-name given x (o .1) n) ∙ ap (vars-in names) (sym (o .0)) ∙ g .same
+  asking-yes {x} e n = let o = told-open (g .term) f e (g .here) in sym (has-name (given .named) x (o .1) n) ∙ ap (vars-in names) (sym (o .0)) ∙ g .same
 
   pub asking-no : {x : ℕ} → r ≡ Open x → at s (4096 + x) ≡ 0 → false ≡ goal
-  asking-no {x} e z = let o = told-open (g .term) f e (g .here) in sym (no-name given x (o .1) z) ∙ ap (vars-in names) (sym (o .0)) ∙ g .same
+  asking-no {x} e z = let o = told-open (g .term) f e (g .here) in sym (no-name (given .named) x (o .1) z) ∙ ap (vars-in names) (sym (o .0)) ∙ g .same
 
   pub asking-leaf : {v : ℕ} → r ≡ Leaf v → true ≡ goal
   unfolding Shaped
@@ -119,9 +119,9 @@ module _ {ws s : List ℕ} {w top : ℕ} {names : List ℕ} {goal : Bool} {r : S
   pub asking-pair : {a b : ℕ} → r ≡ Pair a b → Halves ws s w a b (g .term)
   asking-pair e = halved (g .term) f e (g .here)
 
-  module _ {a b : ℕ} {q : Bool} (e : r ≡ Pair a b) (n : (t : Term) (top : ℕ) (names : List ℕ) → Resolves ws s a t → Names s top names → q ≡ vars-in names t) where
+  module _ {a b : ℕ} {q : Bool} (e : r ≡ Pair a b) (n : (t : Term) (names : List ℕ) → Resolves ws s a t → Given s names → q ≡ vars-in names t) where
     both : (q && vars-in names (asking-pair e .second)) ≡ goal
-    both = let p = asking-pair e in ap (λ k. k && vars-in names (p .second)) (n (p .first) top names (p .first-here) given) ∙ ap (vars-in names) (sym (p .is)) ∙ g .same
+    both = let p = asking-pair e in ap (λ k. k && vars-in names (p .second)) (n (p .first) names (p .first-here) given) ∙ ap (vars-in names) (sym (p .is)) ∙ g .same
 
     pub asking-not-first : q ≡ false → false ≡ goal
     asking-not-first z = rw z at both

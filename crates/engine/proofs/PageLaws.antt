@@ -16,11 +16,11 @@ use Rattle.rules.proofs.Stands.{stands-at as spells-at, stands-split as spells-
 use Rattle.semantics.specs.Answer.{index, reify, reify-bindings, differ-goals, Line, is-sort, lacks, not-all, line-in, line-words, lines-words, same-words, any-same, listed}
 use Rattle.semantics.proofs.Basics.{and-true, by-choose}
 use Rattle.engine.specs.Reference.{at}
-use Rattle.engine.specs.Put.{Touched, Laid, Placed, all-laid, some-missing}
-use Rattle.engine.specs.Page.{joined, add-line, add-lines, Whole, Wholes, Rows, Page}
+use Rattle.engine.specs.Put.{Puts, Touched, Laid, Placed, all-laid, some-missing}
+use Rattle.engine.specs.Page.{joined, add-line, add-lines, Whole, Wholes, Stretch, Rows, Page, Writing, Extended}
 use Rattle.engine.specs.declared.put.Put.{Put}
 use Rattle.engine.specs.declared.put.Put.the-variants.{End, Missed}
-use Rattle.engine.proofs.PutLaws.{laid-of, missing-of, laid-then, touched-then}
+use Rattle.engine.proofs.PutLaws.{room-same, laid-of, missing-of, laid-then, touched-then}
 
 -- the same words
 pub same-self : (v : List ℕ) → same-words v v ≡ true
@@ -40,18 +40,18 @@ spells-one o place [] (y ∷ w) h i e = absurd (omega arith)
 spells-one o place (x ∷ v) [] h i e = absurd (omega arith)
 spells-one o place (x ∷ v) (y ∷ w) h i e = ap₂ _∷_ (sym (h .0) ∙ i .0) (spells-one o (place + 1) v w (h .1) (i .1) (omega arith))
 
-module _ {o o′ : List ℕ} {place next : ℕ} {v : List ℕ} {r : Put} (w : List ℕ) (p : Placed o o′ place next false v r) (there : Spells o place w) (to : next ≡ place + length w) where
+module _ {o o′ : List ℕ} {place next : ℕ} {v : List ℕ} {r : Put} (w : List ℕ) (p : Placed o o′ place next false v r) (there : Stretch o place next w) where
   pub same-missed : r ≡ Missed → false ≡ same-words v w
   same-missed e = go (same-words v w) refl
     where
       go : (b : Bool) → same-words v w ≡ b → false ≡ same-words v w
       go false q = sym q
-      go true q = let z : v ≡ w = same-is v w q in absurd (missing-of p e .differs refl (omega (arith, ap length z)) (subst (Spells o place) (sym z) there))
+      go true q = let z : v ≡ w = same-is v w q in absurd (missing-of p e .differs refl (omega (arith, ap length z, there .ends)) (subst (Spells o place) (sym z) (there .words)))
 
   pub same-found : {e : ℕ} → r ≡ End e → e ≡ next → true ≡ same-words v w
   same-found {e} q k =
       let d = laid-of p q in
-      let z : v ≡ w = spells-one o place v w (subst (λ x. Spells x place v) (d .read-only refl) (d .words)) there (omega (arith, d .is)) in
+      let z : v ≡ w = spells-one o place v w (subst (λ x. Spells x place v) (d .read-only refl) (d .words)) (there .words) (omega (arith, d .is, there .ends)) in
       subst (λ x. true ≡ same-words x w) (sym z) (sym (same-self w))
 
   pub same-short : {e : ℕ} → r ≡ End e → ¬ (e ≡ next) → false ≡ same-words v w
@@ -59,11 +59,15 @@ module _ {o o′ : List ℕ} {place next : ℕ} {v : List ℕ} {r : Put} (w : Li
     where
       go : (b : Bool) → same-words v w ≡ b → false ≡ same-words v w
       go false z = sym z
-      go true z = absurd (n (omega (arith, laid-of p q .is, ap length (same-is v w z))))
+      go true z = absurd (n (omega (arith, laid-of p q .is, there .ends, ap length (same-is v w z))))
 
 pub read-back : {o o′ : List ℕ} {place next : ℕ} {v : List ℕ} {r : Put} → Placed o o′ place next false v r → o′ ≡ o
 read-back (all-laid h) = h .read-only refl
 read-back (some-missing h) = h .read-only refl
+
+-- a line is compared with an earlier one, between its ends
+pub puts-between : {s o o′ : List ℕ} {first at place next : ℕ} {names v : List ℕ} {a : Bool} → Puts s o first at names a → length o′ ≡ length o → Stretch o′ place next v → next ≤ at → Puts s o′ place next names a
+puts-between g e h l = record { from = omega (arith, h .ends); room = record { inside = omega (arith, g .room .inside, e); short = omega (arith, g .room .short) }; given = g .given; known = g .known }
 
 -- earlier lines, one after the other
 pub record Row (o : List ℕ) (place to : ℕ) (v : List ℕ) (goal : Bool) : Type 0 where
@@ -74,8 +78,7 @@ pub record Row (o : List ℕ) (place to : ℕ) (v : List ℕ) (goal : Bool) : Ty
 pub record RowNext (o : List ℕ) (place to size : ℕ) (v : List ℕ) (goal : Bool) : Type 0 where
   pub one : List ℕ
   pub rest : List (List ℕ)
-  pub here : Spells o place one
-  pub length-is : place + 1 + size ≡ place + length one
+  pub here : Stretch o place (place + 1 + size) one
   pub later : Rows o (place + 1 + size) to rest
   pub inside : place + 1 + size ≤ to
   pub same : (same-words v one || any-same v rest) ≡ goal
@@ -86,21 +89,20 @@ module _ {o : List ℕ} {place to : ℕ} {v : List ℕ} {goal : Bool} (g : Row o
   row-next {bits} {size} l is-bits is-size = go (g .rows) (g .here) (g .same)
     where
       go : (ws : List (List ℕ)) → Rows o place to ws → any-same v ws ≡ goal → RowNext o place to size v goal
-      go [] h e = absurd (omega (arith, h .ends))
+      go [] h e = absurd (omega (arith, h .stretch .ends))
       go (w ∷ ws) h e =
           let k = h .whole .0 in
-          let d = spells-split o place w (joined ws) (h .words) in
+          let d = spells-split o place w (joined ws) (h .stretch .words) in
           let f : Spells o place (part (k .kind) (k .rest)) = subst (Spells o place) (k .is) (d .0) in
           let n : size ≡ length (k .rest) = is-size ∙ ap payload (is-bits ∙ f .0) ∙ payload-word (k .kind) (length (k .rest)) (k .short) in
           let m : length w ≡ suc (length (k .rest)) = ap length (k .is) in
           let a : length (w ++ joined ws) ≡ length w + length (joined ws) = length-append w (joined ws) in
-          let t : to ≡ place + length (w ++ joined ws) = h .ends in
+          let t : to ≡ place + length (w ++ joined ws) = h .stretch .ends in
           record {
             one = w;
             rest = ws;
-            here = d .0;
-            length-is = omega arith;
-            later = record { words = spells-at o (place + length w) (place + 1 + size) (joined ws) (omega arith) (d .1); ends = omega arith; whole = h .whole .1 };
+            here = record { words = d .0; ends = omega arith };
+            later = record { stretch = record { words = spells-at o (place + length w) (place + 1 + size) (joined ws) (omega arith) (d .1); ends = omega arith }; whole = h .whole .1 };
             inside = omega arith;
             same = e;
           }
@@ -111,7 +113,7 @@ module _ {o : List ℕ} {place to : ℕ} {v : List ℕ} {goal : Bool} (g : Row o
     where
       go : (ws : List (List ℕ)) → Rows o place to ws → any-same v ws ≡ goal → false ≡ goal
       go [] h e = e
-      go (w ∷ ws) h e = absurd (omega (arith, h .ends, length-append w (joined ws), ap length (h .whole .0 .is)))
+      go (w ∷ ws) h e = absurd (omega (arith, h .stretch .ends, length-append w (joined ws), ap length (h .whole .0 .is)))
 
 module _ {o : List ℕ} {place to size : ℕ} {v : List ℕ} {goal r : Bool} (g : RowNext o place to size v goal) (f : r ≡ same-words v (g .one)) where
   pub row-found : r ≡ true → true ≡ goal
@@ -161,61 +163,80 @@ module _ (names : List ℕ) (ws : List (List ℕ)) (l : Line) where
 pub page-over : {o₀ o : List ℕ} {begin first end place : ℕ} {head : List ℕ} {ws : List (List ℕ)} → end < place → end < begin + length (head ++ joined ws) → Touched o₀ o begin end → Page o₀ o begin first end place head ws
 page-over beyond long t = record { stands = λ q. absurd (omega arith); whole = λ q. absurd (omega arith); begins = λ q. absurd (omega arith); over = λ _. long; touched = t }
 
-module _ {o₀ o : List ℕ} {begin first end place : ℕ} {head : List ℕ} {ws : List (List ℕ)} (h : Page o₀ o begin first end place head ws) where
-  pub page-rows : place ≤ end → Rows o first place ws
+-- one line more for an answer under way
+module _ {s out : List ℕ} {first end place : ℕ} (g : Writing s out first end place) where
+  pub page-rows : place ≤ end → Rows out first place (g .lines)
   page-rows e =
-      let d = h .stands e in
-      let a : length (head ++ joined ws) ≡ length head + length (joined ws) = length-append head (joined ws) in
-      let b : first ≡ begin + length head = h .begins e in
-      let c : place ≡ begin + length (head ++ joined ws) = d .is in
-      record { words = spells-at o (begin + length head) first (joined ws) (sym b) (spells-split o begin head (joined ws) (d .words) .1); ends = omega arith; whole = h .whole e }
+      let d = g .page .stands e in
+      let a : length (g .head ++ joined (g .lines)) ≡ length (g .head) + length (joined (g .lines)) = length-append (g .head) (joined (g .lines)) in
+      let b : first ≡ g .begin + length (g .head) = g .page .begins e in
+      let c : place ≡ g .begin + length (g .head ++ joined (g .lines)) = d .is in
+      record { stretch = record { words = spells-at out (g .begin + length (g .head)) first (joined (g .lines)) (sym b) (spells-split out (g .begin) (g .head) (joined (g .lines)) (d .words) .1); ends = omega arith }; whole = g .page .whole e }
 
-  module _ (names : List ℕ) (l : Line) where
+  -- it is compared with the earlier ones, and put behind them
+  module _ {all-named : Bool} (e : place ≤ end) (k : all-named ≡ true) where
+    pub earlier-puts : Puts s out first place (g .names) all-named
+    earlier-puts = record {
+      from = omega (arith, page-rows e .stretch .ends);
+      room = record { inside = omega (arith, g .room .inside); short = omega (arith, g .room .short) };
+      given = g .given;
+      known = k;
+    }
+
+    pub behind-puts : {out′ : List ℕ} → out′ ≡ out → Puts s out′ place end (g .names) all-named
+    behind-puts q = record { from = e; room = room-same (ap length q) (g .room); given = g .given; known = k }
+
+  module _ (l : Line) where
     -- nothing more fits
-    pub page-full : end < place → Page o₀ o begin first end place head (add-line names ws l)
-    page-full e = page-over e (omega (arith, h .over e, length-append head (joined ws), length-append head (joined (add-line names ws l)), add-longer names ws l)) (h .touched)
+    pub page-full : end < place → Extended g out place (l ∷ [])
+    unfolding add-lines
+    page-full e =
+        page-over e (omega (arith, g .page .over e, length-append (g .head) (joined (g .lines)), length-append (g .head) (joined (add-line (g .names) (g .lines) l)), add-longer (g .names) (g .lines) l)) (g .page .touched)
 
-    as-before : add-line names ws l ≡ ws → Page o₀ o begin first end place head (add-line names ws l)
-    as-before q = subst (Page o₀ o begin first end place head) (sym q) h
+    as-before : add-line (g .names) (g .lines) l ≡ g .lines → Extended g out place (l ∷ [])
+    unfolding add-lines
+    as-before q = subst (Page (g .before) out (g .begin) first end place (g .head)) (sym q) (g .page)
 
-    pub page-dropped : {named : Bool} → named ≡ line-in names l → named ≡ false → Page o₀ o begin first end place head (add-line names ws l)
-    page-dropped f g = as-before (line-dropped names ws l (sym f ∙ g))
+    pub page-dropped : {named : Bool} → named ≡ line-in (g .names) l → named ≡ false → Extended g out place (l ∷ [])
+    page-dropped f n = as-before (line-dropped (g .names) (g .lines) l (sym f ∙ n))
 
-    module _ {o₁ : List ℕ} {named again : Bool} (f : named ≡ line-in names l) (g : named ≡ true) (unread : o₁ ≡ o) (i : again ≡ any-same (line-words names l) ws) where
-      pub page-repeated : again ≡ true → Page o₀ o₁ begin first end place head (add-line names ws l)
-      page-repeated k = subst (λ x. Page o₀ x begin first end place head (add-line names ws l)) (sym unread) (as-before (line-repeats names ws l (sym f ∙ g) (sym i ∙ k)))
+    module _ {o₁ : List ℕ} {named again : Bool} (f : named ≡ line-in (g .names) l) (n : named ≡ true) (unread : o₁ ≡ out) (i : again ≡ any-same (line-words (g .names) l) (g .lines)) where
+      pub page-repeated : again ≡ true → Extended g o₁ place (l ∷ [])
+      page-repeated k = subst (λ x. Extended g x place (l ∷ [])) (sym unread) (as-before (line-repeats (g .names) (g .lines) l (sym f ∙ n) (sym i ∙ k)))
 
-      module _ {o₂ : List ℕ} {r : Put} (e : place ≤ end) (k : again ≡ false) (p : Placed o₁ o₂ place end true (line-words names l) r) where
-        added : add-line names ws l ≡ ws ++ (line-words names l ∷ [])
-        added = line-added names ws l (sym f ∙ g) (sym i ∙ k)
+      module _ {o₂ : List ℕ} {r : Put} (e : place ≤ end) (k : again ≡ false) (p : Placed o₁ o₂ place end true (line-words (g .names) l) r) where
+        added : add-line (g .names) (g .lines) l ≡ g .lines ++ (line-words (g .names) l ∷ [])
+        added = line-added (g .names) (g .lines) l (sym f ∙ n) (sym i ∙ k)
 
-        longer : head ++ joined (add-line names ws l) ≡ (head ++ joined ws) ++ line-words names l
-        longer = ap (λ x. head ++ joined x) added ∙ ap (λ x. head ++ x) (joined-snoc ws (line-words names l)) ∙ sym (append-assoc head (joined ws) (line-words names l))
+        longer : g .head ++ joined (add-line (g .names) (g .lines) l) ≡ (g .head ++ joined (g .lines)) ++ line-words (g .names) l
+        longer = ap (λ x. g .head ++ joined x) added ∙ ap (λ x. g .head ++ x) (joined-snoc (g .lines) (line-words (g .names) l)) ∙ sym (append-assoc (g .head) (joined (g .lines)) (line-words (g .names) l))
 
-        pub page-missed : r ≡ Missed → Page o₀ o₂ begin first end (end + 1) head (add-line names ws l)
+        pub page-missed : r ≡ Missed → Extended g o₂ (end + 1) (l ∷ [])
+        unfolding add-lines
         page-missed q =
-            let d = h .stands e in
+            let d = g .page .stands e in
             let m = missing-of p q in
-            let c : place ≡ begin + length (head ++ joined ws) = d .is in
-            let n = m .no-room refl in
-            page-over (omega arith) (omega (arith, ap length longer, length-append (head ++ joined ws) (line-words names l)))
-            (touched-then begin end place end begin end (omega arith) (omega arith) (omega arith) (omega arith) (h .touched) (subst (λ x. Touched x o₂ place end) unread (m .touched)))
+            let c : place ≡ g .begin + length (g .head ++ joined (g .lines)) = d .is in
+            let z = m .no-room refl in
+            page-over (omega arith) (omega (arith, ap length longer, length-append (g .head ++ joined (g .lines)) (line-words (g .names) l)))
+            (touched-then (g .begin) end place end (g .begin) end (omega arith) (omega arith) (omega arith) (omega arith) (g .page .touched) (subst (λ x. Touched x o₂ place end) unread (m .touched)))
 
-        pub page-put : {next : ℕ} → end < 268435456 → r ≡ End next → Page o₀ o₂ begin first end next head (add-line names ws l)
-        page-put {next} short q =
-            let d = h .stands e in
-            let u = subst (λ x. Laid x o₂ place end true (line-words names l) next) unread (laid-of p q) in
-            let lp = line-part names l in
-            let c : place ≡ begin + length (head ++ joined ws) = d .is in
-            let n : next ≡ place + length (line-words names l) = u .is in
-            let f : next ≤ end = u .fits in
-            let s : length (line-words names l) ≡ suc (length (lp .1)) = ap length (lp .2) in
+        pub page-put : {next : ℕ} → r ≡ End next → Extended g o₂ next (l ∷ [])
+        unfolding add-lines
+        page-put {next} q =
+            let d = g .page .stands e in
+            let u = subst (λ x. Laid x o₂ place end true (line-words (g .names) l) next) unread (laid-of p q) in
+            let lp = line-part (g .names) l in
+            let c : place ≡ g .begin + length (g .head ++ joined (g .lines)) = d .is in
+            let z : next ≡ place + length (line-words (g .names) l) = u .is in
+            let b : next ≤ end = u .fits in
+            let y : length (line-words (g .names) l) ≡ suc (length (lp .1)) = ap length (lp .2) in
             record {
-              stands = λ _. subst (λ v. Laid o₀ o₂ begin end true v next) (sym longer) (laid-then d u);
-              whole = λ _. subst Wholes (sym added) (wholes-snoc ws (line-words names l) (h .whole e) (record { kind = lp .0; rest = lp .1; is = lp .2; short = omega arith }));
-              begins = λ _. h .begins e;
+              stands = λ _. subst (λ x. Laid (g .before) o₂ (g .begin) end true x next) (sym longer) (laid-then d u);
+              whole = λ _. subst Wholes (sym added) (wholes-snoc (g .lines) (line-words (g .names) l) (g .page .whole e) (record { kind = lp .0; rest = lp .1; is = lp .2; short = omega (arith, g .room .short) }));
+              begins = λ _. g .page .begins e;
               over = λ z. absurd (omega arith);
-              touched = touched-then begin end place next begin end (omega arith) (omega arith) (omega arith) (omega arith) (h .touched) (u .touched);
+              touched = touched-then (g .begin) end place next (g .begin) end (omega arith) (omega arith) (omega arith) (omega arith) (g .page .touched) (u .touched);
             }
 
 -- what the definition lists

@@ -17,7 +17,7 @@ use Rattle.semantics.proofs.Names.{index-less}
 use Rattle.engine.specs.Reference.{at}
 use Rattle.engine.specs.Follow.{Resolves, Shaped}
 use Rattle.engine.specs.Names.{Names}
-use Rattle.engine.specs.Put.{Touched, WordPut, Laid, Missing, Placed, all-laid, some-missing}
+use Rattle.engine.specs.Put.{Room, Puts, Touched, WordPut, Laid, Missing, Placed, all-laid, some-missing}
 use Rattle.engine.specs.declared.follow.Shape.{Shape}
 use Rattle.engine.specs.declared.follow.Shape.the-variants.{Open, Atom as Leaf, Pair}
 use Rattle.engine.specs.declared.put.Put.{Put}
@@ -160,6 +160,19 @@ missing-more {o} {o₁} {start} {end} {write} {u} v h =
 pub missing-end : (o : List ℕ) (place end : ℕ) (write : Bool) (v : List ℕ) → end ≤ place → 0 < length v → Missing o o place end write v
 missing-end o place end write v l n = record { no-room = λ _. omega arith; differs = λ _ m s. omega arith; touched = untouched o place end; read-only = λ _. refl }
 
+pub room-same : {o o′ : List ℕ} {end : ℕ} → length o′ ≡ length o → Room o end → Room o′ end
+room-same e r = record { inside = omega (arith, r .inside, e); short = r .short }
+
+-- what is put next: at another place, or behind words that are laid
+pub puts-at : {s o o′ : List ℕ} {start start′ end : ℕ} {names : List ℕ} {a b : Bool} → Puts s o start end names a → length o′ ≡ length o → start′ ≤ end → b ≡ true → Puts s o′ start′ end names b
+puts-at g e l k = record { from = l; room = room-same e (g .room); given = g .given; known = k }
+
+pub puts-behind : {s o o′ : List ℕ} {start next end : ℕ} {names v : List ℕ} {write a b : Bool} → Puts s o start end names a → Laid o o′ start end write v next → b ≡ true → Puts s o′ next end names b
+puts-behind g d k = puts-at g (d .touched .long) (d .fits) k
+
+pub laid-room : {o o′ : List ℕ} {start next end : ℕ} {v : List ℕ} {write : Bool} → Room o end → Laid o o′ start end write v next → Room o′ next
+laid-room r d = record { inside = omega (arith, r .inside, d .fits, d .touched .long); short = omega (arith, r .short, d .fits) }
+
 -- by cases, where the answer is known
 pub laid-of : {o o′ : List ℕ} {start end e : ℕ} {write : Bool} {v : List ℕ} {r : Put} → Placed o o′ start end write v r → r ≡ End e → Laid o o′ start end write v e
 laid-of {o} {o′} {start} {end} {e} {write} {v} (all-laid {e = k} h) q = let z : k ≡ e = cc in subst (Laid o o′ start end write v) z h
@@ -178,9 +191,8 @@ pub record Putting (ws s o₀ o : List ℕ) (w start place end : ℕ) (write : B
   pub laid : Laid o₀ o start end write put place
   pub is : put ++ term-words (reify names term) ≡ goal
 
-pub putting-start : {ws s : List ℕ} {w : ℕ} (o : List ℕ) (start end : ℕ) (write : Bool) (t : Term) (names : List ℕ) → start ≤ end → Resolves ws s w t → vars-in names t ≡ true
-    → Putting ws s o o w start start end write names (term-words (reify names t))
-putting-start o start end write t names l h k = record { term = t; here = h; known = k; put = []; laid = laid-none o start end write l; is = refl }
+pub putting-start : {ws s o : List ℕ} {w start end : ℕ} {names : List ℕ} (write : Bool) (t : Term) → Resolves ws s w t → Puts s o start end names (vars-in names t) → Putting ws s o o w start start end write names (term-words (reify names t))
+putting-start {o = o} {start = start} {end = end} write t h q = record { term = t; here = h; known = q .known; put = []; laid = laid-none o start end write (q .from); is = refl }
 
 module _ {ws s o₀ o : List ℕ} {w start place end : ℕ} {write : Bool} {names goal : List ℕ} (g : Putting ws s o₀ o w start place end write names goal) where
   finish : {o′ : List ℕ} {r : Put} → Placed o o′ place end write (term-words (reify names (g .term))) r → Placed o₀ o′ start end write goal r
@@ -220,8 +232,8 @@ module _ {ws s o₀ o : List ℕ} {w start place end : ℕ} {write : Bool} {name
     parts-known : (vars-in names (p .first) ≡ true) × (vars-in names (p .second) ≡ true)
     parts-known = and-true (vars-in names (p .first)) (vars-in names (p .second)) (subst (λ t. vars-in names t ≡ true) (p .is) (g .known))
 
-    pub first-known : vars-in names (p .first) ≡ true
-    first-known = parts-known .0
+    pub puts-first : {a : Bool} → Puts s o₀ start end names a → place < end → Puts s o (place + 1) end names (vars-in names (p .first))
+    puts-first q l = puts-at q (g .laid .touched .long) (omega arith) (parts-known .0)
 
     pair-words : term-words (reify names (g .term)) ≡ word 4 (length (term-words (reify names (p .first)))) ∷ (term-words (reify names (p .first)) ++ term-words (reify names (p .second)))
     unfolding term-words

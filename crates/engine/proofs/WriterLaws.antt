@@ -25,7 +25,7 @@ use Rattle.engine.specs.Memory.{Entry, BindingsIn}
 use Rattle.engine.specs.Walk.{Binds, Follows}
 use Rattle.engine.specs.Follow.{Resolves}
 use Rattle.engine.specs.Names.{Named}
-use Rattle.engine.specs.Put.{Placed}
+use Rattle.engine.specs.Put.{Puts, Placed}
 use Rattle.engine.specs.Look.{LookedAs}
 use Rattle.engine.specs.declared.put.Put.{Put}
 use Rattle.engine.specs.declared.look.Looked.{Looked}
@@ -166,8 +166,8 @@ module _ {ws s : List ℕ} {bs : Substitution} (x : ℕ) (b : Binds ws s bs) (lo
   pub parameter-named : {s′ : List ℕ} {top : ℕ} (names : List ℕ) → at s x ≡ 0 → Named s s′ top (appear names (var x)) → Named s s′ top (appear names (resolve bs (var x)))
   parameter-named {s′} {top} names z h = subst (λ t. Named s s′ top (appear names t)) (sym (stays z)) h
 
-  pub parameter-member : (names : List ℕ) → at s x ≡ 0 → vars-in names (resolve bs (var x)) ≡ true → member x names ≡ true
-  parameter-member names z e = subst (λ t. vars-in names t ≡ true) (stays z) e
+  pub parameter-puts : {o : List ℕ} {start end : ℕ} {names : List ℕ} → at s x ≡ 0 → Puts s o start end names (vars-in names (resolve bs (var x))) → Puts s o start end names (member x names)
+  parameter-puts {o} {start} {end} {names} z g = subst (λ t. Puts s o start end names (vars-in names t)) (stays z) g
 
   pub parameter-put : {o o′ : List ℕ} {start end : ℕ} {write : Bool} {r : Put} (names : List ℕ) → at s x ≡ 0 → Placed o o′ start end write (term-words (var (index x names))) r → Placed o o′ start end write (term-words (reify names (resolve bs (var x)))) r
   parameter-put {o} {o′} {start} {end} {write} {r} names z h = subst (λ t. Placed o o′ start end write (term-words (reify names t)) r) (sym (stays z)) h

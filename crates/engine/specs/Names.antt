@@ -34,6 +34,12 @@ pub record Names (s : List ℕ) (top : ℕ) (names : List ℕ) : Type 0 where
   pub words : (y : ℕ) → y < 2048 → at s (4096 + y) ≡ word-from 0 names y
   pub distinct : Distinct names
 
+-- names are given, in a scratch that is long enough
+pub record Given (s : List ℕ) (names : List ℕ) : Type 0 where
+  pub long : 12288 ≤ length s
+  pub top : ℕ
+  pub named : Names s top names
+
 -- these are the names now, and nothing but names was written
 pub record Named (s s′ : List ℕ) (top : ℕ) (names : List ℕ) : Type 0 where
   pub given : Names s′ top names

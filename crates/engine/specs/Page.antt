@@ -10,8 +10,8 @@ use Rattle.rules.specs.Written.{part, atom-word, sort-kind}
 use Rattle.rules.specs.Inner.{Stands as Spells}
 use Rattle.semantics.specs.Answer.{Line, line-words, stays}
 use Rattle.engine.specs.Follow.{Resolves}
-use Rattle.engine.specs.Names.{Names}
-use Rattle.engine.specs.Put.{Touched, Laid}
+use Rattle.engine.specs.Names.{Given}
+use Rattle.engine.specs.Put.{Room, Touched, Laid}
 
 -- words one after the other
 unfoldable pub joined : List (List ℕ) → List ℕ
@@ -38,10 +38,14 @@ unfoldable pub Wholes : List (List ℕ) → Type 0
 Wholes [] = Unit {0}
 Wholes (w ∷ ws) = Whole w × Wholes ws
 
--- lines stand from `place` up to `to`
+-- words stand from `place` up to `to`
+pub record Stretch (o : List ℕ) (place to : ℕ) (w : List ℕ) : Type 0 where
+  pub words : Spells o place w
+  pub ends : to ≡ place + length w
+
+-- and so do lines
 pub record Rows (o : List ℕ) (place to : ℕ) (ws : List (List ℕ)) : Type 0 where
-  pub words : Spells o place (joined ws)
-  pub ends : to ≡ place + length (joined ws)
+  pub stretch : Stretch o place to (joined ws)
   pub whole : Wholes ws
 
 -- The answer so far, `head` and then lines from `first` on: it stands from `begin` up to `place`, or it does not fit and `place` is beyond `end`.
@@ -58,10 +62,10 @@ pub record Writing (s out : List ℕ) (first end place : ℕ) : Type 0 where
   pub begin : ℕ
   pub head : List ℕ
   pub lines : List (List ℕ)
-  pub top : ℕ
   pub names : List ℕ
   pub page : Page before out begin first end place head lines
-  pub named : Names s top names
+  pub given : Given s names
+  pub room : Room out end
 
 -- and with these lines more
 abbrev pub Extended : {s out : List ℕ} {first end place : ℕ} → Writing s out first end place → List ℕ → ℕ → List Line → Type 0

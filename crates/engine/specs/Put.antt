@@ -6,8 +6,21 @@ use mathlib.Core.List.{List}
 use lib.ListN.{length}
 use Rattle.rules.specs.Inner.{Stands as Spells}
 use Rattle.engine.specs.Reference.{at}
+use Rattle.engine.specs.Names.{Given}
 use Rattle.engine.specs.declared.put.Put.{Put}
 use Rattle.engine.specs.declared.put.Put.the-variants.{End, Missed}
+
+-- the output can be used up to `end`, and a part's word can count that far
+pub record Room (o : List ℕ) (end : ℕ) : Type 0 where
+  pub inside : end ≤ length o
+  pub short : end < 268435456
+
+-- Words are to be put, or compared, from `start` on and below `end`. Names are given, and all variables of what is put have one: `all-named` says so of the term, equation or line.
+pub record Puts (s o : List ℕ) (start end : ℕ) (names : List ℕ) (all-named : Bool) : Type 0 where
+  pub from : start ≤ end
+  pub room : Room o end
+  pub given : Given s names
+  pub known : all-named ≡ true
 
 -- only words from `from` up to `to` were touched
 pub record Touched (o o′ : List ℕ) (from to : ℕ) : Type 0 where

@@ -10,7 +10,7 @@ use Rattle.rules.specs.Written.{part, terms-words}
 use Rattle.semantics.specs.Substitution.{Substitution, resolve}
 use Rattle.semantics.specs.Answer.{vars-in, reify, query-terms}
 use Rattle.engine.specs.Walk.{Binds}
-use Rattle.engine.specs.Names.{Names}
+use Rattle.engine.specs.Names.{Given}
 use Rattle.engine.specs.Put.{Touched, Laid}
 use Rattle.engine.specs.declared.constraints.Added.{Added}
 use Rattle.engine.specs.declared.constraints.Added.the-variants as added
@@ -27,9 +27,8 @@ query-words bs names i n = terms-words (map (reify names) (query-terms bs i n))
 
 -- query terms that are to be put
 pub record Query (ws s : List ℕ) (n : ℕ) (bs : Substitution) (names : List ℕ) : Type 0 where
-  pub top : ℕ
   pub binds : Binds ws s bs
-  pub named : Names s top names
+  pub given : Given s names
   pub known : Known bs names n
 
 -- the words of an answer but its own, from the word after `start` on, if they fit

@@ -12,13 +12,13 @@ use crate::state::State;
 use word::Word;
 ghost use mathlib.Core.Path.{_≡_};
 ghost use mathlib.Core.List.{List, []};
-ghost use Prim.Native.Nat.{ℕ, _≤_, _<_, _+_};
-ghost use lib.ListN.{length};
+ghost use Prim.Native.Nat.{ℕ, _≤_, _+_};
 ghost use Rattle.rules.specs.Syntax.{Program};
 ghost use Rattle.semantics.specs.Substitution.{Substitution};
 ghost use Rattle.semantics.specs.Path.{Path, ChoicePoint};
 ghost use Rattle.semantics.specs.Answer.{answer};
 ghost use Rattle.semantics.specs.Run.{usable as words-used};
+ghost use Rattle.engine.specs.Put.{Room};
 ghost use Rattle.engine.specs.Page.{Page};
 ghost use Rattle.engine.specs.Query.{Query, query-words, Ends, EndedAs};
 ghost use Rattle.engine.specs.Answering.{Answering, AnsweredAs};
@@ -50,8 +50,9 @@ fn begin_page(
     start: usize,
     end: usize,
 ) -> usize
-    requires { ⌜ (end ≤ length (now output)) × (end < 268435456) × (params ≤ 2048) × ((bs : Substitution) × (names : List ℕ) × Query (now program) (now scratch) params bs names) ⌝ }
-    ensures { λ r. ⌜ ((bs : Substitution) (names : List ℕ) → Query (now (program .entry)) (now (scratch .entry)) params bs names → Page (now (output .entry)) (now (output .exit)) (start + 1) r end r (query-words bs names 0 params) []) ⌝ }
+    requires { ⌜ Room (now output) end × (params ≤ 2048) × ((bs : Substitution) × (names : List ℕ) × Query (now program) (now scratch) params bs names) ⌝ }
+    ensures { λ r. ⌜ ((bs : Substitution) (names : List ℕ) → Query (now (program .entry)) (now (scratch .entry)) params bs names
+        → Page (now (output .entry)) (now (output .exit)) (start + 1) r end r (query-words bs names 0 params) []) ⌝ }
 {
     if end <= start {
         return end + 1;
@@ -68,7 +69,7 @@ fn begin_page(
 
 // The answer's own word, if all of it fits.
 fn end_page(output: &mut [u32], start: usize, end: usize, added: Added) -> Answered
-    requires { ⌜ (end ≤ length (now output)) × (end < 268435456) × ((o : List ℕ) × (v : List ℕ) × Ends o (now output) start end v added) ⌝ }
+    requires { ⌜ Room (now output) end × ((o : List ℕ) × (v : List ℕ) × Ends o (now output) start end v added) ⌝ }
     ensures { λ r. ⌜ ((o : List ℕ) (v : List ℕ) → Ends o (now (output .entry)) start end v added → EndedAs o (now (output .entry)) (now (output .exit)) start end v added r) ⌝ }
 {
     match added {

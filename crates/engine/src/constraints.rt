@@ -16,8 +16,7 @@ use crate::walk::skip;
 use word::Word;
 ghost use mathlib.Core.Path.{_≡_};
 ghost use mathlib.Core.List.{List};
-ghost use Prim.Native.Nat.{ℕ, _≤_, _<_};
-ghost use lib.ListN.{length};
+ghost use Prim.Native.Nat.{ℕ};
 ghost use Rattle.rules.specs.Syntax.{Atom, Term, Sort, Constraint, differ, typed, absento};
 ghost use Rattle.rules.specs.Written.{sort-kind};
 ghost use Rattle.semantics.specs.Substitution.{Substitution};
@@ -49,7 +48,7 @@ fn differ_lines(
     at: usize,
     steps: u32,
 ) -> Added
-    requires { ⌜ (end ≤ length (now output)) × (end < 268435456) × Writing (now scratch) (now output) first end at
+    requires { ⌜ Writing (now scratch) (now output) first end at
         × ((bs : Substitution) × (u : Term) × (v : Term) × Differs (now program) (now scratch) bs left u right v trail) ⌝ }
     ensures { λ r. ⌜ ((g : Writing (now (scratch .entry)) (now (output .entry)) first end at) (bs : Substitution) (u v : Term)
         → Differs (now (program .entry)) (now (scratch .entry)) bs left u right v trail
@@ -100,7 +99,7 @@ fn absence_lines(
     at: usize,
     steps: u32,
 ) -> Added
-    requires { ⌜ (end ≤ length (now output)) × (end < 268435456) × Writing (now scratch) (now output) first end at
+    requires { ⌜ Writing (now scratch) (now output) first end at
         × ((bs : Substitution) × (a : Atom) × (t : Term) × Binds (now program) (now scratch) bs × KeepsAt (now program) constraint (absento a t)) ⌝ }
     ensures { λ r. ⌜ ((g : Writing (now (scratch .entry)) (now (output .entry)) first end at) (bs : Substitution) (a : Atom) (t : Term)
         → Binds (now (program .entry)) (now (scratch .entry)) bs → KeepsAt (now (program .entry)) constraint (absento a t)
@@ -134,7 +133,7 @@ fn type_lines(
     at: usize,
     steps: u32,
 ) -> Added
-    requires { ⌜ (end ≤ length (now output)) × (end < 268435456) × Writing (now scratch) (now output) first end at
+    requires { ⌜ Writing (now scratch) (now output) first end at
         × ((bs : Substitution) × (k : Sort) × (t : Term) × Follows (now program) (now scratch) bs term t × (kind ≡ sort-kind k)) ⌝ }
     ensures { λ r. ⌜ ((g : Writing (now (scratch .entry)) (now (output .entry)) first end at) (bs : Substitution) (k : Sort) (t : Term)
         → Follows (now (program .entry)) (now (scratch .entry)) bs term t → kind ≡ sort-kind k
@@ -166,7 +165,7 @@ fn add_constraint(
     at: usize,
     steps: u32,
 ) -> Added
-    requires { ⌜ (end ≤ length (now output)) × (end < 268435456) × Writing (now scratch) (now output) first end at
+    requires { ⌜ Writing (now scratch) (now output) first end at
         × ((bs : Substitution) × (cs : List Constraint) × (c : Constraint) × Lists (now program) (now scratch) bs cs constraint c trail) ⌝ }
     ensures { λ r. ⌜ ((g : Writing (now (scratch .entry)) (now (output .entry)) first end at) (bs : Substitution) (cs : List Constraint) (c : Constraint)
         → Lists (now (program .entry)) (now (scratch .entry)) bs cs constraint c trail
@@ -216,7 +215,7 @@ pub(crate) fn add_constraints(
     at: usize,
     steps: u32,
 ) -> Added
-    requires { ⌜ (end ≤ length (now output)) × (end < 268435456) × Writing (now scratch) (now output) first end at
+    requires { ⌜ Writing (now scratch) (now output) first end at
         × ((bs : Substitution) × (cs : List Constraint) × (made : ℕ) × Kept (now program) (now scratch) bs cs trail kept × Sound bs cs made) ⌝ }
     ensures { λ r. ⌜ ((g : Writing (now (scratch .entry)) (now (output .entry)) first end at) (bs : Substitution) (cs : List Constraint) (made : ℕ)
         → Kept (now (program .entry)) (now (scratch .entry)) bs cs trail kept → Sound bs cs made

@@ -10,16 +10,15 @@ use crate::put::put_term;
 use crate::put::put_variable;
 use word::Word;
 ghost use mathlib.Core.Path.{_≡_};
-ghost use mathlib.Core.Bool.{true, _&&_};
 ghost use mathlib.Core.List.{List, _∷_};
 ghost use Prim.Native.Nat.{ℕ, _≤_, _<_, _+_};
 ghost use lib.ListN.{length};
 ghost use Rattle.rules.specs.Syntax.{Term, var};
 ghost use Rattle.rules.specs.Written.{part, term-words};
-ghost use Rattle.semantics.specs.Answer.{member, index, vars-in, bindings-in, line-in, line-words, Line, not-all};
-ghost use Rattle.engine.specs.Names.{Names};
-ghost use Rattle.engine.specs.Put.{Placed};
-ghost use Rattle.engine.specs.Lines.{half, Equation, Equations, equation-words, equations-words, LineAs};
+ghost use Rattle.semantics.specs.Answer.{member, index, bindings-in, line-in, line-words, Line, not-all};
+ghost use Rattle.engine.specs.Names.{Given};
+ghost use Rattle.engine.specs.Put.{Puts, Placed};
+ghost use Rattle.engine.specs.Lines.{half, Equation, EquationsIn, equation-in, equation-words, equations-words, LineAs};
 
 // A type's kind and the variable; absento's tag and the variable; a trial's mark and how many equations it has.
 pub enum Listed {
@@ -51,8 +50,11 @@ pub(crate) fn put_equation(
     end: usize,
     write: bool,
 ) -> Put
-    requires { ⌜ (end ≤ length (now output)) × (end < 268435456) × (mark + i < 2048) × ((b : ℕ × Term) × (top : ℕ) × (names : List ℕ) × Equation (now program) (now scratch) mark i b × Names (now scratch) top names × ((member (b .0) names && vars-in names (b .1)) ≡ true)) ⌝ }
-    ensures { λ r. ⌜ ((b : ℕ × Term) (top : ℕ) (names : List ℕ) → Equation (now (program .entry)) (now (scratch .entry)) mark i b → Names (now (scratch .entry)) top names → (member (b .0) names && vars-in names (b .1)) ≡ true → start ≤ end → Placed (now (output .entry)) (now (output .exit)) start end write (equation-words names b) r) ⌝ }
+    requires { ⌜ (mark + i < 2048) × ((b : ℕ × Term) × (names : List ℕ) × Equation (now program) (now scratch) mark i b
+        × Puts (now scratch) (now output) start end names (equation-in names b)) ⌝ }
+    ensures { λ r. ⌜ ((b : ℕ × Term) (names : List ℕ) → Equation (now (program .entry)) (now (scratch .entry)) mark i b
+        → Puts (now (scratch .entry)) (now (output .entry)) start end names (equation-in names b)
+        → Placed (now (output .entry)) (now (output .exit)) start end write (equation-words names b) r) ⌝ }
 {
     if end <= start {
         return Put::Missed;
@@ -87,8 +89,11 @@ pub(crate) fn put_equations(
     end: usize,
     write: bool,
 ) -> Put
-    requires { ⌜ (start ≤ end) × (end ≤ length (now output)) × (end < 268435456) × (mark + count ≤ 2048) × ((cs : List (ℕ × Term)) × (top : ℕ) × (names : List ℕ) × Equations (now program) (now scratch) mark 0 cs × (count ≡ length cs) × Names (now scratch) top names × (bindings-in names cs ≡ true)) ⌝ }
-    ensures { λ r. ⌜ ((cs : List (ℕ × Term)) (top : ℕ) (names : List ℕ) → Equations (now (program .entry)) (now (scratch .entry)) mark 0 cs → count ≡ length cs → Names (now (scratch .entry)) top names → bindings-in names cs ≡ true → Placed (now (output .entry)) (now (output .exit)) start end write (equations-words names cs) r) ⌝ }
+    requires { ⌜ ((cs : List (ℕ × Term)) × (names : List ℕ) × EquationsIn (now program) (now scratch) mark count cs
+        × Puts (now scratch) (now output) start end names (bindings-in names cs)) ⌝ }
+    ensures { λ r. ⌜ ((cs : List (ℕ × Term)) (names : List ℕ) → EquationsIn (now (program .entry)) (now (scratch .entry)) mark count cs
+        → Puts (now (scratch .entry)) (now (output .entry)) start end names (bindings-in names cs)
+        → Placed (now (output .entry)) (now (output .exit)) start end write (equations-words names cs) r) ⌝ }
 {
     let mut at = start;
     let mut i = 0;
@@ -116,8 +121,9 @@ pub(crate) fn put_typed(
     end: usize,
     write: bool,
 ) -> Put
-    requires { ⌜ (end ≤ length (now output)) × (12288 ≤ length (now scratch)) × (x < 2048) × (kind < 16) × ((top : ℕ) × (names : List ℕ) × Names (now scratch) top names × (member x names ≡ true)) ⌝ }
-    ensures { λ r. ⌜ ((top : ℕ) (names : List ℕ) → Names (now (scratch .entry)) top names → member x names ≡ true → start ≤ end → Placed (now (output .entry)) (now (output .exit)) start end write (part kind (term-words (var (index x names)))) r) ⌝ }
+    requires { ⌜ (x < 2048) × (kind < 16) × ((names : List ℕ) × Puts (now scratch) (now output) start end names (member x names)) ⌝ }
+    ensures { λ r. ⌜ ((names : List ℕ) → Puts (now (scratch .entry)) (now (output .entry)) start end names (member x names)
+        → Placed (now (output .entry)) (now (output .exit)) start end write (part kind (term-words (var (index x names)))) r) ⌝ }
 {
     match put_one(output, start, end, Word::new(kind, 1).bits, write) {
         Put::Missed => {
@@ -139,8 +145,9 @@ pub(crate) fn put_lacks(
     end: usize,
     write: bool,
 ) -> Put
-    requires { ⌜ (end ≤ length (now output)) × (12288 ≤ length (now scratch)) × (x < 2048) × ((top : ℕ) × (names : List ℕ) × Names (now scratch) top names × (member x names ≡ true)) ⌝ }
-    ensures { λ r. ⌜ ((top : ℕ) (names : List ℕ) → Names (now (scratch .entry)) top names → member x names ≡ true → start ≤ end → Placed (now (output .entry)) (now (output .exit)) start end write (part 9 (tag ∷ term-words (var (index x names)))) r) ⌝ }
+    requires { ⌜ (x < 2048) × ((names : List ℕ) × Puts (now scratch) (now output) start end names (member x names)) ⌝ }
+    ensures { λ r. ⌜ ((names : List ℕ) → Puts (now (scratch .entry)) (now (output .entry)) start end names (member x names)
+        → Placed (now (output .entry)) (now (output .exit)) start end write (part 9 (tag ∷ term-words (var (index x names)))) r) ⌝ }
 {
     match put_one(output, start, end, Word::new(Word::ABSENTO, 2).bits, write) {
         Put::Missed => {
@@ -168,8 +175,11 @@ pub(crate) fn put_differ(
     end: usize,
     write: bool,
 ) -> Put
-    requires { ⌜ (start ≤ end) × (end ≤ length (now output)) × (end < 268435456) × (mark + count ≤ 2048) × ((b : ℕ × Term) × (cs : List (ℕ × Term)) × (top : ℕ) × (names : List ℕ) × Equations (now program) (now scratch) mark 0 (b ∷ cs) × (count ≡ length (b ∷ cs)) × Names (now scratch) top names × (bindings-in names (b ∷ cs) ≡ true)) ⌝ }
-    ensures { λ r. ⌜ ((b : ℕ × Term) (cs : List (ℕ × Term)) (top : ℕ) (names : List ℕ) → Equations (now (program .entry)) (now (scratch .entry)) mark 0 (b ∷ cs) → count ≡ length (b ∷ cs) → Names (now (scratch .entry)) top names → bindings-in names (b ∷ cs) ≡ true → Placed (now (output .entry)) (now (output .exit)) start end write (line-words names (not-all (b ∷ cs))) r) ⌝ }
+    requires { ⌜ ((b : ℕ × Term) × (cs : List (ℕ × Term)) × (names : List ℕ) × EquationsIn (now program) (now scratch) mark count (b ∷ cs)
+        × Puts (now scratch) (now output) start end names (bindings-in names (b ∷ cs))) ⌝ }
+    ensures { λ r. ⌜ ((b : ℕ × Term) (cs : List (ℕ × Term)) (names : List ℕ) → EquationsIn (now (program .entry)) (now (scratch .entry)) mark count (b ∷ cs)
+        → Puts (now (scratch .entry)) (now (output .entry)) start end names (bindings-in names (b ∷ cs))
+        → Placed (now (output .entry)) (now (output .exit)) start end write (line-words names (not-all (b ∷ cs))) r) ⌝ }
 {
     if count == 1 {
         return put_equations(program, scratch, output, mark, count, start, end, write);
@@ -197,8 +207,10 @@ pub(crate) fn put_line(
     end: usize,
     write: bool,
 ) -> Put
-    requires { ⌜ (start ≤ end) × (end ≤ length (now output)) × (end < 268435456) × (12288 ≤ length (now scratch)) × ((l : Line) × (top : ℕ) × (names : List ℕ) × LineAs (now program) (now scratch) line l × Names (now scratch) top names × (line-in names l ≡ true)) ⌝ }
-    ensures { λ r. ⌜ ((l : Line) (top : ℕ) (names : List ℕ) → LineAs (now (program .entry)) (now (scratch .entry)) line l → Names (now (scratch .entry)) top names → line-in names l ≡ true → Placed (now (output .entry)) (now (output .exit)) start end write (line-words names l) r) ⌝ }
+    requires { ⌜ ((l : Line) × (names : List ℕ) × LineAs (now program) (now scratch) line l × Puts (now scratch) (now output) start end names (line-in names l)) ⌝ }
+    ensures { λ r. ⌜ ((l : Line) (names : List ℕ) → LineAs (now (program .entry)) (now (scratch .entry)) line l
+        → Puts (now (scratch .entry)) (now (output .entry)) start end names (line-in names l)
+        → Placed (now (output .entry)) (now (output .exit)) start end write (line-words names l) r) ⌝ }
 {
     match line {
         Listed::Typed(kind, x) => {
@@ -215,7 +227,7 @@ pub(crate) fn put_line(
 
 pub(crate) fn has_name(scratch: &[u32], x: u32) -> bool
     requires { ⌜ (12288 ≤ length (now scratch)) × (x < 2048) ⌝ }
-    ensures { λ r. ⌜ ((top : ℕ) (names : List ℕ) → Names (now (scratch .entry)) top names → r ≡ member x names) ⌝ }
+    ensures { λ r. ⌜ ((names : List ℕ) → Given (now (scratch .entry)) names → r ≡ member x names) ⌝ }
 {
     if scratch[NAMES + x as usize] == 0 {
         return false;
@@ -225,8 +237,9 @@ pub(crate) fn has_name(scratch: &[u32], x: u32) -> bool
 
 // Whether every variable of equation `i` has a name.
 pub(crate) fn equation_named(program: &[u32], scratch: &[u32], mark: usize, i: usize) -> bool
-    requires { ⌜ (mark + i < 2048) × ((b : ℕ × Term) × (top : ℕ) × (names : List ℕ) × Equation (now program) (now scratch) mark i b × Names (now scratch) top names) ⌝ }
-    ensures { λ r. ⌜ ((b : ℕ × Term) (top : ℕ) (names : List ℕ) → Equation (now (program .entry)) (now (scratch .entry)) mark i b → Names (now (scratch .entry)) top names → r ≡ (member (b .0) names && vars-in names (b .1))) ⌝ }
+    requires { ⌜ (mark + i < 2048) × ((b : ℕ × Term) × (names : List ℕ) × Equation (now program) (now scratch) mark i b × Given (now scratch) names) ⌝ }
+    ensures { λ r. ⌜ ((b : ℕ × Term) (names : List ℕ) → Equation (now (program .entry)) (now (scratch .entry)) mark i b → Given (now (scratch .entry)) names
+        → r ≡ equation-in names b) ⌝ }
 {
     let x = variable_at(scratch, i);
     if has_name(scratch, x) {
@@ -238,8 +251,9 @@ pub(crate) fn equation_named(program: &[u32], scratch: &[u32], mark: usize, i: u
 
 // Of the first `count` equations.
 pub(crate) fn equations_named(program: &[u32], scratch: &[u32], mark: usize, count: usize) -> bool
-    requires { ⌜ (mark + count ≤ 2048) × ((cs : List (ℕ × Term)) × (top : ℕ) × (names : List ℕ) × Equations (now program) (now scratch) mark 0 cs × (count ≡ length cs) × Names (now scratch) top names) ⌝ }
-    ensures { λ r. ⌜ ((cs : List (ℕ × Term)) (top : ℕ) (names : List ℕ) → Equations (now (program .entry)) (now (scratch .entry)) mark 0 cs → count ≡ length cs → Names (now (scratch .entry)) top names → r ≡ bindings-in names cs) ⌝ }
+    requires { ⌜ ((cs : List (ℕ × Term)) × (names : List ℕ) × EquationsIn (now program) (now scratch) mark count cs × Given (now scratch) names) ⌝ }
+    ensures { λ r. ⌜ ((cs : List (ℕ × Term)) (names : List ℕ) → EquationsIn (now (program .entry)) (now (scratch .entry)) mark count cs → Given (now (scratch .entry)) names
+        → r ≡ bindings-in names cs) ⌝ }
 {
     let mut i = 0;
     while i < count {
@@ -254,8 +268,9 @@ pub(crate) fn equations_named(program: &[u32], scratch: &[u32], mark: usize, cou
 
 // Of a line. One that mentions a variable with no name is dropped.
 pub(crate) fn line_named(program: &[u32], scratch: &[u32], line: Listed) -> bool
-    requires { ⌜ (12288 ≤ length (now scratch)) × ((l : Line) × (top : ℕ) × (names : List ℕ) × LineAs (now program) (now scratch) line l × Names (now scratch) top names) ⌝ }
-    ensures { λ r. ⌜ ((l : Line) (top : ℕ) (names : List ℕ) → LineAs (now (program .entry)) (now (scratch .entry)) line l → Names (now (scratch .entry)) top names → r ≡ line-in names l) ⌝ }
+    requires { ⌜ ((l : Line) × (names : List ℕ) × LineAs (now program) (now scratch) line l × Given (now scratch) names) ⌝ }
+    ensures { λ r. ⌜ ((l : Line) (names : List ℕ) → LineAs (now (program .entry)) (now (scratch .entry)) line l → Given (now (scratch .entry)) names
+        → r ≡ line-in names l) ⌝ }
 {
     match line {
         Listed::Typed(_, x) => {

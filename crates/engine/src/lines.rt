@@ -3,8 +3,6 @@ use crate::follow::Shape;
 use crate::follow::follow;
 use crate::line::Listed;
 use crate::page::add_line;
-ghost use Prim.Native.Nat.{_≤_, _<_};
-ghost use lib.ListN.{length};
 ghost use Rattle.semantics.specs.Answer.{typed-lines, lacks-each};
 ghost use Rattle.engine.specs.Page.{Extended, occurrences, AddsAbsent, AddsTyped};
 
@@ -19,8 +17,9 @@ pub(crate) fn add_typed(
     end: usize,
     at: usize,
 ) -> usize
-    requires { ⌜ (end ≤ length (now output)) × (end < 268435456) × AddsTyped (now program) (now scratch) (now output) kind term first end at ⌝ }
-    ensures { λ r. ⌜ ((g : AddsTyped (now (program .entry)) (now (scratch .entry)) (now (output .entry)) kind term first end at) → Extended (g .writing) (now (output .exit)) r (typed-lines (g .sort) (g .term))) ⌝ }
+    requires { ⌜ AddsTyped (now program) (now scratch) (now output) kind term first end at ⌝ }
+    ensures { λ r. ⌜ ((g : AddsTyped (now (program .entry)) (now (scratch .entry)) (now (output .entry)) kind term first end at)
+        → Extended (g .writing) (now (output .exit)) r (typed-lines (g .sort) (g .term))) ⌝ }
 {
     match follow(program, scratch, term) {
         Shape::Open(x) => {
@@ -54,8 +53,9 @@ pub(crate) fn add_absent(
     end: usize,
     at: usize,
 ) -> usize
-    requires { ⌜ (end ≤ length (now output)) × (end < 268435456) × AddsAbsent (now program) (now scratch) (now output) tag term first end at ⌝ }
-    ensures { λ r. ⌜ ((g : AddsAbsent (now (program .entry)) (now (scratch .entry)) (now (output .entry)) tag term first end at) → Extended (g .writing) (now (output .exit)) r (lacks-each (g .tag-of) (occurrences (g .term)))) ⌝ }
+    requires { ⌜ AddsAbsent (now program) (now scratch) (now output) tag term first end at ⌝ }
+    ensures { λ r. ⌜ ((g : AddsAbsent (now (program .entry)) (now (scratch .entry)) (now (output .entry)) tag term first end at)
+        → Extended (g .writing) (now (output .exit)) r (lacks-each (g .tag-of) (occurrences (g .term)))) ⌝ }
 {
     let mut from = term;
     let mut place = at;

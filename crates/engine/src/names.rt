@@ -7,12 +7,12 @@ use crate::follow::follow;
 use crate::layout::NAMES;
 ghost use mathlib.Core.Path.{_≡_};
 ghost use mathlib.Core.List.{List, []};
-ghost use Prim.Native.Nat.{ℕ, _≤_, _<_, _+_};
+ghost use Prim.Native.Nat.{ℕ, _≤_, _<_};
 ghost use lib.ListN.{length};
 ghost use Rattle.rules.specs.Syntax.{Term, var};
 ghost use Rattle.semantics.specs.Answer.{appear, vars-in};
 ghost use Rattle.engine.specs.Follow.{Resolves};
-ghost use Rattle.engine.specs.Names.{Names, Named};
+ghost use Rattle.engine.specs.Names.{Names, Given, Named};
 
 // Names variable `x`, unless it has a name.
 pub(crate) fn name_variable(scratch: &mut [u32], x: u32, top: u32) -> u32
@@ -30,7 +30,8 @@ pub(crate) fn name_variable(scratch: &mut [u32], x: u32, top: u32) -> u32
 // Names the open variables of a term.
 pub(crate) fn name_term(program: &[u32], scratch: &mut [u32], term: u32, top: u32) -> u32
     requires { ⌜ ((t : Term) × (names : List ℕ) × Resolves (now program) (now scratch) term t × Names (now scratch) top names) ⌝ }
-    ensures { λ r. ⌜ ((t : Term) (names : List ℕ) → Resolves (now (program .entry)) (now (scratch .entry)) term t → Names (now (scratch .entry)) top names → Named (now (scratch .entry)) (now (scratch .exit)) r (appear names t)) ⌝ }
+    ensures { λ r. ⌜ ((t : Term) (names : List ℕ) → Resolves (now (program .entry)) (now (scratch .entry)) term t → Names (now (scratch .entry)) top names
+        → Named (now (scratch .entry)) (now (scratch .exit)) r (appear names t)) ⌝ }
 {
     let mut at = term;
     let mut given = top;
@@ -65,8 +66,8 @@ pub(crate) fn clear_names(scratch: &mut [u32], top: u32)
 
 // Whether every open variable of a term has a name.
 pub(crate) fn all_named(program: &[u32], scratch: &[u32], term: u32) -> bool
-    requires { ⌜ ((t : Term) × (top : ℕ) × (names : List ℕ) × Resolves (now program) (now scratch) term t × Names (now scratch) top names) ⌝ }
-    ensures { λ r. ⌜ ((t : Term) (top : ℕ) (names : List ℕ) → Resolves (now (program .entry)) (now (scratch .entry)) term t → Names (now (scratch .entry)) top names → r ≡ vars-in names t) ⌝ }
+    requires { ⌜ ((t : Term) × (names : List ℕ) × Resolves (now program) (now scratch) term t × Given (now scratch) names) ⌝ }
+    ensures { λ r. ⌜ ((t : Term) (names : List ℕ) → Resolves (now (program .entry)) (now (scratch .entry)) term t → Given (now (scratch .entry)) names → r ≡ vars-in names t) ⌝ }
 {
     let mut at = term;
     loop {

@@ -6,15 +6,12 @@ use crate::line::put_line;
 use crate::put::Put;
 use word::Word;
 ghost use mathlib.Core.Path.{_≡_};
-ghost use mathlib.Core.Bool.{true};
-ghost use mathlib.Core.List.{List};
-ghost use Prim.Native.Nat.{ℕ, _≤_, _<_, _+_};
-ghost use lib.ListN.{length};
-ghost use Rattle.rules.specs.Inner.{Stands as Spells};
+ghost use mathlib.Core.List.{List, [], _∷_};
+ghost use Prim.Native.Nat.{ℕ};
 ghost use Rattle.semantics.specs.Answer.{line-in, line-words, same-words, any-same, Line};
-ghost use Rattle.engine.specs.Names.{Names};
+ghost use Rattle.engine.specs.Put.{Puts};
 ghost use Rattle.engine.specs.Lines.{LineAs};
-ghost use Rattle.engine.specs.Page.{Rows, Page, add-line};
+ghost use Rattle.engine.specs.Page.{Stretch, Rows, Writing, Extended};
 
 // Whether the line has the words from `place` up to `next`.
 pub(crate) fn same_line(
@@ -25,8 +22,9 @@ pub(crate) fn same_line(
     place: usize,
     next: usize,
 ) -> bool
-    requires { ⌜ (place ≤ next) × (next ≤ length (now output)) × (next < 268435456) × (12288 ≤ length (now scratch)) × ((l : Line) × (top : ℕ) × (names : List ℕ) × LineAs (now program) (now scratch) line l × Names (now scratch) top names × (line-in names l ≡ true)) ⌝ }
-    ensures { λ r. ⌜ (now (output .exit) ≡ now (output .entry)) × ((l : Line) (top : ℕ) (names : List ℕ) (w : List ℕ) → LineAs (now (program .entry)) (now (scratch .entry)) line l → Names (now (scratch .entry)) top names → line-in names l ≡ true → Spells (now (output .entry)) place w → next ≡ place + length w → r ≡ same-words (line-words names l) w) ⌝ }
+    requires { ⌜ ((l : Line) × (names : List ℕ) × LineAs (now program) (now scratch) line l × Puts (now scratch) (now output) place next names (line-in names l)) ⌝ }
+    ensures { λ r. ⌜ (now (output .exit) ≡ now (output .entry)) × ((l : Line) (names w : List ℕ) → LineAs (now (program .entry)) (now (scratch .entry)) line l
+        → Puts (now (scratch .entry)) (now (output .entry)) place next names (line-in names l) → Stretch (now (output .entry)) place next w → r ≡ same-words (line-words names l) w) ⌝ }
 {
     match put_line(program, scratch, output, line, place, next, false) {
         Put::Missed => {
@@ -50,8 +48,11 @@ pub(crate) fn repeated(
     first: usize,
     at: usize,
 ) -> bool
-    requires { ⌜ (at ≤ length (now output)) × (at < 268435456) × (12288 ≤ length (now scratch)) × ((ws : List (List ℕ)) × (l : Line) × (top : ℕ) × (names : List ℕ) × Rows (now output) first at ws × LineAs (now program) (now scratch) line l × Names (now scratch) top names × (line-in names l ≡ true)) ⌝ }
-    ensures { λ r. ⌜ (now (output .exit) ≡ now (output .entry)) × ((ws : List (List ℕ)) (l : Line) (top : ℕ) (names : List ℕ) → Rows (now (output .entry)) first at ws → LineAs (now (program .entry)) (now (scratch .entry)) line l → Names (now (scratch .entry)) top names → line-in names l ≡ true → r ≡ any-same (line-words names l) ws) ⌝ }
+    requires { ⌜ ((ws : List (List ℕ)) × (l : Line) × (names : List ℕ) × Rows (now output) first at ws × LineAs (now program) (now scratch) line l
+        × Puts (now scratch) (now output) first at names (line-in names l)) ⌝ }
+    ensures { λ r. ⌜ (now (output .exit) ≡ now (output .entry)) × ((ws : List (List ℕ)) (l : Line) (names : List ℕ) → Rows (now (output .entry)) first at ws
+        → LineAs (now (program .entry)) (now (scratch .entry)) line l → Puts (now (scratch .entry)) (now (output .entry)) first at names (line-in names l)
+        → r ≡ any-same (line-words names l) ws) ⌝ }
 {
     let mut place = first;
     while place < at {
@@ -75,8 +76,9 @@ pub(crate) fn add_line(
     end: usize,
     at: usize,
 ) -> usize
-    requires { ⌜ (end ≤ length (now output)) × (end < 268435456) × (12288 ≤ length (now scratch)) × ((o : List ℕ) × (begin : ℕ) × (head : List ℕ) × (ws : List (List ℕ)) × (l : Line) × (top : ℕ) × (names : List ℕ) × Page o (now output) begin first end at head ws × LineAs (now program) (now scratch) line l × Names (now scratch) top names) ⌝ }
-    ensures { λ r. ⌜ ((o : List ℕ) (begin : ℕ) (head : List ℕ) (ws : List (List ℕ)) (l : Line) (top : ℕ) (names : List ℕ) → Page o (now (output .entry)) begin first end at head ws → LineAs (now (program .entry)) (now (scratch .entry)) line l → Names (now (scratch .entry)) top names → Page o (now (output .exit)) begin first end r head (add-line names ws l)) ⌝ }
+    requires { ⌜ Writing (now scratch) (now output) first end at × ((l : Line) × LineAs (now program) (now scratch) line l) ⌝ }
+    ensures { λ r. ⌜ ((g : Writing (now (scratch .entry)) (now (output .entry)) first end at) (l : Line)
+        → LineAs (now (program .entry)) (now (scratch .entry)) line l → Extended g (now (output .exit)) r (l ∷ [])) ⌝ }
 {
     if end < at {
         return at;

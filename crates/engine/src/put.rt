@@ -4,8 +4,6 @@ use crate::follow::Shape;
 use crate::follow::follow;
 use crate::layout::NAMES;
 use word::Word;
-ghost use mathlib.Core.Path.{_≡_};
-ghost use mathlib.Core.Bool.{true};
 ghost use mathlib.Core.List.{List, [], _∷_};
 ghost use Prim.Native.Nat.{ℕ, _≤_, _<_, _+_};
 ghost use lib.ListN.{length};
@@ -13,8 +11,7 @@ ghost use Rattle.rules.specs.Syntax.{Term, var};
 ghost use Rattle.rules.specs.Written.{part, term-words};
 ghost use Rattle.semantics.specs.Answer.{member, index, reify, vars-in};
 ghost use Rattle.engine.specs.Follow.{Resolves};
-ghost use Rattle.engine.specs.Names.{Names};
-ghost use Rattle.engine.specs.Put.{WordPut, Laid, Placed};
+ghost use Rattle.engine.specs.Put.{Room, Puts, WordPut, Laid, Placed};
 
 // The place after the words, or that they do not fit, or are not there.
 pub enum Put {
@@ -59,8 +56,9 @@ pub(crate) fn put_one(output: &mut [u32], at: usize, end: usize, bits: u32, writ
 
 // The word of a part that ends at `next`, once what it counts is put.
 pub(crate) fn put_head(output: &mut [u32], start: usize, next: usize, kind: u32, write: bool) -> Put
-    requires { ⌜ (start < next) × (next ≤ length (now output)) × (next < 268435456) × (kind < 16) ⌝ }
-    ensures { λ r. ⌜ ((o : List ℕ) (end : ℕ) (v : List ℕ) → Laid o (now (output .entry)) (start + 1) end write v next → Placed o (now (output .exit)) start end write (part kind v) r) ⌝ }
+    requires { ⌜ (start < next) × Room (now output) next × (kind < 16) ⌝ }
+    ensures { λ r. ⌜ ((o : List ℕ) (end : ℕ) (v : List ℕ) → Laid o (now (output .entry)) (start + 1) end write v next
+        → Placed o (now (output .exit)) start end write (part kind v) r) ⌝ }
 {
     let size = (next - start - 1) as u32;
     if put_word(output, start, Word::new(kind, size).bits, write) {
@@ -78,8 +76,9 @@ pub(crate) fn put_variable(
     end: usize,
     write: bool,
 ) -> Put
-    requires { ⌜ (end ≤ length (now output)) × (12288 ≤ length (now scratch)) × (x < 2048) × ((top : ℕ) × (names : List ℕ) × Names (now scratch) top names × (member x names ≡ true)) ⌝ }
-    ensures { λ r. ⌜ ((top : ℕ) (names : List ℕ) → Names (now (scratch .entry)) top names → member x names ≡ true → at ≤ end → Placed (now (output .entry)) (now (output .exit)) at end write (term-words (var (index x names))) r) ⌝ }
+    requires { ⌜ (x < 2048) × ((names : List ℕ) × Puts (now scratch) (now output) at end names (member x names)) ⌝ }
+    ensures { λ r. ⌜ ((names : List ℕ) → Puts (now (scratch .entry)) (now (output .entry)) at end names (member x names)
+        → Placed (now (output .entry)) (now (output .exit)) at end write (term-words (var (index x names))) r) ⌝ }
 {
     let number = scratch[NAMES + x as usize] % 4096 - 1;
     put_one(
@@ -101,8 +100,10 @@ pub(crate) fn put_term(
     end: usize,
     write: bool,
 ) -> Put
-    requires { ⌜ (start ≤ end) × (end ≤ length (now output)) × (end < 268435456) × ((t : Term) × (top : ℕ) × (names : List ℕ) × Resolves (now program) (now scratch) term t × Names (now scratch) top names × (vars-in names t ≡ true)) ⌝ }
-    ensures { λ r. ⌜ ((t : Term) (top : ℕ) (names : List ℕ) → Resolves (now (program .entry)) (now (scratch .entry)) term t → Names (now (scratch .entry)) top names → vars-in names t ≡ true → Placed (now (output .entry)) (now (output .exit)) start end write (term-words (reify names t)) r) ⌝ }
+    requires { ⌜ ((t : Term) × (names : List ℕ) × Resolves (now program) (now scratch) term t × Puts (now scratch) (now output) start end names (vars-in names t)) ⌝ }
+    ensures { λ r. ⌜ ((t : Term) (names : List ℕ) → Resolves (now (program .entry)) (now (scratch .entry)) term t
+        → Puts (now (scratch .entry)) (now (output .entry)) start end names (vars-in names t)
+        → Placed (now (output .entry)) (now (output .exit)) start end write (term-words (reify names t)) r) ⌝ }
 {
     let mut from = term;
     let mut at = start;

@@ -6,18 +6,16 @@ use crate::names::name_variable;
 use crate::put::Put;
 use crate::put::put_term;
 use crate::put::put_variable;
-ghost use mathlib.Core.Path.{_≡_};
 ghost use mathlib.Core.Bool.{true};
 ghost use mathlib.Core.List.{List, []};
 ghost use Prim.Native.Nat.{ℕ, _≤_, _<_};
-ghost use lib.ListN.{length};
 ghost use Rattle.rules.specs.Syntax.{var};
 ghost use Rattle.rules.specs.Written.{term-words};
 ghost use Rattle.semantics.specs.Substitution.{Substitution, resolve};
 ghost use Rattle.semantics.specs.Answer.{appear, reify, vars-in, names-of, parameters};
 ghost use Rattle.engine.specs.Walk.{Binds};
 ghost use Rattle.engine.specs.Names.{Names, Named};
-ghost use Rattle.engine.specs.Put.{Placed};
+ghost use Rattle.engine.specs.Put.{Room, Puts, Placed};
 ghost use Rattle.engine.specs.Look.{LookedAs, ThroughAs};
 ghost use Rattle.engine.specs.Query.{Query, query-words};
 
@@ -37,7 +35,8 @@ pub(crate) fn look_parameter(program: &[u32], scratch: &[u32], x: u32, steps: u3
 
 pub(crate) fn name_parameter(program: &[u32], scratch: &mut [u32], x: u32, top: u32) -> u32
     requires { ⌜ (x < 2048) × ((bs : Substitution) × (names : List ℕ) × Binds (now program) (now scratch) bs × Names (now scratch) top names) ⌝ }
-    ensures { λ r. ⌜ ((bs : Substitution) (names : List ℕ) → Binds (now (program .entry)) (now (scratch .entry)) bs → Names (now (scratch .entry)) top names → Named (now (scratch .entry)) (now (scratch .exit)) r (appear names (resolve bs (var x)))) ⌝ }
+    ensures { λ r. ⌜ ((bs : Substitution) (names : List ℕ) → Binds (now (program .entry)) (now (scratch .entry)) bs → Names (now (scratch .entry)) top names
+        → Named (now (scratch .entry)) (now (scratch .exit)) r (appear names (resolve bs (var x)))) ⌝ }
 {
     let entry = scratch[x as usize];
     if entry == 0 {
@@ -54,8 +53,11 @@ pub(crate) fn put_parameter(
     start: usize,
     end: usize,
 ) -> Put
-    requires { ⌜ (start ≤ end) × (end ≤ length (now output)) × (end < 268435456) × (x < 2048) × ((bs : Substitution) × (top : ℕ) × (names : List ℕ) × Binds (now program) (now scratch) bs × Names (now scratch) top names × (vars-in names (resolve bs (var x)) ≡ true)) ⌝ }
-    ensures { λ r. ⌜ ((bs : Substitution) (top : ℕ) (names : List ℕ) → Binds (now (program .entry)) (now (scratch .entry)) bs → Names (now (scratch .entry)) top names → vars-in names (resolve bs (var x)) ≡ true → Placed (now (output .entry)) (now (output .exit)) start end true (term-words (reify names (resolve bs (var x)))) r) ⌝ }
+    requires { ⌜ (x < 2048) × ((bs : Substitution) × (names : List ℕ) × Binds (now program) (now scratch) bs
+        × Puts (now scratch) (now output) start end names (vars-in names (resolve bs (var x)))) ⌝ }
+    ensures { λ r. ⌜ ((bs : Substitution) (names : List ℕ) → Binds (now (program .entry)) (now (scratch .entry)) bs
+        → Puts (now (scratch .entry)) (now (output .entry)) start end names (vars-in names (resolve bs (var x)))
+        → Placed (now (output .entry)) (now (output .exit)) start end true (term-words (reify names (resolve bs (var x)))) r) ⌝ }
 {
     let entry = scratch[x as usize];
     if entry == 0 {
@@ -90,7 +92,8 @@ pub(crate) fn look_parameters(program: &[u32], scratch: &[u32], count: u32, step
 
 pub(crate) fn name_parameters(program: &[u32], scratch: &mut [u32], count: u32) -> u32
     requires { ⌜ (count ≤ 2048) × ((bs : Substitution) × Binds (now program) (now scratch) bs × Names (now scratch) 0 []) ⌝ }
-    ensures { λ r. ⌜ ((bs : Substitution) → Binds (now (program .entry)) (now (scratch .entry)) bs → Names (now (scratch .entry)) 0 [] → Named (now (scratch .entry)) (now (scratch .exit)) r (names-of bs count)) ⌝ }
+    ensures { λ r. ⌜ ((bs : Substitution) → Binds (now (program .entry)) (now (scratch .entry)) bs → Names (now (scratch .entry)) 0 []
+        → Named (now (scratch .entry)) (now (scratch .exit)) r (names-of bs count)) ⌝ }
 {
     let mut top = 0;
     let mut x = 0;
@@ -109,8 +112,9 @@ pub(crate) fn put_parameters(
     start: usize,
     end: usize,
 ) -> Put
-    requires { ⌜ (start ≤ end) × (end ≤ length (now output)) × (end < 268435456) × (count ≤ 2048) × ((bs : Substitution) × (names : List ℕ) × Query (now program) (now scratch) count bs names) ⌝ }
-    ensures { λ r. ⌜ ((bs : Substitution) (names : List ℕ) → Query (now (program .entry)) (now (scratch .entry)) count bs names → Placed (now (output .entry)) (now (output .exit)) start end true (query-words bs names 0 count) r) ⌝ }
+    requires { ⌜ (start ≤ end) × Room (now output) end × (count ≤ 2048) × ((bs : Substitution) × (names : List ℕ) × Query (now program) (now scratch) count bs names) ⌝ }
+    ensures { λ r. ⌜ ((bs : Substitution) (names : List ℕ) → Query (now (program .entry)) (now (scratch .entry)) count bs names
+        → Placed (now (output .entry)) (now (output .exit)) start end true (query-words bs names 0 count) r) ⌝ }
 {
     let mut at = start;
     let mut x = 0;

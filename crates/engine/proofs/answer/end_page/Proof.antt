@@ -9,8 +9,8 @@ use Rattle.engine.proofs.answer.end_page.Statement.{statement}
 use Rattle.engine.proofs.answer.end_page.Tie as tie
 
 -- the words but the first, as the caller knows of them
-laid-at : (c : tie.After-put-head-arg) → (let a = c .before .before .before .before .before .before .args in let q = c .before .before .before .before .before .before .pre in Laid (q .2 .0) (a .output .now) (a .start + 1) (a .end) true (q .2 .1) (c .before .before .before .added2 .given .0 .0))
-laid-at c = c .before .before .before .before .before .before .pre .2 .2 _ _ (c .before .before .before .added2 .given .1) (c .before .if1 .left)
+laid-at : (c : tie.After-put-head-arg) → (let a = c .before .before .before .before .before .before .args in let q = c .before .before .before .before .before .before .pre in Laid (q .1 .0) (a .output .now) (a .start + 1) (a .end) true (q .1 .1) (c .before .before .before .added2 .given .0 .0))
+laid-at c = c .before .before .before .before .before .before .pre .1 .2 _ _ (c .before .before .before .added2 .given .1) (c .before .if1 .left)
 
 enum-told : tie.Need-enum-told
 enum-told c = search needs
@@ -31,10 +31,10 @@ returns-3 : tie.Need-returns-3
 returns-3 c = λ o v h. ended-full _ _ _ _ _ _ (c .before .before .added2 .given .1) (c .if1 .taken)
 
 put-head-requires : tie.Need-put-head-requires
-put-head-requires c κs = let d = laid-at c in let q = c .before .before .before .before .before .before .pre in (omega (arith, d .is), omega (arith, d .fits, q .0), omega (arith, d .fits, q .1), omega arith)
+put-head-requires c κs = let d = laid-at c in let r = c .before .before .before .before .before .before .pre .0 in (omega (arith, d .is), record { inside = omega (arith, d .fits, r .inside); short = omega (arith, d .fits, r .short) }, omega arith)
 
 cast-t12 : tie.Need-cast-t12
-cast-t12 c = let d = laid-at (c .before .before .before) in let q = c .before .before .before .before .before .before .before .before .before .pre in omega (arith, d .fits, q .1)
+cast-t12 c = omega (arith, laid-at (c .before .before .before) .fits, c .before .before .before .before .before .before .before .before .before .pre .0 .short)
 
 same-length : tie.Need-same-length
 same-length c = search needs

@@ -1,6 +1,8 @@
 -- `write_answer` writes the answer of a path, as the definition has it.
 use native.Mathlib.Omega.{arith}
-use Rattle.engine.proofs.AnswerLaws.{answer-low, answer-binds, answer-kept, unnamed, steps-out-now, path-out-now, named-now, query-now, page-now, writing-now, apart-now, touched-now, names-now, ends-now, answered-now}
+use Rattle.engine.proofs.AnswerLaws.{answer-low, answer-binds, answer-kept, unnamed, steps-out-now, path-out-now, named-now, query-now, writing-now, apart-now, touched-now, names-now, ends-now, answered-now}
+use Rattle.engine.specs.Put.{Room}
+use Rattle.engine.proofs.PutLaws.{room-same}
 use borrow.Author.Needs.{needs}
 use Rattle.engine.proofs.answer.write_answer.Statement.{statement}
 use Rattle.engine.proofs.answer.write_answer.Tie as tie
@@ -23,6 +25,10 @@ looked-at c = c .before .before .before .before .before .before
 
 abbrev start-at : tie.After-name-parameters → tie.Start
 start-at c = c .before .before .before .before .before .before .before .before .before .before .before
+
+-- the output up to the page's end
+room-at : (c : tie.After-name-parameters) → Room (start-at c .args .output .now) (limit-at c .usable .result)
+room-at c = record { inside = omega (arith, limit-at c .usable .ensures); short = omega (arith, limit-at c .usable .ensures) }
 
 look-parameters-requires : tie.Need-look-parameters-requires
 look-parameters-requires c κs = let a = c .before .before .before .before .pre .3 in (answer-low a, (_, answer-binds a))
@@ -55,16 +61,16 @@ name-parameters-requires : tie.Need-name-parameters-requires
 name-parameters-requires c κs = let a = c .before .before .before .before .before .before .before .before .before .before .pre .3 in (answer-low a, (_, answer-binds a, unnamed (a .stored .nameless)))
 
 begin-page-requires : tie.Need-begin-page-requires
-begin-page-requires c κs = let n = c .before .before .before .before in let a = start-at n .pre .3 in (omega (arith, limit-at n .usable .ensures), omega (arith, limit-at n .usable .ensures), answer-low a, (_, _, query-now a (n .name-parameters .ensures)))
+begin-page-requires c κs = let n = c .before .before .before .before in let a = start-at n .pre .3 in (room-at n, answer-low a, (_, _, query-now a (n .name-parameters .ensures)))
 
 add-constraints-requires : tie.Need-add-constraints-requires
-add-constraints-requires c κs = let b = c .before .before .before .before in let n = named-at b in let a = start-at n .pre .3 in (omega (arith, limit-at n .usable .ensures, page-now a (n .name-parameters .ensures) (b .begin-page .ensures) .touched .long), omega (arith, limit-at n .usable .ensures), writing-now a (n .name-parameters .ensures) (b .begin-page .ensures), (_, _, _, answer-kept a (named-now a (n .name-parameters .ensures)), a .sound))
+add-constraints-requires c κs = let b = c .before .before .before .before in let n = named-at b in let a = start-at n .pre .3 in (writing-now a (n .name-parameters .ensures) (room-at n) (b .begin-page .ensures), (_, _, _, answer-kept a (named-now a (n .name-parameters .ensures)), a .sound))
 
 clear-names-requires : tie.Need-clear-names-requires
-clear-names-requires c κs = let d = c .before .before .before .before .before in let b = begun-at d in let n = named-at b in let a = start-at n .pre .3 in (omega (arith, a .stored .roomy .long, named-now a (n .name-parameters .ensures) .long, apart-now a (n .name-parameters .ensures) (b .begin-page .ensures) _ (d .add-constraints .ensures) .long), (_, names-now a (n .name-parameters .ensures) (b .begin-page .ensures) _ (d .add-constraints .ensures)))
+clear-names-requires c κs = let d = c .before .before .before .before .before in let b = begun-at d in let n = named-at b in let a = start-at n .pre .3 in (omega (arith, a .stored .roomy .long, named-now a (n .name-parameters .ensures) .long, apart-now a (n .name-parameters .ensures) (room-at n) (b .begin-page .ensures) _ (d .add-constraints .ensures) .long), (_, names-now a (n .name-parameters .ensures) (room-at n) (b .begin-page .ensures) _ (d .add-constraints .ensures)))
 
 end-page-requires : tie.Need-end-page-requires
-end-page-requires c κs = let d = c .before .before .before .before .before .before .before .before .before in let b = begun-at d in let n = named-at b in let a = start-at n .pre .3 in (omega (arith, limit-at n .usable .ensures, touched-now a (n .name-parameters .ensures) (b .begin-page .ensures) _ (d .add-constraints .ensures) .long), omega (arith, limit-at n .usable .ensures), (start-at n .args .output .now, _, ends-now a (n .name-parameters .ensures) (b .begin-page .ensures) _ (d .add-constraints .ensures)))
+end-page-requires c κs = let d = c .before .before .before .before .before .before .before .before .before in let b = begun-at d in let n = named-at b in let a = start-at n .pre .3 in (room-same (touched-now a (n .name-parameters .ensures) (room-at n) (b .begin-page .ensures) _ (d .add-constraints .ensures) .long) (room-at n), (start-at n .args .output .now, _, ends-now a (n .name-parameters .ensures) (room-at n) (b .begin-page .ensures) _ (d .add-constraints .ensures)))
 
 same-length-3 : tie.Need-same-length-3
 same-length-3 c = search needs
@@ -73,7 +79,7 @@ same-length-4 : tie.Need-same-length-4
 same-length-4 c = search needs
 
 returns-3 : tie.Need-returns-3
-returns-3 c = λ P p cs a. let d = c .before .before .before .before .before .before .before .before .before .before .before .before in let b = begun-at d in let n = named-at b in answered-now a (n .name-parameters .ensures) (b .begin-page .ensures) _ (d .add-constraints .ensures) _ (looked-at n .look-parameters .ensures) (left-at n .left2 .given .1) _ _ (limit-at n .usable .ensures) (c .before .before .before .before .before .before .clear-names .ensures) (c .before .before .end-page .ensures)
+returns-3 c = λ P p cs a. let d = c .before .before .before .before .before .before .before .before .before .before .before .before in let b = begun-at d in let n = named-at b in answered-now a (n .name-parameters .ensures) (room-at n) (b .begin-page .ensures) _ (d .add-constraints .ensures) _ (looked-at n .look-parameters .ensures) (left-at n .left2 .given .1) _ _ (limit-at n .usable .ensures) (c .before .before .before .before .before .before .clear-names .ensures) (c .before .before .end-page .ensures)
 
 pub write-answer-spec : {M : Type 1} → statement M
 write-answer-spec =

@@ -10,10 +10,10 @@ use Rattle.engine.proofs.constraints.absence_lines.Statement.{statement
 use Rattle.engine.proofs.constraints.absence_lines.Tie as tie
 
 add-term : tie.Need-add-term
-add-term c = omega (arith, c .before .before .before .pre .3 .4 .below)
+add-term c = omega (arith, c .before .before .before .pre .1 .4 .below)
 
 look-requires : tie.Need-look-requires
-look-requires c κs = let p = c .before .before .before .pre .3 in (p .0, p .2, absento-follows (p .3) (p .4))
+look-requires c κs = let p = c .before .before .before .pre .1 in (p .0, p .2, absento-follows (p .3) (p .4))
 
 enum-told : tie.Need-enum-told
 enum-told c = search needs
@@ -31,13 +31,13 @@ enum-known-rest-2 : tie.Need-enum-known-rest-2
 enum-known-rest-2 c = search needs
 
 add-node-at : tie.Need-add-node-at
-add-node-at c = omega (arith, c .before .before .before .before .before .before .before .pre .3 .4 .below)
+add-node-at c = omega (arith, c .before .before .before .before .before .before .before .pre .1 .4 .below)
 
 node-at-requires : tie.Need-node-at-requires
-node-at-requires c κs = let p = c .before .before .before .before .before .before .before .pre .3 in absento-inside _ _ (p .1) (p .2) (p .4)
+node-at-requires c κs = let p = c .before .before .before .before .before .before .before .pre .1 in absento-inside _ _ (p .1) (p .2) (p .4)
 
 add-absent-requires : tie.Need-add-absent-requires
-add-absent-requires c κs = let p = c .before .before .before .before .before .before .before .before .before .pre .3 in (c .before .before .before .before .before .before .before .before .before .pre .0, c .before .before .before .before .before .before .before .before .before .pre .1, absento-adds (p .3) (p .4) (c .before .before .before .before .before .before .before .before .before .pre .2) (c .before .node-at .ensures))
+add-absent-requires c κs = let p = c .before .before .before .before .before .before .before .before .before .pre .1 in absento-adds (p .3) (p .4) (c .before .before .before .before .before .before .before .before .before .pre .0) (c .before .node-at .ensures)
 
 same-length : tie.Need-same-length
 same-length c = search needs

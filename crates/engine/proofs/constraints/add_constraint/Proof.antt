@@ -13,13 +13,13 @@ add-skip : tie.Need-add-skip
 add-skip c = search needs
 
 skip-requires : tie.Need-skip-requires
-skip-requires c κs = let p = c .before .before .before .before .before .pre .3 in let q = differ-at (c .before .node-at .ensures) (p .2) (p .3 .keeps) (c .if1 .taken) in (q .left, q .first)
+skip-requires c κs = let p = c .before .before .before .before .before .pre .1 in let q = differ-at (c .before .node-at .ensures) (p .2) (p .3 .keeps) (c .if1 .taken) in (q .left, q .first)
 
 add-differ-lines : tie.Need-add-differ-lines
 add-differ-lines c = search needs
 
 differ-lines-requires : tie.Need-differ-lines-requires
-differ-lines-requires c κs = let p = c .before .before .before .before .before .before .before .before .pre .3 in let q = differ-at (c .before .before .before .before .node-at .ensures) (p .2) (p .3 .keeps) (c .before .before .before .if1 .taken) in (c .before .before .before .before .before .before .before .before .pre .0, c .before .before .before .before .before .before .before .before .pre .1, c .before .before .before .before .before .before .before .before .pre .2, (p .0, q .left, q .right, lists-differ (p .3) q (c .before .before .skip .ensures (q .left) (q .first))))
+differ-lines-requires c κs = let p = c .before .before .before .before .before .before .before .before .pre .1 in let q = differ-at (c .before .before .before .before .node-at .ensures) (p .2) (p .3 .keeps) (c .before .before .before .if1 .taken) in (c .before .before .before .before .before .before .before .before .pre .0, (p .0, q .left, q .right, lists-differ (p .3) q (c .before .before .skip .ensures (q .left) (q .first))))
 
 same-length : tie.Need-same-length
 same-length c = search needs
@@ -31,7 +31,7 @@ returns : tie.Need-returns
 returns c = λ g bs cs d h. let q = differ-at (c .before .before .before .before .before .before .before .before .before .node-at .ensures) d (h .keeps) (c .before .before .before .before .before .before .before .before .if1 .taken) in added-one d (differ (q .left) (q .right)) (c .before .before .before .before .before .before .before .before .before .before .before .before .before .args .steps) (q .is) (c .before .before .before .before .differ-lines .ensures g bs (q .left) (q .right) (lists-differ h q (c .before .before .before .before .before .before .before .skip .ensures (q .left) (q .first))))
 
 absence-lines-requires : tie.Need-absence-lines-requires
-absence-lines-requires c κs = let p = c .before .before .before .before .before .before .before .before .pre .3 in let q = absento-at (c .before .before .before .before .node-at .ensures) (p .2) (p .3 .keeps) (c .before .before .if2 .taken) in (c .before .before .before .before .before .before .before .before .pre .0, c .before .before .before .before .before .before .before .before .pre .1, c .before .before .before .before .before .before .before .before .pre .2, (p .0, q .tag, q .term, p .3 .held, q .keeps))
+absence-lines-requires c κs = let p = c .before .before .before .before .before .before .before .before .pre .1 in let q = absento-at (c .before .before .before .before .node-at .ensures) (p .2) (p .3 .keeps) (c .before .before .if2 .taken) in (c .before .before .before .before .before .before .before .before .pre .0, (p .0, q .tag, q .term, p .3 .held, q .keeps))
 
 same-length-3 : tie.Need-same-length-3
 same-length-3 c = search needs
@@ -46,7 +46,7 @@ add-type-lines : tie.Need-add-type-lines
 add-type-lines c = search needs
 
 type-lines-requires : tie.Need-type-lines-requires
-type-lines-requires c κs = let p = c .before .before .before .before .before .before .before .before .pre .3 in let q = typed-at (c .before .before .before .before .node-at .ensures) (p .2) (p .3 .keeps) (c .before .before .before .if1 .left) (c .before .before .if2 .left) in (c .before .before .before .before .before .before .before .before .pre .0, c .before .before .before .before .before .before .before .before .pre .1, c .before .before .before .before .before .before .before .before .pre .2, (p .0, q .sort, q .term, record { binds = p .3 .held; stands = q .stands }, q .is-kind))
+type-lines-requires c κs = let p = c .before .before .before .before .before .before .before .before .pre .1 in let q = typed-at (c .before .before .before .before .node-at .ensures) (p .2) (p .3 .keeps) (c .before .before .before .if1 .left) (c .before .before .if2 .left) in (c .before .before .before .before .before .before .before .before .pre .0, (p .0, q .sort, q .term, record { binds = p .3 .held; stands = q .stands }, q .is-kind))
 
 same-length-5 : tie.Need-same-length-5
 same-length-5 c = search needs

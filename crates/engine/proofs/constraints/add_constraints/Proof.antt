@@ -23,25 +23,25 @@ loop-holds : tie.Need-loop-holds Inv-loop μ-loop
 loop-holds c = λ g bs cs made k d. adding-start g _ k d
 
 cast-constraint : tie.Need-cast-constraint Inv-loop μ-loop
-cast-constraint c = omega (arith, c .before .before .before .before .before .pre .3 .3 .few, c .loop-test .taken)
+cast-constraint c = omega (arith, c .before .before .before .before .before .pre .1 .3 .few, c .loop-test .taken)
 
 add-constraint : tie.Need-add-constraint Inv-loop μ-loop
-add-constraint c = omega (arith, c .before .before .before .before .before .pre .3 .3 .few, c .loop-test .taken)
+add-constraint c = omega (arith, c .before .before .before .before .before .pre .1 .3 .few, c .loop-test .taken)
 
 mul-constraint : tie.Need-mul-constraint Inv-loop μ-loop
-mul-constraint c = omega (arith, c .before .before .before .before .before .pre .3 .3 .few, c .loop-test .taken)
+mul-constraint c = omega (arith, c .before .before .before .before .before .pre .1 .3 .few, c .loop-test .taken)
 
 slice-read-constraint : tie.Need-slice-read-constraint Inv-loop μ-loop
-slice-read-constraint c = let p = c .before .before .before .before .before .before .pre .3 in let h = c .before .before .loop .inv (c .before .before .before .before .before .before .pre .2) (p .0) (p .1) (p .2) (p .3) (p .4) in omega (arith, p .3 .few, c .before .loop-test .taken, h .whole .held .long)
+slice-read-constraint c = let p = c .before .before .before .before .before .before .pre .1 in let h = c .before .before .loop .inv (c .before .before .before .before .before .before .pre .0) (p .0) (p .1) (p .2) (p .3) (p .4) in omega (arith, p .3 .few, c .before .loop-test .taken, h .whole .held .long)
 
 add-constraint-requires : tie.Need-add-constraint-requires Inv-loop μ-loop
-add-constraint-requires c κs = let p = c .before .before .before .before .before .before .before .before .pre .3 in let h = c .before .before .before .before .loop .inv (c .before .before .before .before .before .before .before .before .pre .2) (p .0) (p .1) (p .2) (p .3) (p .4) in let n = adding-next h (c .before .before .before .loop-test .taken) in (omega (arith, c .before .before .before .before .before .before .before .before .pre .0, adding-long h), c .before .before .before .before .before .before .before .before .pre .1, adding-writing h, (p .0, p .1, n .one, n .lists))
+add-constraint-requires c κs = let p = c .before .before .before .before .before .before .before .before .pre .1 in let h = c .before .before .before .before .loop .inv (c .before .before .before .before .before .before .before .before .pre .0) (p .0) (p .1) (p .2) (p .3) (p .4) in let n = adding-next h (c .before .before .before .loop-test .taken) in (adding-writing h, (p .0, p .1, n .one, n .lists))
 
 enum-known-next : tie.Need-enum-known-next Inv-loop μ-loop
 enum-known-next c = search needs
 
 add-i : tie.Need-add-i Inv-loop μ-loop
-add-i c = omega (arith, c .before .before .before .before .before .before .before .before .before .before .before .before .before .before .before .before .pre .3 .3 .few, c .before .before .before .before .before .before .before .before .before .before .before .loop-test .taken)
+add-i c = omega (arith, c .before .before .before .before .before .before .before .before .before .before .before .before .before .before .before .before .pre .1 .3 .few, c .before .before .before .before .before .before .before .before .before .before .before .loop-test .taken)
 
 loop-less : tie.Need-loop-less Inv-loop μ-loop
 loop-less c = omega (arith, c .before .before .before .before .before .before .before .before .before .before .before .loop-test .taken)
@@ -53,10 +53,10 @@ enum-told : tie.Need-enum-told Inv-loop μ-loop
 enum-told c = search needs
 
 same-length : tie.Need-same-length Inv-loop μ-loop
-same-length c = let p = c .before .before .before .before .before .before .before .before .before .before .before .before .before .before .before .pre .3 in let h = c .before .before .before .before .before .before .before .before .before .before .before .loop .inv (c .before .before .before .before .before .before .before .before .before .before .before .before .before .before .before .pre .2) (p .0) (p .1) (p .2) (p .3) (p .4) in let n = adding-next h (c .before .before .before .before .before .before .before .before .before .before .loop-test .taken) in adding-still h n _ _ _ (c .before .before .before .before .before .before .add-constraint .ensures (adding-writing h) (p .0) (p .1) (n .one) (n .lists))
+same-length c = let p = c .before .before .before .before .before .before .before .before .before .before .before .before .before .before .before .pre .1 in let h = c .before .before .before .before .before .before .before .before .before .before .before .loop .inv (c .before .before .before .before .before .before .before .before .before .before .before .before .before .before .before .pre .0) (p .0) (p .1) (p .2) (p .3) (p .4) in let n = adding-next h (c .before .before .before .before .before .before .before .before .before .before .loop-test .taken) in adding-still h n _ _ _ (c .before .before .before .before .before .before .add-constraint .ensures (adding-writing h) (p .0) (p .1) (n .one) (n .lists))
 
 same-length-2 : tie.Need-same-length-2 Inv-loop μ-loop
-same-length-2 c = let p = c .before .before .before .before .before .before .before .before .before .before .before .before .before .before .before .pre .3 in let h = c .before .before .before .before .before .before .before .before .before .before .before .loop .inv (c .before .before .before .before .before .before .before .before .before .before .before .before .before .before .before .pre .2) (p .0) (p .1) (p .2) (p .3) (p .4) in let n = adding-next h (c .before .before .before .before .before .before .before .before .before .before .loop-test .taken) in adding-room h n _ _ _ (c .before .before .before .before .before .before .add-constraint .ensures (adding-writing h) (p .0) (p .1) (n .one) (n .lists))
+same-length-2 c = let p = c .before .before .before .before .before .before .before .before .before .before .before .before .before .before .before .pre .1 in let h = c .before .before .before .before .before .before .before .before .before .before .before .loop .inv (c .before .before .before .before .before .before .before .before .before .before .before .before .before .before .before .pre .0) (p .0) (p .1) (p .2) (p .3) (p .4) in let n = adding-next h (c .before .before .before .before .before .before .before .before .before .before .loop-test .taken) in adding-room h n _ _ _ (c .before .before .before .before .before .before .add-constraint .ensures (adding-writing h) (p .0) (p .1) (n .one) (n .lists))
 
 returns : tie.Need-returns Inv-loop μ-loop
 returns c = λ g bs cs made k d. let h = c .before .before .before .before .before .before .before .before .before .before .before .loop .inv g bs cs made k d in let n = adding-next h (c .before .before .before .before .before .before .before .before .before .before .loop-test .taken) in adding-stops h n _ _ _ (c .before .before .before .before .before .before .add-constraint .ensures (adding-writing h) bs cs (n .one) (n .lists)) (c .enum-told .given .1)
@@ -65,19 +65,19 @@ enum-known-rest : tie.Need-enum-known-rest Inv-loop μ-loop
 enum-known-rest c = search needs
 
 same-length-3 : tie.Need-same-length-3 Inv-loop μ-loop
-same-length-3 c = let p = c .before .before .before .before .before .before .before .before .before .before .before .before .before .before .before .before .pre .3 in let h = c .before .before .before .before .before .before .before .before .before .before .before .before .loop .inv (c .before .before .before .before .before .before .before .before .before .before .before .before .before .before .before .before .pre .2) (p .0) (p .1) (p .2) (p .3) (p .4) in let n = adding-next h (c .before .before .before .before .before .before .before .before .before .before .before .loop-test .taken) in adding-still h n _ _ _ (c .before .before .before .before .before .before .before .add-constraint .ensures (adding-writing h) (p .0) (p .1) (n .one) (n .lists))
+same-length-3 c = let p = c .before .before .before .before .before .before .before .before .before .before .before .before .before .before .before .before .pre .1 in let h = c .before .before .before .before .before .before .before .before .before .before .before .before .loop .inv (c .before .before .before .before .before .before .before .before .before .before .before .before .before .before .before .before .pre .0) (p .0) (p .1) (p .2) (p .3) (p .4) in let n = adding-next h (c .before .before .before .before .before .before .before .before .before .before .before .loop-test .taken) in adding-still h n _ _ _ (c .before .before .before .before .before .before .before .add-constraint .ensures (adding-writing h) (p .0) (p .1) (n .one) (n .lists))
 
 same-length-4 : tie.Need-same-length-4 Inv-loop μ-loop
-same-length-4 c = let p = c .before .before .before .before .before .before .before .before .before .before .before .before .before .before .before .before .pre .3 in let h = c .before .before .before .before .before .before .before .before .before .before .before .before .loop .inv (c .before .before .before .before .before .before .before .before .before .before .before .before .before .before .before .before .pre .2) (p .0) (p .1) (p .2) (p .3) (p .4) in let n = adding-next h (c .before .before .before .before .before .before .before .before .before .before .before .loop-test .taken) in adding-room h n _ _ _ (c .before .before .before .before .before .before .before .add-constraint .ensures (adding-writing h) (p .0) (p .1) (n .one) (n .lists))
+same-length-4 c = let p = c .before .before .before .before .before .before .before .before .before .before .before .before .before .before .before .before .pre .1 in let h = c .before .before .before .before .before .before .before .before .before .before .before .before .loop .inv (c .before .before .before .before .before .before .before .before .before .before .before .before .before .before .before .before .pre .0) (p .0) (p .1) (p .2) (p .3) (p .4) in let n = adding-next h (c .before .before .before .before .before .before .before .before .before .before .before .loop-test .taken) in adding-room h n _ _ _ (c .before .before .before .before .before .before .before .add-constraint .ensures (adding-writing h) (p .0) (p .1) (n .one) (n .lists))
 
 returns-2 : tie.Need-returns-2 Inv-loop μ-loop
 returns-2 c = λ g bs cs made k d. let h = c .before .before .before .before .before .before .before .before .before .before .before .before .loop .inv g bs cs made k d in let n = adding-next h (c .before .before .before .before .before .before .before .before .before .before .before .loop-test .taken) in adding-bound h n _ _ _ (c .before .before .before .before .before .before .before .add-constraint .ensures (adding-writing h) bs cs (n .one) (n .lists)) (c .before .rest .given .1)
 
 same-length-5 : tie.Need-same-length-5 Inv-loop μ-loop
-same-length-5 c = let p = c .before .before .before .before .before .pre .3 in let h = c .before .loop .inv (c .before .before .before .before .before .pre .2) (p .0) (p .1) (p .2) (p .3) (p .4) in h .apart .long
+same-length-5 c = let p = c .before .before .before .before .before .pre .1 in let h = c .before .loop .inv (c .before .before .before .before .before .pre .0) (p .0) (p .1) (p .2) (p .3) (p .4) in h .apart .long
 
 same-length-6 : tie.Need-same-length-6 Inv-loop μ-loop
-same-length-6 c = let p = c .before .before .before .before .before .pre .3 in let h = c .before .loop .inv (c .before .before .before .before .before .pre .2) (p .0) (p .1) (p .2) (p .3) (p .4) in adding-long h
+same-length-6 c = let p = c .before .before .before .before .before .pre .1 in let h = c .before .loop .inv (c .before .before .before .before .before .pre .0) (p .0) (p .1) (p .2) (p .3) (p .4) in adding-long h
 
 returns-3 : tie.Need-returns-3 Inv-loop μ-loop
 returns-3 c = λ g bs cs made k d. adding-end (c .before .loop .inv g bs cs made k d) (c .loop-test .left)

@@ -2,19 +2,18 @@
 use mathlib.Core.List.{reverse}
 use borrow.Author.Needs.{needs}
 use Rattle.engine.proofs.ReviewSteps.{trial-joined, trial-failed, trial-stepped, trial-pathed}
-use Rattle.engine.proofs.NameLaws.{names-apart}
-use Rattle.engine.proofs.AddingLaws.{trial-grown, differ-failed, differ-stepped, differ-pathed, tried, tried-line-is, tried-line, tried-steps, tried-path, tried-done}
+use Rattle.engine.proofs.AddingLaws.{writing-apart, trial-grown, differ-failed, differ-stepped, differ-pathed, tried, tried-line-is, tried-line, tried-steps, tried-path, tried-done}
 use Rattle.engine.proofs.constraints.differ_lines.Statement.{statement}
 use Rattle.engine.proofs.constraints.differ_lines.Tie as tie
 
 unify-requires : tie.Need-unify-requires
-unify-requires c κs = let p = c .before .before .before .before .pre .3 in (p .0, p .1, p .2, p .3 .meets)
+unify-requires c κs = let p = c .before .before .before .before .pre .1 in (p .0, p .1, p .2, p .3 .meets)
 
 enum-known-top : tie.Need-enum-known-top
 enum-known-top c = search needs
 
 undo-requires : tie.Need-undo-requires
-undo-requires c κs = let p = c .before .before .before .before .before .before .before .before .before .before .before .pre .3 in let t = trial-failed (c .before .before .before .before .before .before .before .before .before .before .before .args .steps) (p .3 .meets) _ _ (c .before .before .before .before .before .before .unify .ensures (p .0) (p .1) (p .2) (p .3 .meets)) (c .before .before .top .given .1) in (c .before .before .before .before .before .before .before .before .before .before .before .args .program .now, t .new, p .0, t .trailed)
+undo-requires c κs = let p = c .before .before .before .before .before .before .before .before .before .before .before .pre .1 in let t = trial-failed (c .before .before .before .before .before .before .before .before .before .before .before .args .steps) (p .3 .meets) _ _ (c .before .before .before .before .before .before .unify .ensures (p .0) (p .1) (p .2) (p .3 .meets)) (c .before .before .top .given .1) in (c .before .before .before .before .before .before .before .before .before .before .before .args .program .now, t .new, p .0, t .trailed)
 
 same-length : tie.Need-same-length
 same-length c = search needs
@@ -26,7 +25,7 @@ enum-known-top-2 : tie.Need-enum-known-top-2
 enum-known-top-2 c = search needs
 
 undo-requires-2 : tie.Need-undo-requires-2
-undo-requires-2 c κs = let p = c .before .before .before .before .before .before .before .before .before .before .before .pre .3 in let t = trial-stepped (c .before .before .before .before .before .before .before .before .before .before .before .args .steps) (p .3 .meets) _ _ (c .before .before .before .before .before .before .unify .ensures (p .0) (p .1) (p .2) (p .3 .meets)) (c .before .before .top2 .given .1) in (c .before .before .before .before .before .before .before .before .before .before .before .args .program .now, t .new, p .0, t .trailed)
+undo-requires-2 c κs = let p = c .before .before .before .before .before .before .before .before .before .before .before .pre .1 in let t = trial-stepped (c .before .before .before .before .before .before .before .before .before .before .before .args .steps) (p .3 .meets) _ _ (c .before .before .before .before .before .before .unify .ensures (p .0) (p .1) (p .2) (p .3 .meets)) (c .before .before .top2 .given .1) in (c .before .before .before .before .before .before .before .before .before .before .before .args .program .now, t .new, p .0, t .trailed)
 
 same-length-2 : tie.Need-same-length-2
 same-length-2 c = search needs
@@ -38,7 +37,7 @@ enum-known-top-3 : tie.Need-enum-known-top-3
 enum-known-top-3 c = search needs
 
 undo-requires-3 : tie.Need-undo-requires-3
-undo-requires-3 c κs = let p = c .before .before .before .before .before .before .before .before .before .before .before .pre .3 in let t = trial-pathed (c .before .before .before .before .before .before .before .before .before .before .before .args .steps) (p .3 .meets) _ _ (c .before .before .before .before .before .before .unify .ensures (p .0) (p .1) (p .2) (p .3 .meets)) (c .before .before .top3 .given .1) in (c .before .before .before .before .before .before .before .before .before .before .before .args .program .now, t .new, p .0, t .trailed)
+undo-requires-3 c κs = let p = c .before .before .before .before .before .before .before .before .before .before .before .pre .1 in let t = trial-pathed (c .before .before .before .before .before .before .before .before .before .before .before .args .steps) (p .3 .meets) _ _ (c .before .before .before .before .before .before .unify .ensures (p .0) (p .1) (p .2) (p .3 .meets)) (c .before .before .top3 .given .1) in (c .before .before .before .before .before .before .before .before .before .before .before .args .program .now, t .new, p .0, t .trailed)
 
 same-length-3 : tie.Need-same-length-3
 same-length-3 c = search needs
@@ -50,16 +49,16 @@ enum-known-top-4 : tie.Need-enum-known-top-4
 enum-known-top-4 c = search needs
 
 keep-equations-requires : tie.Need-keep-equations-requires
-keep-equations-requires c κs = let p = c .before .before .before .before .before .before .before .before .before .before .before .pre .3 in let t = trial-joined (c .before .before .before .before .before .before .before .before .before .before .before .args .steps) (p .3 .meets) _ _ (c .before .before .before .before .before .before .unify .ensures (p .0) (p .1) (p .2) (p .3 .meets)) (c .before .before .top4 .given .1) in (c .before .before .before .before .before .before .before .before .before .before .before .args .program .now, t .new, p .0, t .trailed)
+keep-equations-requires c κs = let p = c .before .before .before .before .before .before .before .before .before .before .before .pre .1 in let t = trial-joined (c .before .before .before .before .before .before .before .before .before .before .before .args .steps) (p .3 .meets) _ _ (c .before .before .before .before .before .before .unify .ensures (p .0) (p .1) (p .2) (p .3 .meets)) (c .before .before .top4 .given .1) in (c .before .before .before .before .before .before .before .before .before .before .before .args .program .now, t .new, p .0, t .trailed)
 
 sub-count : tie.Need-sub-count
-sub-count c = let p = c .before .before .before .before .before .before .before .before .before .before .before .before .before .before .pre .3 in trial-grown (c .before .before .before .before .before .before .before .before .before .before .before .before .before .before .args .steps) (p .3) _ _ (c .before .before .before .before .before .before .before .before .before .unify .ensures (p .0) (p .1) (p .2) (p .3 .meets)) (c .before .before .before .before .before .top4 .given .1)
+sub-count c = let p = c .before .before .before .before .before .before .before .before .before .before .before .before .before .before .pre .1 in trial-grown (c .before .before .before .before .before .before .before .before .before .before .before .before .before .before .args .steps) (p .3) _ _ (c .before .before .before .before .before .before .before .before .before .unify .ensures (p .0) (p .1) (p .2) (p .3 .meets)) (c .before .before .before .before .before .top4 .given .1)
 
 cast-count : tie.Need-cast-count
 cast-count c = search needs
 
 look-equations-requires : tie.Need-look-equations-requires
-look-equations-requires c κs = let p = c .before .before .before .before .before .before .before .before .before .before .before .before .before .before .before .pre .3 in let t = tried (c .before .before .before .before .before .before .before .before .before .before .before .before .before .before .before .args .steps) (p .3) _ _ (c .before .before .before .before .before .before .before .before .before .before .unify .ensures (p .0) (p .1) (p .2) (p .3 .meets)) (c .before .before .before .before .before .before .top4 .given .1) _ (c .before .before .before .keep-equations .ensures) in (p .0, reverse (t .new), t .looks)
+look-equations-requires c κs = let p = c .before .before .before .before .before .before .before .before .before .before .before .before .before .before .before .pre .1 in let t = tried (c .before .before .before .before .before .before .before .before .before .before .before .before .before .before .before .args .steps) (p .3) _ _ (c .before .before .before .before .before .before .before .before .before .before .unify .ensures (p .0) (p .1) (p .2) (p .3 .meets)) (c .before .before .before .before .before .before .top4 .given .1) _ (c .before .before .before .keep-equations .ensures) in (p .0, reverse (t .new), t .looks)
 
 enum-told : tie.Need-enum-told
 enum-told c = search needs
@@ -83,7 +82,8 @@ enum-known-after-2 : tie.Need-enum-known-after-2
 enum-known-after-2 c = search needs
 
 add-line-requires : tie.Need-add-line-requires
-add-line-requires c κs = let p = c .before .before .before .before .before .before .before .before .before .before .before .before .before .before .before .before .before .before .before .before .before .pre .3 in let g = c .before .before .before .before .before .before .before .before .before .before .before .before .before .before .before .before .before .before .before .before .before .pre .2 in let t = tried (c .before .before .before .before .before .before .before .before .before .before .before .before .before .before .before .before .before .before .before .before .before .args .steps) (p .3) _ _ (c .before .before .before .before .before .before .before .before .before .before .before .before .before .before .before .before .unify .ensures (p .0) (p .1) (p .2) (p .3 .meets)) (c .before .before .before .before .before .before .before .before .before .before .before .before .top4 .given .1) _ (c .before .before .before .before .before .before .before .before .before .keep-equations .ensures) in (c .before .before .before .before .before .before .before .before .before .before .before .before .before .before .before .before .before .before .before .before .before .pre .0, c .before .before .before .before .before .before .before .before .before .before .before .before .before .before .before .before .before .before .before .before .before .pre .1, t .looks .held .long, (g .before, g .begin, g .head, g .lines, tried-line-is t, g .top, g .names, g .page, tried-line t, names-apart (t .apart) (g .named)))
+add-line-requires c κs = let p = c .before .before .before .before .before .before .before .before .before .before .before .before .before .before .before .before .before .before .before .before .before .pre .1 in let t = tried (c .before .before .before .before .before .before .before .before .before .before .before .before .before .before .before .before .before .before .before .before .before .args .steps) (p .3) _ _ (c .before .before .before .before .before .before .before .before .before .before .before .before .before .before .before .before .unify .ensures (p .0) (p .1) (p .2) (p .3 .meets)) (c .before .before .before .before .before .before .before .before .before .before .before .before .top4 .given .1) _ (c .before .before .before .before .before .before .before .before .before .keep-equations .ensures) in
+    (writing-apart (t .apart) (c .before .before .before .before .before .before .before .before .before .before .before .before .before .before .before .before .before .before .before .before .before .pre .0), (tried-line-is t, tried-line t))
 
 same-length-6 : tie.Need-same-length-6
 same-length-6 c = search needs
@@ -92,7 +92,7 @@ same-length-7 : tie.Need-same-length-7
 same-length-7 c = search needs
 
 returns-6 : tie.Need-returns-6
-returns-6 c = λ g bs u v d. let t = tried (c .before .before .before .before .before .before .before .before .before .before .before .before .before .before .before .before .before .before .before .before .before .before .before .before .args .steps) d _ _ (c .before .before .before .before .before .before .before .before .before .before .before .before .before .before .before .before .before .before .before .unify .ensures bs u v (d .meets)) (c .before .before .before .before .before .before .before .before .before .before .before .before .before .before .before .top4 .given .1) _ (c .before .before .before .before .before .before .before .before .before .before .before .before .keep-equations .ensures) in let l = c .before .before .before .before .before .before .before .before .look-equations .ensures bs (reverse (t .new)) (t .looks) in tried-done t _ l g (c .before .before .before .before .before .before .after2 .given .1) (c .before .before .add-line .ensures (g .before) (g .begin) (g .head) (g .lines) (tried-line-is t) (g .top) (g .names) (g .page) (tried-line t) (names-apart (t .apart) (g .named)))
+returns-6 c = λ g bs u v d. let t = tried (c .before .before .before .before .before .before .before .before .before .before .before .before .before .before .before .before .before .before .before .before .before .before .before .before .args .steps) d _ _ (c .before .before .before .before .before .before .before .before .before .before .before .before .before .before .before .before .before .before .before .unify .ensures bs u v (d .meets)) (c .before .before .before .before .before .before .before .before .before .before .before .before .before .before .before .top4 .given .1) _ (c .before .before .before .before .before .before .before .before .before .before .before .before .keep-equations .ensures) in let l = c .before .before .before .before .before .before .before .before .look-equations .ensures bs (reverse (t .new)) (t .looks) in tried-done t _ l g (c .before .before .before .before .before .before .after2 .given .1) (c .before .before .add-line .ensures (writing-apart (t .apart) g) (tried-line-is t) (tried-line t))
 
 pub differ-lines-spec : {M : Type 1} → statement M
 differ-lines-spec =

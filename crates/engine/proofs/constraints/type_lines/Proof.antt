@@ -7,7 +7,7 @@ use Rattle.engine.proofs.constraints.type_lines.Statement.{statement}
 use Rattle.engine.proofs.constraints.type_lines.Tie as tie
 
 look-requires : tie.Need-look-requires
-look-requires c κs = let p = c .before .before .before .pre .3 in (p .0, p .2, p .3)
+look-requires c κs = let p = c .before .before .before .pre .1 in (p .0, p .2, p .3)
 
 enum-told : tie.Need-enum-told
 enum-told c = search needs
@@ -25,7 +25,7 @@ enum-known-rest-2 : tie.Need-enum-known-rest-2
 enum-known-rest-2 c = search needs
 
 add-typed-requires : tie.Need-add-typed-requires
-add-typed-requires c κs = let p = c .before .before .before .before .before .before .before .before .pre .3 in (c .before .before .before .before .before .before .before .before .pre .0, c .before .before .before .before .before .before .before .before .pre .1, typed-adds (p .1) (c .before .before .before .before .before .before .before .before .pre .2) (p .3) (p .4))
+add-typed-requires c κs = let p = c .before .before .before .before .before .before .before .before .pre .1 in typed-adds (p .1) (c .before .before .before .before .before .before .before .before .pre .0) (p .3) (p .4)
 
 same-length : tie.Need-same-length
 same-length c = search needs

@@ -7,7 +7,7 @@ variable-at-requires : tie.Need-variable-at-requires
 variable-at-requires c κs = search needs
 
 has-name-requires : tie.Need-has-name-requires
-has-name-requires c κs = let q = c .before .before .before .pre .1 in (q .3 .right .follows .binds .long, equation-low (q .3) (c .variable-at .ensures))
+has-name-requires c κs = let q = c .before .before .before .pre .1 in (q .3 .long, equation-low (q .2) (c .variable-at .ensures))
 
 add-right : tie.Need-add-right
 add-right c = search needs
@@ -22,13 +22,13 @@ shared-slice-read-right : tie.Need-shared-slice-read-right
 shared-slice-read-right c = search needs
 
 all-named-requires : tie.Need-all-named-requires
-all-named-requires c κs = let q = c .before .before .before .before .before .before .pre .1 in (q .0 .1, q .1, q .2, q .3 .right, q .4)
+all-named-requires c κs = let q = c .before .before .before .before .before .before .pre .1 in (q .0 .1, q .1, q .2 .right, q .3)
 
 returns : tie.Need-returns
-returns c = λ b top names h n. equation-asks names h (c .before .before .before .before .variable-at .ensures) (c .before .before .before .has-name .ensures top names n) (c .before .before .if1 .taken) (c .all-named .ensures (b .1) top names (h .right) n)
+returns c = λ b names h g. equation-asks names h (c .before .before .before .before .variable-at .ensures) (c .before .before .before .has-name .ensures names g) (c .before .before .if1 .taken) (c .all-named .ensures (b .1) names (h .right) g)
 
 returns-2 : tie.Need-returns-2
-returns-2 c = λ b top names h n. equation-lacks names h (c .before .before .variable-at .ensures) (c .before .has-name .ensures top names n) (c .if1 .left)
+returns-2 c = λ b names h g. equation-lacks names h (c .before .before .variable-at .ensures) (c .before .has-name .ensures names g) (c .if1 .left)
 
 pub equation-named-spec : {M : Type 1} → statement M
 equation-named-spec =

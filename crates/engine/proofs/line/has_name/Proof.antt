@@ -13,10 +13,10 @@ shared-slice-read-if1 : tie.Need-shared-slice-read-if1
 shared-slice-read-if1 c = search needs
 
 returns : tie.Need-returns
-returns c = λ top names n. name-missing (c .before .before .pre .1) n (c .if1 .taken)
+returns c = λ names g. name-missing (c .before .before .pre .1) g (c .if1 .taken)
 
 returns-2 : tie.Need-returns-2
-returns-2 c = λ top names n. name-there (c .before .before .pre .1) n (c .if1 .left)
+returns-2 c = λ names g. name-there (c .before .before .pre .1) g (c .if1 .left)
 
 pub has-name-spec : {M : Type 1} → statement M
 has-name-spec = tie.close (tie.spec add-if1 mul-if1 shared-slice-read-if1 returns returns-2)

@@ -1,4 +1,4 @@
-use Rattle.engine.proofs.PutLaws.{laid-of}
+use Rattle.engine.proofs.PutLaws.{puts-behind, laid-of}
 use Rattle.engine.proofs.LineLaws.{lacks-missed, lacks-no-tag, lacks-put}
 use borrow.Author.Needs.{needs}
 use Rattle.engine.proofs.line.put_lacks.Statement.{statement}
@@ -17,7 +17,7 @@ same-length : tie.Need-same-length
 same-length c = search needs
 
 returns : tie.Need-returns
-returns c = λ top names n m l. lacks-missed _ names _ (c .before .before .before .before .before .new .ensures) (c .before .before .before .before .put-one .ensures l) (c .enum-told .given .1)
+returns c = λ names g. lacks-missed _ names _ (c .before .before .before .before .before .new .ensures) (c .before .before .before .before .put-one .ensures (g .from)) (c .enum-told .given .1)
 
 enum-known-second : tie.Need-enum-known-second
 enum-known-second c = search needs
@@ -32,20 +32,21 @@ same-length-2 : tie.Need-same-length-2
 same-length-2 c = search needs
 
 returns-2 : tie.Need-returns-2
-returns-2 c = λ top names n m l. let p = c .before .before .before .before .before .before .before .before .before .before .before .put-one .ensures l in let e = c .before .before .before .before .before .before .before .second .given .1 in lacks-no-tag _ names _ (c .before .before .before .before .before .before .before .before .before .before .before .before .new .ensures) p e (c .before .before .before .before .put-one2 .ensures (laid-of p e .fits)) (c .enum-told2 .given .1)
+returns-2 c = λ names g. let p = c .before .before .before .before .before .before .before .before .before .before .before .put-one .ensures (g .from) in let e = c .before .before .before .before .before .before .before .second .given .1 in lacks-no-tag _ names _ (c .before .before .before .before .before .before .before .before .before .before .before .before .new .ensures) p e (c .before .before .before .before .put-one2 .ensures (laid-of p e .fits)) (c .enum-told2 .given .1)
 
 enum-known-third : tie.Need-enum-known-third
 enum-known-third c = search needs
 
 put-variable-requires : tie.Need-put-variable-requires
-put-variable-requires c κs = search needs
+put-variable-requires c κs = let q = c .before .before .before .before .before .before .before .before .before .before .before .before .before .before .before .before .before .before .pre in let g = q .1 .1 in let d = laid-of (c .before .before .before .before .before .before .before .before .before .before .before .before .before .put-one .ensures (g .from)) (c .before .before .before .before .before .before .before .before .before .second .given .1) in
+    (q .0, (q .1 .0, puts-behind (puts-behind g d (g .known)) (laid-of (c .before .before .before .before .before .before .put-one2 .ensures (d .fits)) (c .before .before .third .given .1)) (g .known)))
 
 same-length-3 : tie.Need-same-length-3
 same-length-3 c = search needs
 
 returns-3 : tie.Need-returns-3
-returns-3 c = λ top names n m l. let p = c .before .before .before .before .before .before .before .before .before .before .before .before .before .before .before .before .put-one .ensures l in let e = c .before .before .before .before .before .before .before .before .before .before .before .before .second .given .1 in let u = c .before .before .before .before .before .before .before .before .before .put-one2 .ensures (laid-of p e .fits) in let f = c .before .before .before .before .before .third .given .1 in
-    lacks-put _ names _ (c .before .before .before .before .before .before .before .before .before .before .before .before .before .before .before .before .before .new .ensures) p e u f (c .before .before .put-variable .ensures top names n m (laid-of u f .fits))
+returns-3 c = λ names g. let p = c .before .before .before .before .before .before .before .before .before .before .before .before .before .before .before .before .put-one .ensures (g .from) in let e = c .before .before .before .before .before .before .before .before .before .before .before .before .second .given .1 in let d = laid-of p e in let u = c .before .before .before .before .before .before .before .before .before .put-one2 .ensures (d .fits) in let f = c .before .before .before .before .before .third .given .1 in
+    lacks-put _ names _ (c .before .before .before .before .before .before .before .before .before .before .before .before .before .before .before .before .before .new .ensures) p e u f (c .before .before .put-variable .ensures names (puts-behind (puts-behind g d (g .known)) (laid-of u f) (g .known)))
 
 pub put-lacks-spec : {M : Type 1} → statement M
 put-lacks-spec =

@@ -1,4 +1,4 @@
-use Rattle.engine.proofs.PutLaws.{laid-of}
+use Rattle.engine.proofs.PutLaws.{puts-behind, laid-of}
 use Rattle.engine.proofs.LineLaws.{typed-missed, typed-put}
 use borrow.Author.Needs.{needs}
 use Rattle.engine.proofs.line.put_typed.Statement.{statement}
@@ -17,19 +17,19 @@ same-length : tie.Need-same-length
 same-length c = search needs
 
 returns : tie.Need-returns
-returns c = λ top names n m l. typed-missed names _ (c .before .before .before .before .before .before .before .before .before .pre .3) (c .before .before .before .before .before .new .ensures) (c .before .before .before .before .put-one .ensures l) (c .enum-told .given .1)
+returns c = λ names g. typed-missed names _ (c .before .before .before .before .before .before .before .before .before .pre .1) (c .before .before .before .before .before .new .ensures) (c .before .before .before .before .put-one .ensures (g .from)) (c .enum-told .given .1)
 
 enum-known-next : tie.Need-enum-known-next
 enum-known-next c = search needs
 
 put-variable-requires : tie.Need-put-variable-requires
-put-variable-requires c κs = search needs
+put-variable-requires c κs = let p = c .before .before .before .before .before .before .before .before .before .before .before .pre in let g = p .2 .1 in (p .0, (p .2 .0, puts-behind g (laid-of (c .before .before .before .before .before .before .put-one .ensures (g .from)) (c .before .before .next .given .1)) (g .known)))
 
 same-length-2 : tie.Need-same-length-2
 same-length-2 c = search needs
 
 returns-2 : tie.Need-returns-2
-returns-2 c = λ top names n m l. let p = c .before .before .before .before .before .before .before .before .before .put-one .ensures l in typed-put names _ (c .before .before .before .before .before .before .before .before .before .before .before .before .before .before .pre .3) (c .before .before .before .before .before .before .before .before .before .before .new .ensures) p (c .before .before .before .before .before .next .given .1) (c .before .before .put-variable .ensures top names n m (laid-of p (c .before .before .before .before .before .next .given .1) .fits))
+returns-2 c = λ names g. let p = c .before .before .before .before .before .before .before .before .before .put-one .ensures (g .from) in let e = c .before .before .before .before .before .next .given .1 in typed-put names _ (c .before .before .before .before .before .before .before .before .before .before .before .before .before .before .pre .1) (c .before .before .before .before .before .before .before .before .before .before .new .ensures) p e (c .before .before .put-variable .ensures names (puts-behind g (laid-of p e) (g .known)))
 
 pub put-typed-spec : {M : Type 1} → statement M
 put-typed-spec =

@@ -41,8 +41,8 @@ add-absent-μ-loop program scratch output₀ tag term first end at from₀ place
 -- where the loop is, for what the caller knows
 now-at : (t : ℕ) (c : add-absent-lts.At-loop (add-absent-claims t) (add-absent-at t) add-absent.Post add-absent-Inv-loop add-absent-μ-loop)
     → (let a = c .before .before .before .before .args in
-    AbsentFor (a .program .now) (a .scratch .now) (a .output .now) (c .loop .output) (a .tag) (a .term) (c .loop .from) (a .first) (a .end) (a .at) (c .loop .place) (c .before .before .before .before .pre .1 .2))
-now-at t c = c .loop .inv .1 (c .before .before .before .before .pre .1 .2)
+    AbsentFor (a .program .now) (a .scratch .now) (a .output .now) (c .loop .output) (a .tag) (a .term) (c .loop .from) (a .first) (a .end) (a .at) (c .loop .place) (c .before .before .before .before .pre .1))
+now-at t c = c .loop .inv .1 (c .before .before .before .before .pre .1)
 
 add-absent-loop-holds : (t : ℕ) → add-absent-lts.Need-loop-holds (add-absent-claims t) (add-absent-at t) add-absent.Post add-absent-Inv-loop add-absent-μ-loop
 add-absent-loop-holds t c = (omega arith, λ g. absent-start g)
@@ -54,11 +54,10 @@ add-absent-enum-known-x : (t : ℕ) → add-absent-lts.Need-enum-known-x (add-ab
 add-absent-enum-known-x t c = search needs
 
 add-absent-add-line-requires : (t : ℕ) → add-absent-lts.Need-add-line-requires (add-absent-claims t) (add-absent-at t) add-absent.Post add-absent-Inv-loop add-absent-μ-loop
-add-absent-add-line-requires t c κs = let h = now-at t (c .before .before .before .before .before) in let g = h .rest in
-    (omega (arith, page-long (c .before .before .before .before .before .before .before .before .before .pre .1 .2 .writing .page) (g .writing .page) (sym (h .is-before)), c .before .before .before .before .before .before .before .before .before .pre .1 .0), c .before .before .before .before .before .before .before .before .before .pre .1 .1, g .here .follows .binds .long, (g .writing .before, g .writing .begin, g .writing .head, g .writing .lines, _, g .writing .top, g .writing .names, g .writing .page, absent-as h (c .before .before .before .before .follow .ensures) (c .before .before .x .given .1), g .writing .named))
+add-absent-add-line-requires t c κs = let h = now-at t (c .before .before .before .before .before) in (h .rest .writing, (_, absent-as h (c .before .before .before .before .follow .ensures) (c .before .before .x .given .1)))
 
 add-absent-same-length : (t : ℕ) → add-absent-lts.Need-same-length (add-absent-claims t) (add-absent-at t) add-absent.Post add-absent-Inv-loop add-absent-μ-loop
-add-absent-same-length t c = let h = now-at t (c .before .before .before .before .before .before .before .before) in page-long (c .before .before .before .before .before .before .before .before .before .before .before .before .pre .1 .2 .writing .page) (absent-add h (c .before .before .before .before .before .before .before .follow .ensures) (c .before .before .before .before .before .x .given .1) (c .before .before .add-line .ensures)) refl
+add-absent-same-length t c = let h = now-at t (c .before .before .before .before .before .before .before .before) in page-long (c .before .before .before .before .before .before .before .before .before .before .before .before .pre .1 .writing .page) (absent-add h (c .before .before .before .before .before .before .before .follow .ensures) (c .before .before .before .before .before .x .given .1) (c .before .before .add-line .ensures)) refl
 
 add-absent-returns : (t : ℕ) → add-absent-lts.Need-returns (add-absent-claims t) (add-absent-at t) add-absent.Post add-absent-Inv-loop add-absent-μ-loop
 add-absent-returns t c = λ g. absent-add (c .before .before .before .before .before .before .before .before .loop .inv .1 g) (c .before .before .before .before .before .before .before .follow .ensures) (c .before .before .before .before .before .x .given .1) (c .before .before .add-line .ensures)
@@ -67,7 +66,7 @@ add-absent-enum-told : (t : ℕ) → add-absent-lts.Need-enum-told (add-absent-c
 add-absent-enum-told t c = search needs
 
 add-absent-same-length-2 : (t : ℕ) → add-absent-lts.Need-same-length-2 (add-absent-claims t) (add-absent-at t) add-absent.Post add-absent-Inv-loop add-absent-μ-loop
-add-absent-same-length-2 t c = let h = now-at t (c .before .before .before) in page-long (c .before .before .before .before .before .before .before .pre .1 .2 .writing .page) (h .rest .writing .page) (sym (h .is-before))
+add-absent-same-length-2 t c = let h = now-at t (c .before .before .before) in page-long (c .before .before .before .before .before .before .before .pre .1 .writing .page) (h .rest .writing .page) (sym (h .is-before))
 
 add-absent-returns-2 : (t : ℕ) → add-absent-lts.Need-returns-2 (add-absent-claims t) (add-absent-at t) add-absent.Post add-absent-Inv-loop add-absent-μ-loop
 add-absent-returns-2 t c = λ g. absent-leaf (c .before .before .before .loop .inv .1 g) (c .before .before .follow .ensures) (c .enum-told .given .1)
@@ -77,7 +76,7 @@ add-absent-enum-known-a t c = search needs
 
 add-absent-add-absent-requires : (t : ℕ) → add-absent-lts.Need-add-absent-requires (add-absent-claims t) (add-absent-at t) add-absent.Post add-absent-Inv-loop add-absent-μ-loop
 add-absent-add-absent-requires t c κs = let h = now-at t (c .before .before .before .before .before) in let p = absent-pair h (c .before .before .before .before .follow .ensures) (c .before .before .a .given .1) in
-    (omega (arith, c .before .before .before .before .before .loop .inv .0, c .before .before .before .before .before .before .before .before .before .pre .0, p .first-falls), (omega (arith, page-long (c .before .before .before .before .before .before .before .before .before .pre .1 .2 .writing .page) (h .rest .writing .page) (sym (h .is-before)), c .before .before .before .before .before .before .before .before .before .pre .1 .0), c .before .before .before .before .before .before .before .before .before .pre .1 .1, absent-first h p))
+    (omega (arith, c .before .before .before .before .before .loop .inv .0, c .before .before .before .before .before .before .before .before .before .pre .0, p .first-falls), absent-first h p)
 
 add-absent-loop-less : (t : ℕ) → add-absent-lts.Need-loop-less (add-absent-claims t) (add-absent-at t) add-absent.Post add-absent-Inv-loop add-absent-μ-loop
 add-absent-loop-less t c = let p = absent-pair (now-at t (c .before .before .before .before .before .before .before .before)) (c .before .before .before .before .before .before .before .follow .ensures) (c .before .before .before .before .before .a .given .1) in p .second-falls (p .second-here)

@@ -10,7 +10,7 @@ enum-known-x : tie.Need-enum-known-x
 enum-known-x c = search needs
 
 add-line-requires : tie.Need-add-line-requires
-add-line-requires c κs = let g = c .before .before .before .before .before .before .before .before .pre .2 in (c .before .before .before .before .before .before .before .before .pre .0, c .before .before .before .before .before .before .before .before .pre .1, g .here .follows .binds .long, (g .writing .before, g .writing .begin, g .writing .head, g .writing .lines, _, g .writing .top, g .writing .names, g .writing .page, typed-as g (c .before .before .before .before .follow .ensures) (c .before .before .x .given .1), g .writing .named))
+add-line-requires c κs = let g = c .before .before .before .before .before .before .before .before .pre in (g .writing, (_, typed-as g (c .before .before .before .before .follow .ensures) (c .before .before .x .given .1)))
 
 same-length : tie.Need-same-length
 same-length c = search needs

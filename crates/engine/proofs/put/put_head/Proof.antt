@@ -22,13 +22,13 @@ same-length : tie.Need-same-length
 same-length c = search needs
 
 returns : tie.Need-returns
-returns c = λ o end v h. head-put (c .before .before .before .before .before .before .before .pre .3) (c .before .before .before .before .before .before .before .pre .2) (c .before .before .before .put-word .ensures) (c .before .before .before .before .new .ensures) o end v h (c .if1 .taken)
+returns c = λ o end v h. head-put (c .before .before .before .before .before .before .before .pre .2) (c .before .before .before .before .before .before .before .pre .1 .short) (c .before .before .before .put-word .ensures) (c .before .before .before .before .new .ensures) o end v h (c .if1 .taken)
 
 same-length-2 : tie.Need-same-length-2
 same-length-2 c = search needs
 
 returns-2 : tie.Need-returns-2
-returns-2 c = λ o end v h. head-missed (c .before .before .before .before .before .before .before .pre .3) (c .before .before .before .before .before .before .before .pre .2) (c .before .before .before .put-word .ensures) (c .before .before .before .before .new .ensures) o end v h (c .if1 .left)
+returns-2 c = λ o end v h. head-missed (c .before .before .before .before .before .before .before .pre .2) (c .before .before .before .before .before .before .before .pre .1 .short) (c .before .before .before .put-word .ensures) (c .before .before .before .before .new .ensures) o end v h (c .if1 .left)
 
 pub put-head-spec : {M : Type 1} → statement M
 put-head-spec =

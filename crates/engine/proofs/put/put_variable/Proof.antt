@@ -14,7 +14,7 @@ shared-slice-read-number : tie.Need-shared-slice-read-number
 shared-slice-read-number c = search needs
 
 sub-number : tie.Need-sub-number
-sub-number c = omega (arith, variable-number (c .before .before .before .pre .2) (c .before .before .before .pre .3 .2) (c .before .before .before .pre .3 .3))
+sub-number c = let p = c .before .before .before .pre in omega (arith, variable-number (p .0) (p .1 .1 .given .named) (p .1 .1 .known))
 
 new-requires : tie.Need-new-requires
 new-requires c κs = search needs
@@ -26,7 +26,7 @@ same-length : tie.Need-same-length
 same-length c = search needs
 
 returns : tie.Need-returns
-returns c = λ top names n m l. variable-put (c .before .before .before .before .before .before .before .before .pre .2) n m (c .before .before .before .new .ensures) (c .before .before .put-one .ensures l)
+returns c = λ names g. variable-put (c .before .before .before .before .before .before .before .before .pre .0) (g .given .named) (g .known) (c .before .before .before .new .ensures) (c .before .before .put-one .ensures (g .from))
 
 pub put-variable-spec : {M : Type 1} → statement M
 put-variable-spec =

@@ -5,7 +5,7 @@ use native.Mathlib.Omega.{arith}
 use Rattle.semantics.specs.Substitution.{Substitution}
 use Rattle.engine.specs.Query.{Query}
 use Rattle.engine.proofs.PutLaws.{placed-long}
-use Rattle.engine.proofs.QueryLaws.{PuttingAll, putting-all-start, putting-all-next, putting-all-missed, putting-all-end}
+use Rattle.engine.proofs.QueryLaws.{query-puts, PuttingAll, putting-all-start, putting-all-next, putting-all-missed, putting-all-end}
 use borrow.Author.Needs.{needs}
 use Rattle.engine.proofs.query.put_parameters.Statement.{statement}
 use Rattle.engine.proofs.query.put_parameters.Tie as tie
@@ -17,35 +17,35 @@ abbrev μ-loop : tie.MeasureT-loop
 μ-loop program scratch output₀ count start end at₀ x₀ output at x = count - x
 
 -- what is put so far, for the query terms that the caller knows of
-now-at : (c : tie.At-loop Inv-loop μ-loop) → (let a = c .before .before .before .before .args in let q = c .before .before .before .before .pre .4 in PuttingAll (a .output .now) (c .loop .output) (q .0) (q .1) (a .count) (a .start) (a .end) (c .loop .x) (c .loop .at))
-now-at c = let q = c .before .before .before .before .pre .4 in c .loop .inv (q .0) (q .1) (q .2)
+now-at : (c : tie.At-loop Inv-loop μ-loop) → (let a = c .before .before .before .before .args in let q = c .before .before .before .before .pre .3 in PuttingAll (a .output .now) (c .loop .output) (q .0) (q .1) (a .count) (a .start) (a .end) (c .loop .x) (c .loop .at))
+now-at c = let q = c .before .before .before .before .pre .3 in c .loop .inv (q .0) (q .1) (q .2)
 
 loop-holds : tie.Need-loop-holds Inv-loop μ-loop
 loop-holds c = λ bs names q. putting-all-start _ bs names _ _ _ (c .before .before .before .pre .0)
 
 put-parameter-requires : tie.Need-put-parameter-requires Inv-loop μ-loop
-put-parameter-requires c κs = let p = c .before .before .before .before .before .before .pre in let q = p .4 .2 in let g = now-at (c .before .before) in (g .laid .fits, omega (arith, g .laid .touched .long, p .1), p .2, omega (arith, c .before .loop-test .taken, p .3), (p .4 .0, q .top, p .4 .1, q .binds, q .named, q .known _ (c .before .loop-test .taken)))
+put-parameter-requires c κs = let p = c .before .before .before .before .before .before .pre in let l = c .before .loop-test .taken in (omega (arith, l, p .2), (p .3 .0, p .3 .1, p .3 .2 .binds, query-puts (p .1) (p .3 .2) (now-at (c .before .before) .laid) l))
 
 enum-known-next : tie.Need-enum-known-next Inv-loop μ-loop
 enum-known-next c = search needs
 
 add-x : tie.Need-add-x Inv-loop μ-loop
-add-x c = omega (arith, c .before .before .before .before .before .before .before .loop-test .taken, c .before .before .before .before .before .before .before .before .before .before .before .before .pre .3)
+add-x c = omega (arith, c .before .before .before .before .before .before .before .loop-test .taken, c .before .before .before .before .before .before .before .before .before .before .before .before .pre .2)
 
 loop-less : tie.Need-loop-less Inv-loop μ-loop
 loop-less c = omega (arith, c .before .before .before .before .before .before .before .loop-test .taken)
 
 loop-again : tie.Need-loop-again Inv-loop μ-loop
-loop-again c = λ bs names q. let l = c .before .before .before .before .before .before .before .loop-test .taken in putting-all-next (c .before .before .before .before .before .before .before .before .loop .inv bs names q) l (c .before .before .before .before .before .put-parameter .ensures bs (q .top) names (q .binds) (q .named) (q .known _ l)) (c .before .next .given .1)
+loop-again c = λ bs names q. let l = c .before .before .before .before .before .before .before .loop-test .taken in let g = c .before .before .before .before .before .before .before .before .loop .inv bs names q in putting-all-next g l (c .before .before .before .before .before .put-parameter .ensures bs names (q .binds) (query-puts (c .before .before .before .before .before .before .before .before .before .before .before .before .pre .1) q (g .laid) l)) (c .before .next .given .1)
 
 enum-told : tie.Need-enum-told Inv-loop μ-loop
 enum-told c = search needs
 
 same-length : tie.Need-same-length Inv-loop μ-loop
-same-length c = let p = c .before .before .before .before .before .before .before .before .before .before .before .pre .4 in let q = p .2 in let l = c .before .before .before .before .before .before .loop-test .taken in placed-long (putting-all-missed (now-at (c .before .before .before .before .before .before .before)) l (c .before .before .before .before .put-parameter .ensures (p .0) (q .top) (p .1) (q .binds) (q .named) (q .known _ l)) (c .enum-told .given .1))
+same-length c = let p = c .before .before .before .before .before .before .before .before .before .before .before .pre in let l = c .before .before .before .before .before .before .loop-test .taken in let g = now-at (c .before .before .before .before .before .before .before) in placed-long (putting-all-missed g l (c .before .before .before .before .put-parameter .ensures (p .3 .0) (p .3 .1) (p .3 .2 .binds) (query-puts (p .1) (p .3 .2) (g .laid) l)) (c .enum-told .given .1))
 
 returns : tie.Need-returns Inv-loop μ-loop
-returns c = λ bs names q. let l = c .before .before .before .before .before .before .loop-test .taken in putting-all-missed (c .before .before .before .before .before .before .before .loop .inv bs names q) l (c .before .before .before .before .put-parameter .ensures bs (q .top) names (q .binds) (q .named) (q .known _ l)) (c .enum-told .given .1)
+returns c = λ bs names q. let l = c .before .before .before .before .before .before .loop-test .taken in let g = c .before .before .before .before .before .before .before .loop .inv bs names q in putting-all-missed g l (c .before .before .before .before .put-parameter .ensures bs names (q .binds) (query-puts (c .before .before .before .before .before .before .before .before .before .before .before .pre .1) q (g .laid) l)) (c .enum-told .given .1)
 
 same-length-2 : tie.Need-same-length-2 Inv-loop μ-loop
 same-length-2 c = now-at (c .before) .laid .touched .long

@@ -3,7 +3,7 @@ use Prim.Native.Nat.{ℕ, zero, suc, _-_, _<_}
 use mathlib.Core.Path.{_≡_, refl, sym, ap, subst, _∙_}
 use mathlib.Core.List.{List}
 use native.Mathlib.Omega.{arith}
-use Rattle.rules.specs.Syntax.{Term, Sort, symbols, numbers, Constraint, differ, typed, absento, Goal, Goals, equal, constrain, conj, disj, call, Program}
+use Rattle.rules.specs.Syntax.{Term, Constraint, differ, typed, absento, Goal, Goals, equal, constrain, conj, disj, call, Program}
 use Rattle.rules.specs.Written.{sort-kind}
 use Rattle.rules.specs.Reading.{kind-at}
 use Rattle.semantics.specs.Substitution.{shift, shift-constraint}
@@ -16,6 +16,7 @@ use Rattle.engine.specs.declared.state.State.{State}
 use Rattle.engine.specs.declared.state.Stop.the-variants.{Steps}
 use Rattle.engine.specs.declared.state.Way.the-variants.{Stops}
 use Rattle.engine.specs.declared.state.Took.{Took}
+use Rattle.engine.proofs.ReferenceLaws.{sort-low}
 use Rattle.engine.proofs.TookLaws.{took-stops}
 
 -- the kind of each goal's word
@@ -36,10 +37,6 @@ goal-kind ws pos (constrain (absento a t)) h = h .0
 goal-kind ws pos (conj gs) h = h .0
 goal-kind ws pos (disj gs) h = h .0
 goal-kind ws pos (call r ts) h = h .0
-
-sort-low : (k : Sort) → (6 < sort-kind k) × (sort-kind k < 9)
-sort-low symbols = omega arith
-sort-low numbers = omega arith
 
 is-equal : (g : Goal) → kind-of g ≡ 5 → (s : Term) × (t : Term) × (g ≡ equal s t)
 is-equal (equal s t) e = (s, t, refl)

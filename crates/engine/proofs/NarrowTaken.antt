@@ -19,7 +19,7 @@ use Rattle.semantics.proofs.TermLaws.{TermIn, ConstraintIn, shift-in, shift-con
 use Rattle.engine.specs.Reference.{pos-of, Stands, TaskAt, VarsC, KeepsAt}
 use Rattle.engine.specs.Memory.{kept-at, Stored}
 use Rattle.engine.specs.Unify.{Meets, Went, UnifiedAs}
-use Rattle.engine.specs.Review.{Kept, review-says, ReviewedAs}
+use Rattle.engine.specs.Review.{Kept, Reviews, review-says, ReviewedAs}
 use Rattle.engine.specs.Taking.{registers, Holds, Ready, TookAs, narrow, took-as, review-took}
 use Rattle.engine.specs.declared.state.State.{State}
 use Rattle.engine.specs.declared.Bound.the-variants.{Constraints, Waiting}
@@ -157,7 +157,7 @@ module _ {P : Program} {ws s : List ℕ} {st : State} {w : ℕ} {p : Path} {cs :
       let f : leb (suc (length (p .kept))) 512 ≡ false = lt-leb (suc (length (p .kept))) 512 (omega (arith, held .path-in .kept)) in
       took-bound p (rw f refl)
 
-  pub constraint-keeps : KeepsAt ws w (shift-constraint base c)
+  constraint-keeps : KeepsAt ws w (shift-constraint base c)
   constraint-keeps =
       let t = k .task-in in
       keeps-task ws w base c (k .taking .task-at) (constraint-vars (p .made) (shift-constraint base c) (k .sound .few-made) (shift-constraint-in base (t .0) (p .made) c (t .1) (t .2)))
@@ -166,19 +166,19 @@ module _ {P : Program} {ws s : List ℕ} {st : State} {w : ℕ} {p : Path} {cs :
     now-kept : Stored P ws (set s (kept-at (st .kept)) w) (constrained (registers st)) (st .choices) (keeping p (shift-constraint base c)) cs
     now-kept = keep (shift-constraint base c) w fits constraint-keeps held
 
-    pub constraint-kept : Kept ws (set s (kept-at (st .kept)) w) (p .bindings) (p .kept ++ (shift-constraint base c ∷ [])) (st .trail) (st .kept + 1)
-    constraint-kept = stored-kept now-kept (k .short) (k .sound .good)
+    pub constraint-reviews : Reviews ws (set s (kept-at (st .kept)) w) (p .bindings) (p .kept ++ (shift-constraint base c ∷ [])) (st .trail) (st .kept + 1) w (shift-constraint base c)
+    constraint-reviews = record { whole = stored-kept now-kept (k .short) (k .sound .good); keeps = constraint-keeps }
 
     pub constraint-long : {s″ : List ℕ} {q : Reviewed}
-        → ((bs : Substitution) (ds : List Constraint) (d : Constraint) → Kept ws (set s (kept-at (st .kept)) w) bs ds (st .trail) (st .kept + 1) → KeepsAt ws w d
+        → ((bs : Substitution) (ds : List Constraint) (d : Constraint) → Reviews ws (set s (kept-at (st .kept)) w) bs ds (st .trail) (st .kept + 1) w d
         → ReviewedAs ws (set s (kept-at (st .kept)) w) s″ bs (review bs ds d (st .left)) q) → length s″ ≡ length s
-    constraint-long reviews = reviews (p .bindings) (p .kept ++ (shift-constraint base c ∷ [])) (shift-constraint base c) constraint-kept constraint-keeps .apart .long ∙ length-set s (kept-at (st .kept)) w
+    constraint-long reviews = reviews (p .bindings) (p .kept ++ (shift-constraint base c ∷ [])) (shift-constraint base c) constraint-reviews .apart .long ∙ length-set s (kept-at (st .kept)) w
 
     pub constraint-took : {q : Reviewed} {joint : State} {took : Took} {s″ : List ℕ}
-        → ((bs : Substitution) (ds : List Constraint) (d : Constraint) → Kept ws (set s (kept-at (st .kept)) w) bs ds (st .trail) (st .kept + 1) → KeepsAt ws w d
+        → ((bs : Substitution) (ds : List Constraint) (d : Constraint) → Reviews ws (set s (kept-at (st .kept)) w) bs ds (st .trail) (st .kept + 1) w d
         → ReviewedAs ws (set s (kept-at (st .kept)) w) s″ bs (review bs ds d (st .left)) q)
         → joint ≡ narrow st (st .trail) (st .kept + 1) (st .left) → took ≡ review-took joint q → TookAs P ws s″ cs (take-constraint p cs (shift-constraint base c) (st .left)) (took .way) (took .state)
     constraint-took {q} {joint} {took} {s″} reviews f t =
-        let v′ = reviews (p .bindings) (p .kept ++ (shift-constraint base c ∷ [])) (shift-constraint base c) constraint-kept constraint-keeps in
+        let v′ = reviews (p .bindings) (p .kept ++ (shift-constraint base c ∷ [])) (shift-constraint base c) constraint-reviews in
         let y : leb (suc (length (p .kept))) 512 ≡ true = le-leb (suc (length (p .kept))) 512 (omega (arith, held .path-in .kept)) in
         rw (y, t, f) (reviewed-took (narrow st (st .trail) (st .kept + 1) (st .left)) q (review (p .bindings) (p .kept ++ (shift-constraint base c ∷ [])) (shift-constraint base c) (st .left)) (reviewed-stored now-kept v′) (v′ .says))

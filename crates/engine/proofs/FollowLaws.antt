@@ -4,7 +4,6 @@ use mathlib.Core.Path.{_≡_, refl, sym, ap, subst, _∙_}
 use mathlib.Core.List.{List}
 use native.Mathlib.Omega.{arith}
 use lib.ListN.{length}
-use Rattle.word.specs.Word.{kind, payload, word}
 use Rattle.rules.specs.Syntax.{Atom, symbol, number, empty, Term, var, atom, pair}
 use Rattle.rules.specs.Written.{atom-word}
 use Rattle.semantics.specs.Substitution.{Substitution, resolve, walk}

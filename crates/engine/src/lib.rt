@@ -36,7 +36,6 @@ use crate::table::fill;
 use rules::Verdict;
 ghost use mathlib.Core.Path.{_≡_};
 ghost use mathlib.Core.List.{[], _∷_};
-ghost use Prim.Native.Nat.{ℕ};
 ghost use Rattle.semantics.specs.Steps.{bound-number};
 ghost use Rattle.engine.specs.Report.{Called, Kept, bound-of, end-numbers, ended};
 ghost use Rattle.engine.specs.Running.{Admitted, Turned};

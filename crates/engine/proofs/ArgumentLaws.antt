@@ -1,14 +1,13 @@
 -- The arguments of a call: past a term, to the last variable on an argument's way, and parameters bound one after the other.
-use Prim.Native.Nat.{ℕ, zero, suc, _+_, _-_, _≤_, _<_}
+use Prim.Native.Nat.{ℕ, suc, _+_, _-_, _≤_, _<_}
 use mathlib.Core.Path.{_≡_, refl, sym, ap, subst, _∙_}
 use mathlib.Core.Option.{Option, Option·some-injective, none, some}
 use mathlib.Core.List.{List, [], _∷_}
 use native.Mathlib.Omega.{arith}
 use lib.ListN.{length}
-use Rattle.word.specs.Word.{kind}
+use Rattle.rules.specs.Lists.{Each}
 use Rattle.rules.specs.Syntax.{Term, var, atom, pair}
 use Rattle.rules.specs.Reading.{payload-at}
-use Rattle.rules.specs.Lists.{Each}
 use Rattle.semantics.specs.Substitution.{shift, Substitution, lookup, argument}
 use Rattle.semantics.specs.Path.{bind-params}
 use Rattle.semantics.specs.Invariant.{TermIn, term-size}
@@ -16,12 +15,12 @@ use Rattle.semantics.proofs.Basics.{each-map}
 use Rattle.semantics.proofs.SubstitutionLaws.{Last, last-here, last-some, in-open}
 use Rattle.semantics.proofs.TermLaws.{term-more}
 use Rattle.semantics.proofs.Sound.{sound-call}
-use Rattle.engine.specs.Reference.{at, TermAt, TermsAt, refer, pos-of, base-of, Vars, Stands}
+use Rattle.engine.specs.Reference.{at, TermsAt, refer, pos-of, base-of, Vars, Stands}
 use Rattle.engine.specs.Memory.{Bound, Entry, BindingsIn, bound}
 use Rattle.engine.specs.Walk.{NodeAt, Follows}
 use Rattle.engine.specs.Calling.{Passing, Passed}
 use Rattle.engine.specs.Trail.{Apart}
-use Rattle.engine.proofs.ReferenceLaws.{term-longer, terms-longer, atom-low}
+use Rattle.engine.proofs.ReferenceLaws.{stands-at, term-longer, terms-longer, atom-low}
 use Rattle.engine.proofs.GoalLaws.{term-shift}
 use Rattle.engine.proofs.TrailLaws.{fresh-room, bind-in, apart-trans, bound-apart}
 
@@ -136,6 +135,7 @@ pub record First (ws s : List ℕ) (base to : ℕ) (x n w : ℕ) (ts : List Term
   pub room : n < 2048
 
 pub pass-first : (ws s₀ s : List ℕ) (base to : ℕ) (whole : Substitution) (x n w count : ℕ) (p : Passing ws s₀ s base to whole x n w count) → (count ≡ 0 → ⊥) → First ws s base to x n w (p .args)
+unfolding stands-at
 pass-first ws s₀ s base to whole x n w count p some-left = go (p .args) (p .many) (p .terms) (p .in-range)
   where
     bs : Substitution
@@ -153,17 +153,8 @@ pass-first ws s₀ s base to whole x n w count p some-left = go (p .args) (p .ma
         let f : x + count ≤ 2048 = p .fits in
         let low : base ≤ 2048 = p .low in
         let is-w : w ≡ refer from base = p .is-w in
-        let is-pos : pos-of w ≡ from = omega arith in
-        let is-base : base-of w ≡ base = omega arith in
         let x-new : x < 2048 = omega (arith, e) in
-        let st : Stands ws w (shift base t) = record {
-          to = mid;
-          reads = subst (λ b. TermAt ws b (pos-of w) mid (shift base t)) (sym is-base) (subst (λ j. TermAt ws base j mid (shift base t)) (sym is-pos) (term-shift ws base from mid t (h .1)));
-          inside = omega arith;
-          small = omega arith;
-          below = omega arith;
-          in-range = term-vars x (shift base t) (omega arith) (i .0);
-        } in
+        let st : Stands ws w (shift base t) = stands-at ws base from mid w (shift base t) is-w (term-shift ws base from mid t (h .1)) (omega arith) (omega arith) low (term-vars x (shift base t) (omega arith) (i .0)) in
         record {
           now-bound = bs;
           term = t;

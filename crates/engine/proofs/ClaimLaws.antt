@@ -1,6 +1,6 @@
 -- From stored words to a longer path: what may be claimed of words that are there, and the stores that put them there.
 use Prim.Native.Nat.{ℕ, suc, _+_, _-_, _≤_, _<_}
-use mathlib.Core.Path.{_≡_, refl, sym, ap, subst, _∙_}
+use mathlib.Core.Path.{_≡_, refl, sym, subst, _∙_}
 use mathlib.Core.List.{List, [], _∷_, append-nil}
 use native.Mathlib.Omega.{arith}
 use lib.ListN.{length}
@@ -8,7 +8,7 @@ use Rattle.rules.specs.Syntax.{Goal, Goals, Program}
 use Rattle.semantics.specs.Path.{Task, Path, ChoicePoint, waiting-on}
 use Rattle.engine.specs.Reference.{at, TaskAt, RestAt}
 use Rattle.engine.proofs.StoredLaws.{choices-grown}
-use Rattle.engine.specs.Memory.{goal-at, next-at, point-at, Registers, saved, BindingsIn, TasksIn, KeptIn, PathIn, Grown, ChoiceIn, Roomy, Stored, cell, point}
+use Rattle.engine.specs.Memory.{goal-at, next-at, point-at, Registers, saved, BindingsIn, TasksIn, KeptIn, PathIn, Grown, ChoiceIn, Roomy, Stored}
 
 -- paths that have grown
 pub grown-same : (p : Path) → Grown p p

@@ -1,12 +1,12 @@
 -- A conjunction on words: its goals in a row of cells, written in order, each linked to the next and the last to the old head.
 use Prim.Native.Nat.{ℕ, suc, _+_, _*_, _-_, _≤_, _<_}
-use mathlib.Core.Path.{_≡_, refl, ap, subst, _∙_}
+use mathlib.Core.Path.{_≡_, refl, subst, _∙_}
 use mathlib.Core.Logic.{_≢_}
 use mathlib.Core.List.{List, [], _∷_, _++_}
 use native.Mathlib.Omega.{arith}
-use lib.ListN.{length, getD, set, length-set, length-append}
+use lib.ListN.{length, set, length-set, length-append}
 use lib.Seq.{getD-set-same, getD-set-other}
-use Rattle.rules.specs.Syntax.{Goal, Goals, one, more, Program, Constraint}
+use Rattle.rules.specs.Syntax.{Goals, one, more, Program, Constraint}
 use Rattle.semantics.specs.Path.{Task, Path, ChoicePoint, waiting-on, keeping, goals-count, wait-all}
 use Rattle.rules.specs.Reading.{after}
 use Rattle.engine.specs.Reference.{at, beyond, pos-of, RestAt, KeepsAt}

@@ -1,13 +1,13 @@
 -- Goals and constraints by reference: where they are, and what they are on a path.
 use Prim.Native.Nat.{ℕ, _+_, _≤_, _<_}
 use mathlib.Core.Path.{_≡_, sym, subst, _∙_}
-use mathlib.Core.List.{List}
+use mathlib.Core.List.{List, [], _∷_, map}
 use native.Mathlib.Omega.{arith}
 use lib.ListN.{length}
 use Rattle.rules.specs.Syntax.{Term, var, atom, pair, Constraint, differ, typed, absento, Goal, Goals, one, more, constrain, conj, disj}
 use Rattle.rules.specs.Reading.{kind-at, after}
 use Rattle.semantics.specs.Substitution.{shift, shift-constraint}
-use Rattle.engine.specs.Reference.{TermAt, ConstraintAt, GoalsAt, pos-of, base-of, beyond, TaskAt, RestAt, VarsC, KeepsAt}
+use Rattle.engine.specs.Reference.{TermAt, TermsAt, ConstraintAt, GoalsAt, pos-of, base-of, beyond, TaskAt, RestAt, VarsC, KeepsAt}
 use Rattle.engine.proofs.ReferenceLaws.{pos-plus, base-plus, pos-beyond, base-beyond}
 
 -- a sequence has a goal at least
@@ -21,10 +21,14 @@ term-shift ws base from to (var x) h = (h .0, omega (arith, h .1), h .2)
 term-shift ws base from to (atom a) h = h
 term-shift ws base from to (pair s t) h = (h .0, term-shift ws base _ _ s (h .1), term-shift ws base _ _ t (h .2))
 
+pub terms-shift : (ws : List ℕ) (base from to : ℕ) (ts : List Term) → TermsAt ws 0 from to ts → TermsAt ws base from to (map (shift base) ts)
+terms-shift ws base from to [] h = h
+terms-shift ws base from to (t ∷ ts) h = (h .0, term-shift ws base from (h .0) t (h .1), terms-shift ws base (h .0) to ts (h .2))
+
 pub constraint-shift : (ws : List ℕ) (base pos : ℕ) (c : Constraint) → ConstraintAt ws 0 pos c → ConstraintAt ws base pos (shift-constraint base c)
-constraint-shift ws base pos (differ s t) h = (h .0, (h .1 .0, term-shift ws base _ _ s (h .1 .1), (h .1 .2 .0, term-shift ws base _ _ t (h .1 .2 .1), h .1 .2 .2)))
-constraint-shift ws base pos (typed k t) h = (h .0, (h .1 .0, term-shift ws base _ _ t (h .1 .1), h .1 .2))
-constraint-shift ws base pos (absento a t) h = (h .0, h .1, (h .2 .0, term-shift ws base _ _ t (h .2 .1), h .2 .2))
+constraint-shift ws base pos (differ s t) h = (h .0, terms-shift ws base (pos + 1) (after ws pos) (s ∷ t ∷ []) (h .1))
+constraint-shift ws base pos (typed k t) h = (h .0, terms-shift ws base (pos + 1) (after ws pos) (t ∷ []) (h .1))
+constraint-shift ws base pos (absento a t) h = (h .0, h .1, terms-shift ws base (pos + 2) (after ws pos) (t ∷ []) (h .2))
 
 -- the goals of a sequence are one after the other
 pub task-one : (ws : List ℕ) (w to base : ℕ) (g : Goal) → RestAt ws w to base (one g) → (after ws (pos-of w) ≡ to) × TaskAt ws w (base, g)

@@ -17,10 +17,10 @@ use Rattle.semantics.specs.Review.{review, review-all}
 use Rattle.semantics.specs.Path.{Path, ChoicePoint, leaves, goes, bound-to, keeping, take-equal, take-constraint}
 use Rattle.semantics.specs.Invariant.{TermIn, ConstraintIn}
 use Rattle.semantics.proofs.TermLaws.{shift-in, shift-constraint-in}
-use Rattle.engine.specs.Reference.{TermAt, pos-of, base-of, Stands, TaskAt, VarsC, KeepsAt}
+use Rattle.engine.specs.Reference.{pos-of, Stands, TaskAt, VarsC, KeepsAt}
 use Rattle.engine.specs.Memory.{kept-at, Stored}
 use Rattle.engine.specs.Unify.{Meets, Went, UnifiedAs}
-use Rattle.engine.specs.Review.{Kept, review-says, ReviewedAs}
+use Rattle.engine.specs.Review.{Kept, Reviews, review-says, ReviewedAs}
 use Rattle.engine.specs.Taking.{registers, Holds, Ready, TookAs, narrow, took-as, review-took}
 use Rattle.engine.specs.declared.state.State.{State}
 use Rattle.engine.specs.declared.Bound.the-variants.{Constraints, Waiting}
@@ -33,8 +33,8 @@ use Rattle.engine.specs.declared.review.Reviewed.the-variants as reviewe
 use Rattle.engine.specs.declared.unify.Unified.{Unified}
 use Rattle.engine.specs.declared.unify.Unified.the-variants as unified
 use Rattle.engine.proofs.TookLaws.{took-goes, took-leaves, took-stops, took-bound}
-use Rattle.engine.proofs.ReferenceLaws.{term-longer}
-use Rattle.engine.proofs.GoalLaws.{term-shift, keeps-task}
+use Rattle.engine.proofs.ReferenceLaws.{TwoAt, two-terms}
+use Rattle.engine.proofs.GoalLaws.{terms-shift, keeps-task}
 use Rattle.engine.proofs.ArgumentLaws.{term-vars}
 use Rattle.engine.proofs.StoredLaws.{trailed, stored-meets, stored-kept, unified-stored, reviewed-stored}
 use Rattle.engine.proofs.ClaimLaws.{constrained}
@@ -74,50 +74,17 @@ module _ {P : Program} {ws s : List ℕ} {st : State} {w : ℕ} {p : Path} {cs :
   few-made : p .made ≤ 2048
   few-made = k .sound .few-made
 
-  -- the two terms: the second is past the first
-  pub equal-first : Stands ws (w + 1) (shift base u)
-  equal-first =
+  equal-terms : TwoAt ws w (shift base u) (shift base v)
+  equal-terms =
       let t : TaskAt ws w (base, equal u v) = k .taking .task-at in
-      let mid : ℕ = t .goal .1 .0 in
-      let end : ℕ = t .goal .1 .2 .0 in
-      let l = term-longer ws 0 (pos-of w + 1) mid u (t .goal .1 .1) in
-      let m = term-longer ws 0 mid end v (t .goal .1 .2 .1) in
-      let e : end ≡ after ws (pos-of w) = t .goal .1 .2 .2 in
-      let small : after ws (pos-of w) ≤ 16384 = t .small in
-      let is-pos : pos-of (w + 1) ≡ pos-of w + 1 = omega (arith, l, m) in
-      let is-base : base-of (w + 1) ≡ base = omega (arith, l, m, t .base) in
-      record {
-        to = mid;
-        reads = subst (λ b. TermAt ws b (pos-of (w + 1)) mid (shift base u)) (sym is-base) (subst (λ i. TermAt ws base i mid (shift base u)) (sym is-pos) (term-shift ws base (pos-of w + 1) mid u (t .goal .1 .1)));
-        inside = omega (arith, m, t .inside);
-        small = omega (arith, m);
-        below = omega (arith, l, m, t .below);
-        in-range = term-vars (p .made) (shift base u) few-made (in-range .0);
-      }
+      two-terms base (after ws (pos-of w)) (shift base u) (shift base v) (t .base) (terms-shift ws base (pos-of w + 1) (after ws (pos-of w)) (u ∷ v ∷ []) (t .goal .1)) (t .inside) (t .small) (t .below)
+      (term-vars (p .made) (shift base u) few-made (in-range .0)) (term-vars (p .made) (shift base v) few-made (in-range .1))
 
-  equal-second : (q : ℕ) → q + pos-of (w + 1) ≡ w + 1 + equal-first .to → Stands ws q (shift base v)
-  unfolding equal-first
-  equal-second q z =
-      let t : TaskAt ws w (base, equal u v) = k .taking .task-at in
-      let mid : ℕ = t .goal .1 .0 in
-      let end : ℕ = t .goal .1 .2 .0 in
-      let l = term-longer ws 0 (pos-of w + 1) mid u (t .goal .1 .1) in
-      let m = term-longer ws 0 mid end v (t .goal .1 .2 .1) in
-      let e : end ≡ after ws (pos-of w) = t .goal .1 .2 .2 in
-      let small : after ws (pos-of w) ≤ 16384 = t .small in
-      let is-pos : pos-of q ≡ mid = omega (arith, l, m, z) in
-      let is-base : base-of q ≡ base = omega (arith, l, m, z, t .base) in
-      record {
-        to = end;
-        reads = subst (λ b. TermAt ws b (pos-of q) end (shift base v)) (sym is-base) (subst (λ i. TermAt ws base i end (shift base v)) (sym is-pos) (term-shift ws base mid end v (t .goal .1 .2 .1)));
-        inside = omega (arith, t .inside);
-        small = omega arith;
-        below = omega (arith, l, m, z, t .below);
-        in-range = term-vars (p .made) (shift base v) few-made (in-range .1);
-      }
+  pub equal-first : Stands ws (w + 1) (shift base u)
+  equal-first = equal-terms .first
 
   pub equal-meets : {q : ℕ} → ((t : Term) (h : Stands ws (w + 1) t) → q + pos-of (w + 1) ≡ w + 1 + h .to) → Meets ws s (p .bindings) (w + 1) (shift base u) q (shift base v) (st .trail)
-  equal-meets {q} skips = stored-meets stored (k .short) (k .sound .good) equal-first (equal-second q (skips (shift base u) equal-first))
+  equal-meets {q} skips = stored-meets stored (k .short) (k .sound .good) (equal-terms .first) (equal-terms .second q (skips (shift base u) (equal-terms .first)))
 
   abbrev pub says : List ℕ → Way → State → Type 0
   says s″ way next = TookAs P ws s″ cs (take-equal p cs (shift base u) (shift base v) (st .left)) way next
@@ -191,7 +158,7 @@ module _ {P : Program} {ws s : List ℕ} {st : State} {w : ℕ} {p : Path} {cs :
       let f : leb (suc (length (p .kept))) 512 ≡ false = lt-leb (suc (length (p .kept))) 512 (omega (arith, held .path-in .kept)) in
       took-bound p (rw f refl)
 
-  pub constraint-keeps : KeepsAt ws w (shift-constraint base c)
+  constraint-keeps : KeepsAt ws w (shift-constraint base c)
   constraint-keeps =
       let t = k .task-in in
       keeps-task ws w base c (k .taking .task-at) (constraint-vars (p .made) (shift-constraint base c) (k .sound .few-made) (shift-constraint-in base (t .0) (p .made) c (t .1) (t .2)))
@@ -200,19 +167,19 @@ module _ {P : Program} {ws s : List ℕ} {st : State} {w : ℕ} {p : Path} {cs :
     now-kept : Stored P ws (set s (kept-at (st .kept)) w) (constrained (registers st)) (st .choices) (keeping p (shift-constraint base c)) cs
     now-kept = keep (shift-constraint base c) w fits constraint-keeps held
 
-    pub constraint-kept : Kept ws (set s (kept-at (st .kept)) w) (p .bindings) (p .kept ++ (shift-constraint base c ∷ [])) (st .trail) (st .kept + 1)
-    constraint-kept = stored-kept now-kept (k .short) (k .sound .good)
+    pub constraint-reviews : Reviews ws (set s (kept-at (st .kept)) w) (p .bindings) (p .kept ++ (shift-constraint base c ∷ [])) (st .trail) (st .kept + 1) w (shift-constraint base c)
+    constraint-reviews = record { whole = stored-kept now-kept (k .short) (k .sound .good); keeps = constraint-keeps }
 
     pub constraint-long : {s″ : List ℕ} {q : Reviewed}
-        → ((bs : Substitution) (ds : List Constraint) (d : Constraint) → Kept ws (set s (kept-at (st .kept)) w) bs ds (st .trail) (st .kept + 1) → KeepsAt ws w d
+        → ((bs : Substitution) (ds : List Constraint) (d : Constraint) → Reviews ws (set s (kept-at (st .kept)) w) bs ds (st .trail) (st .kept + 1) w d
         → ReviewedAs ws (set s (kept-at (st .kept)) w) s″ bs (review bs ds d (st .left)) q) → length s″ ≡ length s
-    constraint-long reviews = reviews (p .bindings) (p .kept ++ (shift-constraint base c ∷ [])) (shift-constraint base c) constraint-kept constraint-keeps .apart .long ∙ length-set s (kept-at (st .kept)) w
+    constraint-long reviews = reviews (p .bindings) (p .kept ++ (shift-constraint base c ∷ [])) (shift-constraint base c) constraint-reviews .apart .long ∙ length-set s (kept-at (st .kept)) w
 
     pub constraint-took : {q : Reviewed} {joint : State} {took : Took} {s″ : List ℕ}
-        → ((bs : Substitution) (ds : List Constraint) (d : Constraint) → Kept ws (set s (kept-at (st .kept)) w) bs ds (st .trail) (st .kept + 1) → KeepsAt ws w d
+        → ((bs : Substitution) (ds : List Constraint) (d : Constraint) → Reviews ws (set s (kept-at (st .kept)) w) bs ds (st .trail) (st .kept + 1) w d
         → ReviewedAs ws (set s (kept-at (st .kept)) w) s″ bs (review bs ds d (st .left)) q)
         → joint ≡ narrow st (st .trail) (st .kept + 1) (st .left) → took ≡ review-took joint q → TookAs P ws s″ cs (take-constraint p cs (shift-constraint base c) (st .left)) (took .way) (took .state)
     constraint-took {q} {joint} {took} {s″} reviews f t =
-        let v′ = reviews (p .bindings) (p .kept ++ (shift-constraint base c ∷ [])) (shift-constraint base c) constraint-kept constraint-keeps in
+        let v′ = reviews (p .bindings) (p .kept ++ (shift-constraint base c ∷ [])) (shift-constraint base c) constraint-reviews in
         let y : leb (suc (length (p .kept))) 512 ≡ true = le-leb (suc (length (p .kept))) 512 (omega (arith, held .path-in .kept)) in
         rw (y, t, f) (reviewed-took (narrow st (st .trail) (st .kept + 1) (st .left)) q (review (p .bindings) (p .kept ++ (shift-constraint base c ∷ [])) (shift-constraint base c) (st .left)) (reviewed-stored now-kept v′) (v′ .says))

@@ -15,7 +15,7 @@ use Rattle.semantics.specs.Substitution.{Substitution, walk}
 use Rattle.semantics.specs.Steps.{waiting, no-steps, at-bound, Outcome, done, stop, and-then}
 use Rattle.semantics.specs.Unify.{scan, is-var, is-atom, unify-terms}
 use Rattle.semantics.specs.Review.{other-sort, reaches, clashes, sort-fails, trial-fails, reviewed, review, review-all}
-use Rattle.engine.specs.Reference.{at, AtomIs, TermAt, pos-of, base-of, Stands, KeepsAt}
+use Rattle.engine.specs.Reference.{at, AtomIs, pos-of, base-of, Stands, KeepsAt}
 use Rattle.engine.specs.Memory.{BindingsIn, KeptIn}
 use Rattle.engine.specs.Walk.{NodeAt, Binds, Follows}
 use Rattle.engine.specs.Trail.{Trailed, Undone, Apart}
@@ -28,7 +28,7 @@ use Rattle.engine.specs.declared.unify.Unified.{Unified}
 use Rattle.engine.specs.declared.unify.Unified.the-variants as unified
 use Rattle.engine.specs.declared.review.Reviewed.{Reviewed}
 use Rattle.engine.specs.declared.review.Reviewed.the-variants.{Fails, Holds, StepsOut, PathOut}
-use Rattle.engine.proofs.ReferenceLaws.{term-longer}
+use Rattle.engine.proofs.ReferenceLaws.{sort-low, term-longer, stands-at, two-terms}
 use Rattle.engine.proofs.ScanSteps.{open-at, atom-sought}
 use Rattle.engine.proofs.FrameLaws.{kept-same}
 use Rattle.engine.proofs.TrailLaws.{apart-same, apart-trans, undone-apart}
@@ -37,42 +37,17 @@ use Rattle.engine.proofs.TrailLaws.{apart-same, apart-trans, undone-apa
 
 pub typed-term : (ws : List ℕ) (w : ℕ) (k : Sort) (t : Term) → KeepsAt ws w (typed k t) → Stands ws (w + 1) t
 typed-term ws w k t h =
-    let mid : ℕ = h .reads .1 .0 in
-    let l : pos-of w + 1 + 0 < mid = omega (arith, term-longer ws (base-of w) (pos-of w + 1) mid t (h .reads .1 .1)) in
-    let e : mid ≡ after ws (pos-of w) = h .reads .1 .2 in
-    let small : after ws (pos-of w) ≤ 16384 = h .small in
-    let is-pos : pos-of (w + 1) ≡ pos-of w + 1 = omega arith in
-    let is-base : base-of (w + 1) ≡ base-of w = omega arith in
-    record {
-      to = mid;
-      reads = subst (λ b. TermAt ws b (pos-of (w + 1)) mid t) (sym is-base) (subst (λ i. TermAt ws (base-of w) i mid t) (sym is-pos) (h .reads .1 .1));
-      inside = omega (arith, h .inside);
-      small = omega arith;
-      below = omega (arith, h .below);
-      in-range = h .in-range;
-    }
+    let e : h .reads .1 .0 ≡ after ws (pos-of w) = h .reads .1 .2 in
+    stands-at ws (base-of w) (pos-of w + 1) (h .reads .1 .0) (w + 1) t (omega arith) (h .reads .1 .1) (omega (arith, h .inside)) (omega (arith, h .small)) (omega (arith, h .below)) (h .in-range)
 
 pub absento-term : (ws : List ℕ) (w : ℕ) (a : Atom) (t : Term) → KeepsAt ws w (absento a t) → Stands ws (w + 2) t
 absento-term ws w a t h =
-    let mid : ℕ = h .reads .2 .0 in
-    let l : pos-of w + 2 + 0 < mid = omega (arith, term-longer ws (base-of w) (pos-of w + 2) mid t (h .reads .2 .1)) in
-    let e : mid ≡ after ws (pos-of w) = h .reads .2 .2 in
-    let small : after ws (pos-of w) ≤ 16384 = h .small in
-    let is-pos : pos-of (w + 2) ≡ pos-of w + 2 = omega arith in
-    let is-base : base-of (w + 2) ≡ base-of w = omega arith in
-    record {
-      to = mid;
-      reads = subst (λ b. TermAt ws b (pos-of (w + 2)) mid t) (sym is-base) (subst (λ i. TermAt ws (base-of w) i mid t) (sym is-pos) (h .reads .2 .1));
-      inside = omega (arith, h .inside);
-      small = omega arith;
-      below = omega (arith, h .below);
-      in-range = h .in-range;
-    }
+    let e : h .reads .2 .0 ≡ after ws (pos-of w) = h .reads .2 .2 in
+    stands-at ws (base-of w) (pos-of w + 2) (h .reads .2 .0) (w + 2) t (omega arith) (h .reads .2 .1) (omega (arith, h .inside)) (omega (arith, h .small)) (omega (arith, h .below)) (h .in-range)
 
 -- the tag is the word before it
 pub absento-tag : (ws : List ℕ) (w : ℕ) (a : Atom) (t : Term) {bits k p : ℕ} → KeepsAt ws w (absento a t) → NodeAt ws (w + 1) bits k p → AtomIs bits a
 absento-tag ws w a t h node =
-    let s = absento-term ws w a t h in
     let l : pos-of w + 2 + 0 < h .reads .2 .0 = omega (arith, term-longer ws (base-of w) (pos-of w + 2) (h .reads .2 .0) t (h .reads .2 .1)) in
     let is-pos : pos-of (w + 1) ≡ pos-of w + 1 = omega (arith, h .reads .2 .2, h .small) in
     subst (λ z. AtomIs z a) (sym (node .is-bits ∙ ap (at ws) is-pos)) (h .reads .1)
@@ -92,42 +67,10 @@ pub record DifferAt (ws : List ℕ) (w : ℕ) (c : Constraint) : Type 0 where
 
 differ-terms : (ws : List ℕ) (w : ℕ) (u v : Term) → KeepsAt ws w (differ u v) → DifferAt ws w (differ u v)
 differ-terms ws w u v h =
-    let mid : ℕ = h .reads .1 .0 in
-    let end : ℕ = h .reads .1 .2 .0 in
-    let l : pos-of w + 1 + 0 < mid = omega (arith, term-longer ws (base-of w) (pos-of w + 1) mid u (h .reads .1 .1)) in
-    let m : mid + 0 < end = omega (arith, term-longer ws (base-of w) mid end v (h .reads .1 .2 .1)) in
-    let e : end ≡ after ws (pos-of w) = h .reads .1 .2 .2 in
-    let small : after ws (pos-of w) ≤ 16384 = h .small in
-    let is-pos : pos-of (w + 1) ≡ pos-of w + 1 = omega arith in
-    let is-base : base-of (w + 1) ≡ base-of w = omega arith in
-    let below : w < 33570816 = h .below in
-    record {
-      left = u;
-      right = v;
-      is = refl;
-      first = record {
-        to = mid;
-        reads = subst (λ b. TermAt ws b (pos-of (w + 1)) mid u) (sym is-base) (subst (λ i. TermAt ws (base-of w) i mid u) (sym is-pos) (h .reads .1 .1));
-        inside = omega (arith, h .inside);
-        small = omega arith;
-        below = omega arith;
-        in-range = h .in-range .0;
-      };
-      second = λ q z. let p : pos-of q ≡ mid = omega arith in let b : base-of q ≡ base-of w = omega arith in record {
-        to = end;
-        reads = subst (λ b. TermAt ws b (pos-of q) end v) (sym b) (subst (λ i. TermAt ws (base-of w) i end v) (sym p) (h .reads .1 .2 .1));
-        inside = omega (arith, h .inside);
-        small = omega arith;
-        below = omega arith;
-        in-range = h .in-range .1;
-      };
-    }
+    let two = two-terms (base-of w) (after ws (pos-of w)) u v refl (h .reads .1) (h .inside) (h .small) (h .below) (h .in-range .0) (h .in-range .1) in
+    record { left = u; right = v; is = refl; first = two .first; second = two .second }
 
 -- Which constraint it is, by the kind of its word
-
-sort-low : (k : Sort) → (6 < sort-kind k) × (sort-kind k < 9)
-sort-low symbols = omega arith
-sort-low numbers = omega arith
 
 pub record TypedAt (ws : List ℕ) (w : ℕ) (c : Constraint) (kind : ℕ) : Type 0 where
   pub sort : Sort

@@ -19,8 +19,8 @@ use Rattle.semantics.proofs.Counts.{taken-spent}
 use Rattle.semantics.proofs.Fair.{NextFair, turn-fair}
 use Rattle.semantics.proofs.Turn.{NextWell, TakenWell, GoesOn, open-of, goal-well, turn-keeps}
 use Rattle.engine.specs.Reference.{TaskAt}
-use Rattle.engine.specs.Taking.{Holds, Due, stop-of}
-use Rattle.engine.specs.Turning.{tallied, NextAs}
+use Rattle.engine.specs.Taking.{Holds, stop-of}
+use Rattle.engine.specs.Turning.{Turning, took-goal, tallied, NextAs}
 use Rattle.engine.specs.Searching.{count-cuts, Searching, counted-to, SearchedAs}
 use Rattle.engine.specs.declared.state.State.{State}
 use Rattle.engine.specs.declared.state.Stop.{Stop}
@@ -49,7 +49,7 @@ take-spent : (k : ℕ) (P : Program) (p : Path) (cs : List ChoicePoint) (base : 
 take-spent k P p cs base x zero v m e = clash (cc)
 take-spent k P p cs base x (suc l) v m e = let h : m ≤ l = subst (Spent l (suc l)) e (taken-spent argument k P p cs base x l) in omega arith
 
-over-spent : (P : Program) (n k : ℕ) (state : round.State) (left : ℕ) (t : Tally) → after P n k state (take-goal k P (state .path) (state .choices) (state .task .0) (state .task .1) left) ≡ over (completed t) → 0 < left
+over-spent : (P : Program) (n k : ℕ) (state : round.State) (left : ℕ) (t : Tally) → after P n k state (took-goal k P state left) ≡ over (completed t) → 0 < left
 over-spent P n k state zero t e = clash (cc)
 over-spent P n k state (suc l) t e = omega arith
 
@@ -68,8 +68,8 @@ pub going-start : {P : Program} {wf : ProgramIn P} {n k : ℕ} {ws s : List ℕ}
 going-start {fuel = fuel} {state = state} h lt = record { state = state; fuel = fuel; under = h; enough = lt; same = refl; room = refl; written = refl; fewer = omega arith }
 
 module _ {P : Program} {wf : ProgramIn P} {n k : ℕ} {ws s : List ℕ} {st : State} {w cuts : ℕ} {state : round.State} (h : Searching P wf n k ws s st w cuts state) where
-  pub search-due : Due P ws s st w (state .path) (state .choices) (state .task)
-  search-due = record { stored = h .held; task-at = h .task-at; short = h .short; program-in = wf; sound = h .fine .fine .sound; task-in = h .fine .fine .tasks-in .0 }
+  pub search-due : Turning P ws s st w state
+  search-due = record { due = record { stored = h .held; task-at = h .task-at; short = h .short; program-in = wf; sound = h .fine .fine .sound; task-in = h .fine .fine .tasks-in .0 }; left-is = h .left-is }
 
 -- a turn of the search, with the fuel that is there
 turn-of : (P : Program) (n k fuel : ℕ) (state : round.State) (x : Next) → state .tally .left < fuel → turn P n k state ≡ x → (f : ℕ) × (fuel ≡ suc f) × (search P n k fuel state ≡ onward P n k x (λ next. search P n k f next))
@@ -77,7 +77,7 @@ turn-of P n k zero state x lt e = absurd (omega arith)
 turn-of P n k (suc f) state x lt e = (f, refl, ap (λ y. onward P n k y (λ next. search P n k f next)) e)
 
 module _ {P : Program} {wf : ProgramIn P} {n k : ℕ} {ws s : List ℕ} {st : State} {w cuts : ℕ} {state₀ : round.State} {fuel₀ : ℕ} (g : Going P wf n k ws s st w cuts state₀ fuel₀)
-    (s′ : List ℕ) (to : Lead) (next : State) (v c : ℕ) (told : NextAs P n k ws s′ (g .state .tally) (take-goal k P (g .state .path) (g .state .choices) (g .state .task .0) (g .state .task .1) (st .left)) (turn P n k (g .state)) to next v c) where
+    (s′ : List ℕ) (to : Lead) (next : State) (v c : ℕ) (told : NextAs P n k ws s′ (g .state .tally) (took-goal k P (g .state) (st .left)) (turn P n k (g .state)) to next v c) where
   total : ℕ
   total = g .state .tally .room + length (page (g .state .tally .written))
 
@@ -144,7 +144,7 @@ module _ {P : Program} {wf : ProgramIn P} {n k : ℕ} {ws s : List ℕ} {st : St
   pub searched-answer : to ≡ lead.Answer → SearchedAs P wf n k ws s′ state₀ fuel₀ (Answer next cuts)
   unfolding NextAs SearchedAs
   searched-answer e =
-      let o : Outcome Taken = take-goal k P (g .state .path) (g .state .choices) (g .state .task .0) (g .state .task .1) (st .left) in
+      let o : Outcome Taken = took-goal k P (g .state) (st .left) in
       let q : (p : Path) × (cs : List ChoicePoint) × (turn P n k (g .state) ≡ give P n k cs (spend (g .state .tally) (next .left)) (answer p n (next .left))) × Holds P ws s′ next p cs × (p .stack ≡ []) × (p .calls ≡ k) × (o ≡ done (goes p cs) (next .left)) = rw e at told in
       let p : Path = q .0 in
       let cs : List ChoicePoint = q .1 in

@@ -5,7 +5,6 @@ use mathlib.Core.List.{List, [], _++_, append-nil}
 use native.Mathlib.Omega.{arith}
 use lib.ListN.{length}
 use Rattle.rules.specs.Syntax.{Relation, Program}
-use Rattle.semantics.specs.Substitution.{Substitution}
 use Rattle.semantics.specs.Path.{Path, ChoicePoint}
 use Rattle.semantics.specs.Round.{start, Tally}
 use Rattle.engine.specs.Reference.{at}

@@ -4,11 +4,11 @@ use mathlib.Core.Path.{_≡_, refl, sym, ap, subst, _∙_}
 use mathlib.Core.Logic.{_≢_}
 use mathlib.Core.List.{List, [], _∷_, _++_}
 use native.Mathlib.Omega.{arith}
-use lib.ListN.{length, getD, set, length-set, length-append}
+use lib.ListN.{length, set, length-set, length-append}
 use lib.Seq.{sets, length-sets, getD-set-same, getD-set-other}
 use Rattle.rules.specs.Syntax.{Constraint, Goal, Goals, one, more, Program}
 use Rattle.semantics.specs.Substitution.{Substitution}
-use Rattle.semantics.specs.Path.{Task, Path, ChoicePoint, waiting-on}
+use Rattle.semantics.specs.Path.{Path, ChoicePoint, waiting-on}
 use Rattle.rules.specs.Reading.{after}
 use Rattle.engine.specs.Reference.{at, beyond, pos-of, TaskAt, RestAt}
 use Rattle.engine.specs.Memory.{goal-at, next-at, point-at, Registers, saved, BindingsIn, KeptIn, PathIn, Grown, ChoiceIn, Stored, cell, point}
@@ -16,7 +16,7 @@ use Rattle.engine.proofs.FrameLaws.{Untouched, frame, Outside, store, p
 use Rattle.engine.specs.Trail.{Trailed, Undone}
 use Rattle.engine.proofs.TrailLaws.{fresh-few}
 use Rattle.engine.proofs.GoalLaws.{Then, task-one, task-more}
-use Rattle.engine.proofs.ClaimLaws.{stays, claim, counted, waited, count, claim-cell, claim-point}
+use Rattle.engine.proofs.ClaimLaws.{counted, waited, count, claim-cell, claim-point}
 
 -- A run of stores
 pub sets-other : (vs l : List ℕ) (i k : ℕ) → ((j : ℕ) → i ≤ j → j < i + length vs → k ≢ j) → at (sets l i vs) k ≡ at l k

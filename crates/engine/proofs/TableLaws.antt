@@ -1,7 +1,7 @@
 -- The table of relations: filled from relation to relation, and read.
 use Prim.Native.Nat.{ℕ, zero, suc, _+_, _-_, _≤_, _<_}
 use mathlib.Core.Path.{_≡_, refl, sym, ap, subst, _∙_}
-use mathlib.Core.Option.{Option, Option·some-injective, none, some}
+use mathlib.Core.Option.{Option·some-injective, some}
 use mathlib.Core.List.{List, [], _∷_, _++_}
 use native.Mathlib.Omega.{arith}
 use lib.ListN.{length, set, getElem?, length-set, length-append}
@@ -9,7 +9,6 @@ use lib.Seq.{getD-set-same, getD-set-other}
 use Rattle.rules.specs.Syntax.{Relation, Program}
 use Rattle.rules.specs.Written.{relation-words, written}
 use Rattle.rules.specs.WellFormed.{RelationsGood}
-use Rattle.rules.specs.Inner as inner
 use Rattle.rules.specs.Inner.{PartAt, RelationsAt}
 use Rattle.rules.proofs.Pass.{relations-split, relations-some, relations-none, lookup-none}
 use Rattle.semantics.proofs.Basics.{clash, compared, same, other}

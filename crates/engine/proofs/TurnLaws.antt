@@ -8,14 +8,14 @@ use lib.Dec.{eqb}
 use borrow.Author.Tests.{eq-eqb, ne-eqb}
 use Rattle.rules.specs.Syntax.{Program}
 use Rattle.semantics.specs.Steps.{Outcome, done}
-use Rattle.semantics.specs.Path.{Task, Path, ChoicePoint, Taken, goes, waiting-on, take-goal}
+use Rattle.semantics.specs.Path.{Task, Path, ChoicePoint, Taken, goes, waiting-on}
 use Rattle.semantics.specs.Answer.{answer}
 use Rattle.semantics.specs.Round as round
 use Rattle.semantics.specs.Round.{Tally, Next, spend, back, give, go-on, after, turn}
 use Rattle.engine.specs.Reference.{at}
 use Rattle.engine.specs.Memory.{goal-at, next-at, TasksIn, Stored}
 use Rattle.engine.specs.Taking.{registers, Holds, took-says, TookHolds, TookAs, OverAs, ResumedAs, BackAs}
-use Rattle.engine.specs.Turning.{tallied, NextAs}
+use Rattle.engine.specs.Turning.{took-goal, tallied, NextAs, TurnedAs}
 use Rattle.engine.specs.declared.state.State.{State}
 use Rattle.engine.specs.declared.state.Stop.{Stop}
 use Rattle.engine.specs.declared.state.Way.{Way}
@@ -74,11 +74,11 @@ module _ (P : Program) (n k : ℕ) (ws s : List ℕ) (st : State) (p : Path) (cs
       (p, cs, ap (λ ts. go-on P n k p ts cs (spend t (st .left))) (no-stack e) ∙ x, h, no-stack e, calls, refl)
 
   pub goes-fewer : (s′ : List ℕ) (r : Turned) → st .head ≡ 0 → (st .calls ≡ k → ⊥)
-      → ((Q : Program) (m j : ℕ) (q : Path) (ds : List ChoicePoint) (u : Tally) (o : Outcome Taken) → Holds Q ws s st q ds → NextAs Q m j ws s′ u o (back ds (tallied u (st .left) 0)) (r .lead) (r .state) (r .goal) (r .cuts)) → goes-to s′ (r .lead) (r .state) (r .goal) (r .cuts)
+      → ((Q : Program) (m j : ℕ) (q : Path) (ds : List ChoicePoint) (u : Tally) (o : Outcome Taken) → Holds Q ws s st q ds → TurnedAs Q m j ws s′ u o (back ds (tallied u (st .left) 0)) r) → goes-to s′ (r .lead) (r .state) (r .goal) (r .cuts)
   goes-fewer s′ r e f left =
       let y : eqb (p .calls) k ≡ false = ne-eqb (p .calls) k (λ q. f (h .path-in .calls ∙ q)) in
       let x : go-on P n k p [] cs (spend t (st .left)) ≡ back cs (spend t (st .left)) = rw y refl in
-      subst (λ z. NextAs P n k ws s′ t (done (goes p cs) (st .left)) z (r .lead) (r .state) (r .goal) (r .cuts)) (sym (ap (λ ts. go-on P n k p ts cs (spend t (st .left))) (no-stack e) ∙ x)) (left P n k p cs t (done (goes p cs) (st .left)) h)
+      subst (λ z. TurnedAs P n k ws s′ t (done (goes p cs) (st .left)) z r) (sym (ap (λ ts. go-on P n k p ts cs (spend t (st .left))) (no-stack e) ∙ x)) (left P n k p cs t (done (goes p cs) (st .left)) h)
 
   pub goes-goal : (st .head ≡ 0 → ⊥)
       → goes-to s Goal (record { head = at s (next-at (st .head)); trail = st .trail; made = st .made; put = st .put; kept = st .kept; calls = st .calls; choices = st .choices; left = st .left }) (at s (goal-at (st .head))) 0
@@ -109,44 +109,41 @@ module _ {P : Program} {ws s : List ℕ} {cs : List ChoicePoint} {o : Outcome Ta
   held-cut e = rw e at (b .held)
 
 module _ (P : Program) (n k : ℕ) (ws s s′ : List ℕ) (state : round.State) (left : ℕ) (same : state .tally .left ≡ left) where
-  abbrev pub took-goal : Outcome Taken
-  took-goal = take-goal k P (state .path) (state .choices) (state .task .0) (state .task .1) left
+  abbrev pub turns-to : Turned → Type 0
+  turns-to r = TurnedAs P n k ws s′ (state .tally) (took-goal k P state left) (turn P n k state) r
 
-  abbrev pub turns-to : Lead → State → ℕ → ℕ → Type 0
-  turns-to lead st w c = NextAs P n k ws s′ (state .tally) took-goal (turn P n k state) lead st w c
+  turn-is : {o : Outcome Taken} → (took-goal k P state left) ≡ o → turn P n k state ≡ after P n k state o
+  turn-is e = ap (λ l. after P n k state (took-goal k P state l)) same ∙ ap (after P n k state) e
 
-  turn-is : {o : Outcome Taken} → took-goal ≡ o → turn P n k state ≡ after P n k state o
-  turn-is e = ap (λ l. after P n k state (take-goal k P (state .path) (state .choices) (state .task .0) (state .task .1) l)) same ∙ ap (after P n k state) e
-
-  module _ {y : Way} {st : State} (b : TookAs P ws s (state .choices) took-goal y st) where
-    took-as : {z : Way} → y ≡ z → took-goal ≡ took-says (b .path) (b .choices) z (st .left)
+  module _ {y : Way} {st : State} (b : TookAs P ws s (state .choices) (took-goal k P state left) y st) where
+    took-as : {z : Way} → y ≡ z → (took-goal k P state left) ≡ took-says (b .path) (b .choices) z (st .left)
     took-as e = b .says ∙ ap (λ z. took-says (b .path) (b .choices) z (st .left)) e
 
-    pub turn-stops : {why : Stop} {l : ℕ} (w c : ℕ) → y ≡ way.Stops why l → turns-to (Stops why l) st w c
+    pub turn-stops : {why : Stop} {l : ℕ} (w c : ℕ) → y ≡ way.Stops why l → turns-to (record { lead = Stops why l; state = st; goal = w; cuts = c })
     unfolding took-says NextAs
     turn-stops w c e = turn-is (took-as e)
 
     -- and what comes of it
     module _ (said : Turned) where
       abbrev Leaves-as : ℕ → Type 0
-      Leaves-as c = (Q : Program) (m j : ℕ) (q : Path) (ds : List ChoicePoint) (u : Tally) (o : Outcome Taken) → Holds Q ws s st q ds → NextAs Q m j ws s′ u o (back ds (tallied u (st .left) c)) (said .lead) (said .state) (said .goal) (said .cuts)
+      Leaves-as c = (Q : Program) (m j : ℕ) (q : Path) (ds : List ChoicePoint) (u : Tally) (o : Outcome Taken) → Holds Q ws s st q ds → TurnedAs Q m j ws s′ u o (back ds (tallied u (st .left) c)) said
 
-      leaves-to : (c : ℕ) → turn P n k state ≡ back (state .choices) (tallied (state .tally) (st .left) c) → Holds P ws s st (b .path) (state .choices) → Leaves-as c → turns-to (said .lead) (said .state) (said .goal) (said .cuts)
-      leaves-to c q h f = subst (λ x. NextAs P n k ws s′ (state .tally) took-goal x (said .lead) (said .state) (said .goal) (said .cuts)) (sym q) (f P n k (b .path) (state .choices) (state .tally) took-goal h)
+      leaves-to : (c : ℕ) → turn P n k state ≡ back (state .choices) (tallied (state .tally) (st .left) c) → Holds P ws s st (b .path) (state .choices) → Leaves-as c → turns-to said
+      leaves-to c q h f = subst (λ x. TurnedAs P n k ws s′ (state .tally) (took-goal k P state left) x said) (sym q) (f P n k (b .path) (state .choices) (state .tally) (took-goal k P state left) h)
 
-      pub turn-leaves : y ≡ way.Leaves → Leaves-as 0 → turns-to (said .lead) (said .state) (said .goal) (said .cuts)
+      pub turn-leaves : y ≡ way.Leaves → Leaves-as 0 → turns-to said
       unfolding took-says
       turn-leaves e = leaves-to 0 (turn-is (took-as e)) (held-left b e)
 
-      pub turn-cuts : y ≡ way.Cut → Leaves-as 1 → turns-to (said .lead) (said .state) (said .goal) (said .cuts)
+      pub turn-cuts : y ≡ way.Cut → Leaves-as 1 → turns-to said
       unfolding took-says
       turn-cuts e = leaves-to 1 (turn-is (took-as e)) (held-cut b e)
 
       pub turn-onward : y ≡ way.Goes
-          → ((Q : Program) (m : ℕ) (q : Path) (ds : List ChoicePoint) (u : Tally) → Holds Q ws s st q ds → NextAs Q m k ws s′ u (done (goes q ds) (st .left)) (go-on Q m k q (q .stack) ds (spend u (st .left))) (said .lead) (said .state) (said .goal) (said .cuts))
-          → turns-to (said .lead) (said .state) (said .goal) (said .cuts)
+          → ((Q : Program) (m : ℕ) (q : Path) (ds : List ChoicePoint) (u : Tally) → Holds Q ws s st q ds → TurnedAs Q m k ws s′ u (done (goes q ds) (st .left)) (go-on Q m k q (q .stack) ds (spend u (st .left))) said)
+          → turns-to said
       unfolding took-says
       turn-onward e f =
-          let is : took-goal ≡ done (goes (b .path) (b .choices)) (st .left) = took-as e in
-          subst (λ z. NextAs P n k ws s′ (state .tally) took-goal z (said .lead) (said .state) (said .goal) (said .cuts)) (sym (turn-is is))
-          (subst (λ z. NextAs P n k ws s′ (state .tally) z (go-on P n k (b .path) (b .path .stack) (b .choices) (spend (state .tally) (st .left))) (said .lead) (said .state) (said .goal) (said .cuts)) (sym is) (f P n (b .path) (b .choices) (state .tally) (held-goes b e)))
+          let is : (took-goal k P state left) ≡ done (goes (b .path) (b .choices)) (st .left) = took-as e in
+          subst (λ z. TurnedAs P n k ws s′ (state .tally) (took-goal k P state left) z said) (sym (turn-is is))
+          (subst (λ z. TurnedAs P n k ws s′ (state .tally) z (go-on P n k (b .path) (b .path .stack) (b .choices) (spend (state .tally) (st .left))) said) (sym is) (f P n (b .path) (b .choices) (state .tally) (held-goes b e)))

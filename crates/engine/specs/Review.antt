@@ -4,9 +4,10 @@ use mathlib.Core.Path.{_≡_}
 use mathlib.Core.Bool.{Bool, true, false}
 use mathlib.Core.List.{List}
 use lib.ListN.{length}
-use Rattle.rules.specs.Syntax.{Sort, symbols, numbers, Constraint}
+use Rattle.rules.specs.Syntax.{Term, Sort, symbols, numbers, Constraint}
 use Rattle.semantics.specs.Substitution.{Substitution}
 use Rattle.semantics.specs.Steps.{waiting, no-steps, at-bound, Outcome, done, stop}
+use Rattle.engine.specs.Reference.{Stands, KeepsAt}
 use Rattle.engine.specs.Memory.{BindingsIn, KeptIn}
 use Rattle.engine.specs.Walk.{Binds}
 use Rattle.engine.specs.Trail.{Apart}
@@ -30,6 +31,23 @@ pub record Kept (ws s : List ℕ) (bs : Substitution) (cs : List Constraint) (tr
   pub kept-is : kept ≡ length cs
   pub few : kept ≤ 512
   pub trail-is : trail ≡ length bs
+
+-- a constraint by its reference, with a path's bindings ..
+pub record Constrains (ws s : List ℕ) (bs : Substitution) (w : ℕ) (c : Constraint) : Type 0 where
+  pub held : Binds ws s bs
+  pub keeps : KeepsAt ws w c
+
+-- .. and with its constraints
+pub record Reviews (ws s : List ℕ) (bs : Substitution) (cs : List Constraint) (trail kept w : ℕ) (c : Constraint) : Type 0 where
+  pub whole : Kept ws s bs cs trail kept
+  pub keeps : KeepsAt ws w c
+
+-- a term that is to be of a sort: the kind of its atoms, and that of the type that it excludes
+pub record Typing (ws s : List ℕ) (bs : Substitution) (cs : List Constraint) (trail kept : ℕ) (k : Sort) (w : ℕ) (t : Term) (atom other : ℕ) : Type 0 where
+  pub whole : Kept ws s bs cs trail kept
+  pub stands : Stands ws w t
+  pub is-atom : atom ≡ atom-kind k
+  pub is-other : other ≡ other-kind k
 
 -- what each case says
 unfoldable pub review-says : Reviewed → Outcome Bool

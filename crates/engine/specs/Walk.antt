@@ -5,7 +5,7 @@ use mathlib.Core.List.{List}
 use lib.ListN.{length}
 use Rattle.rules.specs.Reading.{kind-at, payload-at}
 use Rattle.rules.specs.Syntax.{Term}
-use Rattle.semantics.specs.Substitution.{Substitution}
+use Rattle.semantics.specs.Substitution.{Substitution, walk}
 use Rattle.semantics.specs.Invariant.{Good}
 use Rattle.engine.specs.Reference.{at, pos-of, Stands}
 use Rattle.engine.specs.Memory.{BindingsIn}
@@ -32,3 +32,8 @@ pub record Binds (ws s : List ℕ) (bs : Substitution) : Type 0 where
 pub record Follows (ws s : List ℕ) (bs : Substitution) (w : ℕ) (t : Term) : Type 0 where
   pub binds : Binds ws s bs
   pub stands : Stands ws w t
+
+-- what `walk` gives: the word at a reference, which stands for the term that the definition walks to
+pub record WalkedTo (ws s : List ℕ) (w : ℕ) (r : Walked) : Type 0 where
+  pub node : IsNode ws r
+  pub stands : (bs : Substitution) (t : Term) → Follows ws s bs w t → Stands ws (r .at) (walk bs t)

@@ -14,10 +14,8 @@ use crate::walk::node_at;
 use crate::walk::skip;
 use crate::walk::variable_at;
 use word::Word;
-ghost use mathlib.Core.Path.{_≡_};
 ghost use mathlib.Core.List.{List};
-ghost use Prim.Native.Nat.{ℕ, _+_, _<_, _≤_};
-ghost use lib.ListN.{length};
+ghost use Prim.Native.Nat.{ℕ, _+_, _<_};
 ghost use Rattle.rules.specs.Syntax.{Term, call, Program};
 ghost use Rattle.semantics.specs.Substitution.{Substitution, argument};
 ghost use Rattle.semantics.specs.Path.{Path, ChoicePoint, take-call};
@@ -107,18 +105,12 @@ pub(crate) fn take_call(
         };
     }
     let trail = pass(program, scratch, goal + 2, st.made, called.params, st.trail);
-    let made = State {
-        head: st.head,
-        trail,
-        made: st.made + called.vars,
-        put: st.put,
-        kept: st.kept,
-        calls: st.calls + 1,
-        choices: st.choices,
-        left: st.left,
-    };
+    let mut next = st;
+    next.trail = trail;
+    next.made = st.made + called.vars;
+    next.calls = st.calls + 1;
     Took {
         way: Way::Goes,
-        state: wait(scratch, made, called.body + ENVIRONMENT * st.made),
+        state: wait(scratch, next, called.body + ENVIRONMENT * st.made),
     }
 }

@@ -17,10 +17,8 @@ ghost use Rattle.semantics.specs.Substitution.{Substitution, walk};
 ghost use Rattle.semantics.specs.Steps.{and-then, done};
 ghost use Rattle.semantics.specs.Unify as unification;
 ghost use Rattle.semantics.specs.Review as definition;
-ghost use Rattle.engine.specs.Reference.{Stands, KeepsAt};
-ghost use Rattle.engine.specs.Walk.{Binds};
 ghost use Rattle.engine.specs.Unify.{Meets};
-ghost use Rattle.engine.specs.Review.{atom-kind, other-kind, Kept, review-says, ReviewedAs};
+ghost use Rattle.engine.specs.Review.{other-kind, Kept, Constrains, Reviews, Typing, review-says, ReviewedAs};
 
 // A number is the steps left.
 pub enum Reviewed {
@@ -32,8 +30,9 @@ pub enum Reviewed {
 
 // Is the constraint a type of this kind that reaches the open variable?
 fn reaches(program: &[u32], scratch: &[u32], constraint: u32, kind: u32, variable: u32) -> bool
-    requires { ⌜ ((bs : Substitution) × (c : Constraint) × (k : Sort) × Binds (now program) (now scratch) bs × KeepsAt (now program) constraint c × (kind ≡ other-kind k)) ⌝ }
-    ensures { λ r. ⌜ ((bs : Substitution) (c : Constraint) (k : Sort) → Binds (now (program .entry)) (now (scratch .entry)) bs → KeepsAt (now (program .entry)) constraint c → kind ≡ other-kind k → r ≡ definition.reaches bs k variable c) ⌝ }
+    requires { ⌜ ((bs : Substitution) × (c : Constraint) × (k : Sort) × Constrains (now program) (now scratch) bs constraint c × (kind ≡ other-kind k)) ⌝ }
+    ensures { λ r. ⌜ ((bs : Substitution) (c : Constraint) (k : Sort) → Constrains (now (program .entry)) (now (scratch .entry)) bs constraint c → kind ≡ other-kind k
+        → r ≡ definition.reaches bs k variable c) ⌝ }
 {
     if node_at(&*program, constraint).kind != kind {
         return false;
@@ -58,7 +57,8 @@ fn clashes(
     kept: u32,
 ) -> bool
     requires { ⌜ ((bs : Substitution) × (cs : List Constraint) × (k : Sort) × Kept (now program) (now scratch) bs cs trail kept × (kind ≡ other-kind k)) ⌝ }
-    ensures { λ r. ⌜ ((bs : Substitution) (cs : List Constraint) (k : Sort) → Kept (now (program .entry)) (now (scratch .entry)) bs cs trail kept → kind ≡ other-kind k → r ≡ definition.clashes bs k variable cs) ⌝ }
+    ensures { λ r. ⌜ ((bs : Substitution) (cs : List Constraint) (k : Sort) → Kept (now (program .entry)) (now (scratch .entry)) bs cs trail kept → kind ≡ other-kind k
+        → r ≡ definition.clashes bs k variable cs) ⌝ }
 {
     let mut i = 0;
     while i < kept {
@@ -87,8 +87,8 @@ fn review_type(
     kept: u32,
     left: u32,
 ) -> Reviewed
-    requires { ⌜ ((bs : Substitution) × (cs : List Constraint) × (k : Sort) × (t : Term) × Kept (now program) (now scratch) bs cs trail kept × Stands (now program) term t × (atom ≡ atom-kind k) × (other ≡ other-kind k)) ⌝ }
-    ensures { λ r. ⌜ ((bs : Substitution) (cs : List Constraint) (k : Sort) (t : Term) → Kept (now (program .entry)) (now (scratch .entry)) bs cs trail kept → Stands (now (program .entry)) term t → atom ≡ atom-kind k → other ≡ other-kind k
+    requires { ⌜ ((bs : Substitution) × (cs : List Constraint) × (k : Sort) × (t : Term) × Typing (now program) (now scratch) bs cs trail kept k term t atom other) ⌝ }
+    ensures { λ r. ⌜ ((bs : Substitution) (cs : List Constraint) (k : Sort) (t : Term) → Typing (now (program .entry)) (now (scratch .entry)) bs cs trail kept k term t atom other
         → done (definition.sort-fails bs cs k (walk bs t)) left ≡ review-says r) ⌝ }
 {
     let node = walk(&*program, &*scratch, term);
@@ -114,8 +114,9 @@ fn review_type(
 
 // An absento's review: fails if the tag is in the term.
 fn review_absento(program: &[u32], scratch: &[u32], constraint: u32, left: u32) -> Reviewed
-    requires { ⌜ ((bs : Substitution) × (a : Atom) × (t : Term) × Binds (now program) (now scratch) bs × KeepsAt (now program) constraint (absento a t)) ⌝ }
-    ensures { λ r. ⌜ ((bs : Substitution) (a : Atom) (t : Term) → Binds (now (program .entry)) (now (scratch .entry)) bs → KeepsAt (now (program .entry)) constraint (absento a t) → unification.scan (unification.is-atom a) bs [] t left ≡ review-says r) ⌝ }
+    requires { ⌜ ((bs : Substitution) × (a : Atom) × (t : Term) × Constrains (now program) (now scratch) bs constraint (absento a t)) ⌝ }
+    ensures { λ r. ⌜ ((bs : Substitution) (a : Atom) (t : Term) → Constrains (now (program .entry)) (now (scratch .entry)) bs constraint (absento a t)
+        → unification.scan (unification.is-atom a) bs [] t left ≡ review-says r) ⌝ }
 {
     let tag = node_at(&*program, constraint + 1).bits;
     match scan(&*program, &*scratch, tag, constraint + 2, 0, left) {
@@ -171,8 +172,8 @@ pub(crate) fn review(
     kept: u32,
     steps: u32,
 ) -> Reviewed
-    requires { ⌜ ((bs : Substitution) × (cs : List Constraint) × (c : Constraint) × Kept (now program) (now scratch) bs cs trail kept × KeepsAt (now program) constraint c) ⌝ }
-    ensures { λ r. ⌜ ((bs : Substitution) (cs : List Constraint) (c : Constraint) → Kept (now (program .entry)) (now (scratch .entry)) bs cs trail kept → KeepsAt (now (program .entry)) constraint c
+    requires { ⌜ ((bs : Substitution) × (cs : List Constraint) × (c : Constraint) × Reviews (now program) (now scratch) bs cs trail kept constraint c) ⌝ }
+    ensures { λ r. ⌜ ((bs : Substitution) (cs : List Constraint) (c : Constraint) → Reviews (now (program .entry)) (now (scratch .entry)) bs cs trail kept constraint c
         → ReviewedAs (now (program .entry)) (now (scratch .entry)) (now (scratch .exit)) bs (definition.review bs cs c steps) r) ⌝ }
 {
     if steps == 0 {

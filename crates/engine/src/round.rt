@@ -83,7 +83,8 @@ fn give(
     cuts: u32,
 ) -> Given
     requires { ⌜ ((P : Program) × (p : Path) × (cs : List ChoicePoint) × (a : definition.Tally) × Giving P (now program) (now scratch) (now output) st p cs params used answers cuts a) ⌝ }
-    ensures { λ r. ⌜ ((P : Program) (k : ℕ) (p : Path) (cs : List ChoicePoint) (a : definition.Tally) → Giving P (now (program .entry)) (now (scratch .entry)) (now (output .entry)) st p cs params used answers cuts a
+    ensures { λ r. ⌜ ((P : Program) (k : ℕ) (p : Path) (cs : List ChoicePoint) (a : definition.Tally)
+        → Giving P (now (program .entry)) (now (scratch .entry)) (now (output .entry)) st p cs params used answers cuts a
         → GivenAs P (now (program .entry)) (now (scratch .exit)) (now (output .exit)) st answers cuts (definition.give P params k cs a (answer p params (st .left))) r) ⌝ }
 {
     match write_answer(program, scratch, output, st, params, used) {

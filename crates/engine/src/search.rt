@@ -30,7 +30,8 @@ pub(crate) fn search(
     before: u32,
 ) -> Searched
     requires { ⌜ ((P : Program) × (wf : ProgramIn P) × (n : ℕ) × (state : definition.State) × Searching P wf n round (now program) (now scratch) first task before state) ⌝ }
-    ensures { λ r. ⌜ ((P : Program) (wf : ProgramIn P) (n : ℕ) (state : definition.State) (fuel : ℕ) → Searching P wf n round (now (program .entry)) (now (scratch .entry)) first task before state → state .tally .left < fuel
+    ensures { λ r. ⌜ ((P : Program) (wf : ProgramIn P) (n : ℕ) (state : definition.State) (fuel : ℕ)
+        → Searching P wf n round (now (program .entry)) (now (scratch .entry)) first task before state → state .tally .left < fuel
         → SearchedAs P wf n round (now (program .entry)) (now (scratch .exit)) state fuel r) ⌝ }
 {
     let mut st = first;

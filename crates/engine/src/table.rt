@@ -3,7 +3,7 @@ use crate::layout::RELATIONS;
 use crate::walk::node_at;
 ghost use mathlib.Core.Path.{_≡_};
 ghost use mathlib.Core.Option.{some};
-ghost use Prim.Native.Nat.{ℕ, _≤_};
+ghost use Prim.Native.Nat.{_≤_};
 ghost use lib.ListN.{length, getElem?};
 ghost use Rattle.rules.specs.Syntax.{Relation, Program};
 ghost use Rattle.rules.specs.Inner.{RelationsAt};

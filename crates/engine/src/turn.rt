@@ -8,21 +8,20 @@ use crate::state::State;
 use crate::state::Turned;
 use crate::state::Way;
 use crate::take::take;
-ghost use mathlib.Core.Path.{_≡_};
 ghost use mathlib.Core.List.{List};
 ghost use Prim.Native.Nat.{ℕ};
 ghost use Rattle.rules.specs.Syntax.{Program};
 ghost use Rattle.semantics.specs.Steps.{Outcome, done};
-ghost use Rattle.semantics.specs.Path.{Path, ChoicePoint, Taken, goes, take-goal};
+ghost use Rattle.semantics.specs.Path.{Path, ChoicePoint, Taken, goes};
 ghost use Rattle.semantics.specs.Round as definition;
-ghost use Rattle.engine.specs.Taking.{Holds, Due};
-ghost use Rattle.engine.specs.Turning.{tallied, NextAs};
+ghost use Rattle.engine.specs.Taking.{Holds};
+ghost use Rattle.engine.specs.Turning.{Turning, took-goal, tallied, TurnedAs};
 
 // The path is left; `cuts` is 1 if it was cut.
 fn leave(program: &[u32], scratch: &mut [u32], st: State, cuts: u32) -> Turned
     requires { ⌜ ((P : Program) × (p : Path) × (cs : List ChoicePoint) × Holds P (now program) (now scratch) st p cs) ⌝ }
     ensures { λ r. ⌜ ((P : Program) (n k : ℕ) (p : Path) (cs : List ChoicePoint) (t : definition.Tally) (o : Outcome Taken) → Holds P (now (program .entry)) (now (scratch .entry)) st p cs
-        → NextAs P n k (now (program .entry)) (now (scratch .exit)) t o (definition.back cs (tallied t (st .left) cuts)) (r .lead) (r .state) (r .goal) (r .cuts)) ⌝ }
+        → TurnedAs P n k (now (program .entry)) (now (scratch .exit)) t o (definition.back cs (tallied t (st .left) cuts)) r) ⌝ }
 {
     match back(program, scratch, st) {
         Resumed::Over => Turned {
@@ -44,7 +43,7 @@ fn leave(program: &[u32], scratch: &mut [u32], st: State, cuts: u32) -> Turned
 fn go_on(program: &[u32], scratch: &mut [u32], st: State, round: u32) -> Turned
     requires { ⌜ ((P : Program) × (p : Path) × (cs : List ChoicePoint) × Holds P (now program) (now scratch) st p cs) ⌝ }
     ensures { λ r. ⌜ ((P : Program) (n : ℕ) (p : Path) (cs : List ChoicePoint) (t : definition.Tally) → Holds P (now (program .entry)) (now (scratch .entry)) st p cs
-        → NextAs P n round (now (program .entry)) (now (scratch .exit)) t (done (goes p cs) (st .left)) (definition.go-on P n round p (p .stack) cs (definition.spend t (st .left))) (r .lead) (r .state) (r .goal) (r .cuts)) ⌝ }
+        → TurnedAs P n round (now (program .entry)) (now (scratch .exit)) t (done (goes p cs) (st .left)) (definition.go-on P n round p (p .stack) cs (definition.spend t (st .left))) r) ⌝ }
 {
     if st.head == 0 {
         if st.calls == round {
@@ -57,30 +56,21 @@ fn go_on(program: &[u32], scratch: &mut [u32], st: State, round: u32) -> Turned
         }
         return leave(program, scratch, st, 0);
     }
-    let goal = (CELL_GOAL + 2 * st.head) as usize;
-    let next = (CELL_NEXT + 2 * st.head) as usize;
-    let popped = State {
-        head: scratch[next],
-        trail: st.trail,
-        made: st.made,
-        put: st.put,
-        kept: st.kept,
-        calls: st.calls,
-        choices: st.choices,
-        left: st.left,
-    };
+    let goal = scratch[(CELL_GOAL + 2 * st.head) as usize];
+    let mut next = st;
+    next.head = scratch[(CELL_NEXT + 2 * st.head) as usize];
     Turned {
         lead: Lead::Goal,
-        state: popped,
-        goal: scratch[goal],
+        state: next,
+        goal,
         cuts: 0,
     }
 }
 
 pub(crate) fn turn(program: &[u32], scratch: &mut [u32], st: State, goal: u32, round: u32) -> Turned
-    requires { ⌜ ((P : Program) × (state : definition.State) × Due P (now program) (now scratch) st goal (state .path) (state .choices) (state .task)) ⌝ }
-    ensures { λ r. ⌜ ((P : Program) (n : ℕ) (state : definition.State) → Due P (now (program .entry)) (now (scratch .entry)) st goal (state .path) (state .choices) (state .task) → state .tally .left ≡ st .left
-        → NextAs P n round (now (program .entry)) (now (scratch .exit)) (state .tally) (take-goal round P (state .path) (state .choices) (state .task .0) (state .task .1) (st .left)) (definition.turn P n round state) (r .lead) (r .state) (r .goal) (r .cuts)) ⌝ }
+    requires { ⌜ ((P : Program) × (state : definition.State) × Turning P (now program) (now scratch) st goal state) ⌝ }
+    ensures { λ r. ⌜ ((P : Program) (n : ℕ) (state : definition.State) → Turning P (now (program .entry)) (now (scratch .entry)) st goal state
+        → TurnedAs P n round (now (program .entry)) (now (scratch .exit)) (state .tally) (took-goal round P state (st .left)) (definition.turn P n round state) r) ⌝ }
 {
     let took = take(program, scratch, st, goal, round);
     let way = took.way;

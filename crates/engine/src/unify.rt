@@ -86,7 +86,8 @@ fn compare(a: Walked, b: Walked) -> Compared
 // One pair is looked at: followed, compared, and a variable bound unless it occurs in the other side.
 fn meet(program: &[u32], scratch: &mut [u32], left: u32, right: u32, trail: u32, steps: u32) -> Met
     requires { ⌜ (0 < steps) × ((bs : Substitution) × (u : Term) × (v : Term) × Meets (now program) (now scratch) bs left u right v trail) ⌝ }
-    ensures { λ r. ⌜ ((bs : Substitution) (u v : Term) → Meets (now (program .entry)) (now (scratch .entry)) bs left u right v trail → MetAs (now (program .entry)) (now (scratch .entry)) (now (scratch .exit)) bs u v steps r) ⌝ }
+    ensures { λ r. ⌜ ((bs : Substitution) (u v : Term) → Meets (now (program .entry)) (now (scratch .entry)) bs left u right v trail
+        → MetAs (now (program .entry)) (now (scratch .entry)) (now (scratch .exit)) bs u v steps r) ⌝ }
 {
     let a = walk(program, scratch, left);
     let b = walk(program, scratch, right);
@@ -123,7 +124,8 @@ pub(crate) fn unify(
     steps: u32,
 ) -> Unified
     requires { ⌜ ((bs : Substitution) × (u : Term) × (v : Term) × Meets (now program) (now scratch) bs left u right v mark) ⌝ }
-    ensures { λ r. ⌜ ((bs : Substitution) (u v : Term) → Meets (now (program .entry)) (now (scratch .entry)) bs left u right v mark → UnifiedAs (now (program .entry)) (now (scratch .entry)) (now (scratch .exit)) bs (unify-terms bs u v steps) r) ⌝ }
+    ensures { λ r. ⌜ ((bs : Substitution) (u v : Term) → Meets (now (program .entry)) (now (scratch .entry)) bs left u right v mark
+        → UnifiedAs (now (program .entry)) (now (scratch .entry)) (now (scratch .exit)) bs (unify-terms bs u v steps) r) ⌝ }
 {
     let mut a = left;
     let mut b = right;

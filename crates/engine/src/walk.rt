@@ -5,9 +5,9 @@ ghost use mathlib.Core.Path.{_≡_};
 ghost use Prim.Native.Nat.{_+_, _<_};
 ghost use lib.ListN.{length};
 ghost use Rattle.rules.specs.Syntax.{Term};
-ghost use Rattle.semantics.specs.Substitution.{Substitution, walk};
+ghost use Rattle.semantics.specs.Substitution.{Substitution};
 ghost use Rattle.engine.specs.Reference.{base-of, pos-of, Stands};
-ghost use Rattle.engine.specs.Walk.{NodeAt, IsNode, Follows};
+ghost use Rattle.engine.specs.Walk.{NodeAt, Follows, WalkedTo};
 
 // The word at a reference.
 pub struct Node {
@@ -56,7 +56,7 @@ pub struct Walked {
 // The term, followed through the bindings: up to an atom, a pair or an open variable.
 pub(crate) fn walk(program: &[u32], scratch: &[u32], term: u32) -> Walked
     requires { ⌜ ((bs : Substitution) × (t : Term) × Follows (now program) (now scratch) bs term t) ⌝ }
-    ensures { λ r. ⌜ IsNode (now (program .entry)) r × ((bs : Substitution) (t : Term) → Follows (now (program .entry)) (now (scratch .entry)) bs term t → Stands (now (program .entry)) (r .at) (walk bs t)) ⌝ }
+    ensures { λ r. ⌜ WalkedTo (now (program .entry)) (now (scratch .entry)) term r ⌝ }
 {
     let mut at = term;
     loop {

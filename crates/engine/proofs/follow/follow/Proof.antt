@@ -15,22 +15,22 @@ variable-at-requires : tie.Need-variable-at-requires
 variable-at-requires c κs = search needs
 
 returns : tie.Need-returns
-returns c = λ t h. shaped-open h (c .before .before .walk .ensures .1) (c .before .before .walk .ensures .0) (c .variable-at .ensures) (c .before .if1 .taken)
+returns c = λ t h. shaped-open h (c .before .before .walk .ensures .stands) (c .before .before .walk .ensures .node) (c .variable-at .ensures) (c .before .if1 .taken)
 
 add-t10 : tie.Need-add-t10
-add-t10 c = omega (arith, walked-below (c .before .before .before .before .before .pre .1) (c .before .before .walk .ensures .1))
+add-t10 c = omega (arith, walked-below (c .before .before .before .before .before .pre .1) (c .before .before .walk .ensures .stands))
 
 add-t11 : tie.Need-add-t11
-add-t11 c = omega (arith, walked-below (c .before .before .before .before .before .pre .1) (c .before .before .walk .ensures .1))
+add-t11 c = omega (arith, walked-below (c .before .before .before .before .before .pre .1) (c .before .before .walk .ensures .stands))
 
 add-t12 : tie.Need-add-t12
-add-t12 c = omega (arith, walked-below (c .before .before .before .before .before .pre .1) (c .before .before .walk .ensures .1), c .before .before .walk .ensures .0 .is-payload)
+add-t12 c = omega (arith, walked-below (c .before .before .before .before .before .pre .1) (c .before .before .walk .ensures .stands), c .before .before .walk .ensures .node .is-payload)
 
 returns-2 : tie.Need-returns-2
-returns-2 c = λ t h. shaped-pair h (c .before .before .walk .ensures .1) (c .before .before .walk .ensures .0) (c .if2 .taken)
+returns-2 c = λ t h. shaped-pair h (c .before .before .walk .ensures .stands) (c .before .before .walk .ensures .node) (c .if2 .taken)
 
 returns-3 : tie.Need-returns-3
-returns-3 c = λ t h. shaped-leaf h (c .before .before .walk .ensures .1) (c .before .before .walk .ensures .0) (c .before .if1 .left) (c .if2 .left)
+returns-3 c = λ t h. shaped-leaf h (c .before .before .walk .ensures .stands) (c .before .before .walk .ensures .node) (c .before .if1 .left) (c .if2 .left)
 
 pub follow-spec : {M : Type 1} → statement M
 follow-spec =

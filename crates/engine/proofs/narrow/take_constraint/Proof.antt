@@ -1,5 +1,5 @@
 -- `take_constraint` keeps the constraint and reviews it.
-use Rattle.engine.proofs.NarrowTaken.{constraint-full, constraint-kept, constraint-keeps, constraint-long, constraint-took}
+use Rattle.engine.proofs.NarrowTaken.{constraint-full, constraint-reviews, constraint-long, constraint-took}
 use borrow.Author.Needs.{needs}
 use Rattle.engine.proofs.narrow.take_constraint.Statement.{statement}
 use Rattle.engine.proofs.narrow.take_constraint.Tie as tie
@@ -31,7 +31,7 @@ add-review : tie.Need-add-review
 add-review c = search needs
 
 review-requires : tie.Need-review-requires
-review-requires c κs = (_, _, _, constraint-kept (c .before .before .before .before .before .before .before .pre .5) (c .before .before .before .if1 .left), constraint-keeps (c .before .before .before .before .before .before .before .pre .5))
+review-requires c κs = (_, _, _, constraint-reviews (c .before .before .before .before .before .before .before .pre .5) (c .before .before .before .if1 .left))
 
 add-narrowed : tie.Need-add-narrowed
 add-narrowed c = search needs

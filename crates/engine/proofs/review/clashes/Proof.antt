@@ -32,10 +32,10 @@ shared-slice-read-reaches : tie.Need-shared-slice-read-reaches Inv-loop μ-loop
 shared-slice-read-reaches c = omega (arith, c .before .before .before .before .before .pre .3 .few, c .before .before .before .before .before .pre .3 .held .long, c .before .loop-test .taken)
 
 reaches-requires : tie.Need-reaches-requires Inv-loop μ-loop
-reaches-requires c κs = let p = c .before .before .before .before .before .pre in let n = clash-next (c .before .before .loop .inv (p .0) (p .1) (p .2) (p .3) (p .4)) (c .before .loop-test .taken) in (p .0, n .first, p .2, p .3 .held, n .keeps, p .4)
+reaches-requires c κs = let p = c .before .before .before .before .before .pre in let n = clash-next (c .before .before .loop .inv (p .0) (p .1) (p .2) (p .3) (p .4)) (c .before .loop-test .taken) in (p .0, n .first, p .2, record { held = p .3 .held; keeps = n .keeps }, p .4)
 
 returns : tie.Need-returns Inv-loop μ-loop
-returns c = λ bs cs k h e. let n = clash-next (c .before .before .before .before .loop .inv bs cs k h e) (c .before .before .before .loop-test .taken) in clash-found n (c .before .reaches .ensures bs (n .first) k (h .held) (n .keeps) e) (c .if1 .taken)
+returns c = λ bs cs k h e. let n = clash-next (c .before .before .before .before .loop .inv bs cs k h e) (c .before .before .before .loop-test .taken) in clash-found n (c .before .reaches .ensures bs (n .first) k (record { held = h .held; keeps = n .keeps }) e) (c .if1 .taken)
 
 add-i : tie.Need-add-i Inv-loop μ-loop
 add-i c = omega (arith, c .before .before .before .before .before .before .before .pre .3 .few, c .before .before .before .loop-test .taken)
@@ -44,7 +44,7 @@ loop-less : tie.Need-loop-less Inv-loop μ-loop
 loop-less c = omega (arith, c .before .before .before .loop-test .taken)
 
 loop-again : tie.Need-loop-again Inv-loop μ-loop
-loop-again c = λ bs cs k h e. let n = clash-next (c .before .before .before .before .loop .inv bs cs k h e) (c .before .before .before .loop-test .taken) in clash-again n (c .before .reaches .ensures bs (n .first) k (h .held) (n .keeps) e) (c .if1 .left)
+loop-again c = λ bs cs k h e. let n = clash-next (c .before .before .before .before .loop .inv bs cs k h e) (c .before .before .before .loop-test .taken) in clash-again n (c .before .reaches .ensures bs (n .first) k (record { held = h .held; keeps = n .keeps }) e) (c .if1 .left)
 
 returns-2 : tie.Need-returns-2 Inv-loop μ-loop
 returns-2 c = λ bs cs k h e. clash-none (c .before .loop .inv bs cs k h e) (c .loop-test .left)

@@ -32,7 +32,7 @@ slice-read-constraint : tie.Need-slice-read-constraint Inv-loop μ-loop
 slice-read-constraint c = let p = c .before .before .before .before .before .pre in omega (arith, c .before .loop-test .taken, p .2 .few, c .before .before .loop .inv (p .0) (p .1) (p .2) .whole .held .long)
 
 review-requires : tie.Need-review-requires Inv-loop μ-loop
-review-requires c κs = let p = c .before .before .before .before .before .before .pre in let g = c .before .before .before .loop .inv (p .0) (p .1) (p .2) in let n = reviews-next g (c .before .before .loop-test .taken) in (p .0, p .1, n .first, g .whole, n .keeps)
+review-requires c κs = let p = c .before .before .before .before .before .before .pre in let g = c .before .before .before .loop .inv (p .0) (p .1) (p .2) in let n = reviews-next g (c .before .before .loop-test .taken) in (p .0, p .1, n .first, record { whole = g .whole; keeps = n .keeps })
 
 enum-known-rest : tie.Need-enum-known-rest Inv-loop μ-loop
 enum-known-rest c = search needs
@@ -44,34 +44,34 @@ loop-less : tie.Need-loop-less Inv-loop μ-loop
 loop-less c = omega (arith, c .before .before .before .before .before .before .before .before .loop-test .taken)
 
 loop-again : tie.Need-loop-again Inv-loop μ-loop
-loop-again c = λ bs cs h. let g = c .before .before .before .before .before .before .before .before .before .loop .inv bs cs h in let n = reviews-next g (c .before .before .before .before .before .before .before .before .loop-test .taken) in review-again g n _ _ (c .before .before .before .before .before .review .ensures bs cs (n .first) (g .whole) (n .keeps)) (c .before .rest .given .1)
+loop-again c = λ bs cs h. let g = c .before .before .before .before .before .before .before .before .before .loop .inv bs cs h in let n = reviews-next g (c .before .before .before .before .before .before .before .before .loop-test .taken) in review-again g n _ _ (c .before .before .before .before .before .review .ensures bs cs (n .first) (record { whole = g .whole; keeps = n .keeps })) (c .before .rest .given .1)
 
 enum-known-rest-2 : tie.Need-enum-known-rest-2 Inv-loop μ-loop
 enum-known-rest-2 c = search needs
 
 same-length : tie.Need-same-length Inv-loop μ-loop
-same-length c = let p = c .before .before .before .before .before .before .before .before .before .before .before .before .pre in let g = c .before .before .before .before .before .before .before .before .before .loop .inv (p .0) (p .1) (p .2) in let n = reviews-next g (c .before .before .before .before .before .before .before .before .loop-test .taken) in review-long g n _ _ (c .before .before .before .before .before .review .ensures (p .0) (p .1) (n .first) (g .whole) (n .keeps))
+same-length c = let p = c .before .before .before .before .before .before .before .before .before .before .before .before .pre in let g = c .before .before .before .before .before .before .before .before .before .loop .inv (p .0) (p .1) (p .2) in let n = reviews-next g (c .before .before .before .before .before .before .before .before .loop-test .taken) in review-long g n _ _ (c .before .before .before .before .before .review .ensures (p .0) (p .1) (n .first) (record { whole = g .whole; keeps = n .keeps }))
 
 returns : tie.Need-returns Inv-loop μ-loop
-returns c = λ bs cs h. let g = c .before .before .before .before .before .before .before .before .before .loop .inv bs cs h in let n = reviews-next g (c .before .before .before .before .before .before .before .before .loop-test .taken) in review-breaks g n _ _ (c .before .before .before .before .before .review .ensures bs cs (n .first) (g .whole) (n .keeps)) (c .before .rest2 .given .1)
+returns c = λ bs cs h. let g = c .before .before .before .before .before .before .before .before .before .loop .inv bs cs h in let n = reviews-next g (c .before .before .before .before .before .before .before .before .loop-test .taken) in review-breaks g n _ _ (c .before .before .before .before .before .review .ensures bs cs (n .first) (record { whole = g .whole; keeps = n .keeps })) (c .before .rest2 .given .1)
 
 enum-told : tie.Need-enum-told Inv-loop μ-loop
 enum-told c = search needs
 
 same-length-2 : tie.Need-same-length-2 Inv-loop μ-loop
-same-length-2 c = let p = c .before .before .before .before .before .before .before .before .before .before .before .pre in let g = c .before .before .before .before .before .before .before .before .loop .inv (p .0) (p .1) (p .2) in let n = reviews-next g (c .before .before .before .before .before .before .before .loop-test .taken) in review-long g n _ _ (c .before .before .before .before .review .ensures (p .0) (p .1) (n .first) (g .whole) (n .keeps))
+same-length-2 c = let p = c .before .before .before .before .before .before .before .before .before .before .before .pre in let g = c .before .before .before .before .before .before .before .before .loop .inv (p .0) (p .1) (p .2) in let n = reviews-next g (c .before .before .before .before .before .before .before .loop-test .taken) in review-long g n _ _ (c .before .before .before .before .review .ensures (p .0) (p .1) (n .first) (record { whole = g .whole; keeps = n .keeps }))
 
 returns-2 : tie.Need-returns-2 Inv-loop μ-loop
-returns-2 c = λ bs cs h. let g = c .before .before .before .before .before .before .before .before .loop .inv bs cs h in let n = reviews-next g (c .before .before .before .before .before .before .before .loop-test .taken) in review-stops g n _ _ (c .before .before .before .before .review .ensures bs cs (n .first) (g .whole) (n .keeps)) (c .enum-told .given .1)
+returns-2 c = λ bs cs h. let g = c .before .before .before .before .before .before .before .before .loop .inv bs cs h in let n = reviews-next g (c .before .before .before .before .before .before .before .loop-test .taken) in review-stops g n _ _ (c .before .before .before .before .review .ensures bs cs (n .first) (record { whole = g .whole; keeps = n .keeps })) (c .enum-told .given .1)
 
 enum-known-rest-3 : tie.Need-enum-known-rest-3 Inv-loop μ-loop
 enum-known-rest-3 c = search needs
 
 same-length-3 : tie.Need-same-length-3 Inv-loop μ-loop
-same-length-3 c = let p = c .before .before .before .before .before .before .before .before .before .before .before .before .pre in let g = c .before .before .before .before .before .before .before .before .before .loop .inv (p .0) (p .1) (p .2) in let n = reviews-next g (c .before .before .before .before .before .before .before .before .loop-test .taken) in review-long g n _ _ (c .before .before .before .before .before .review .ensures (p .0) (p .1) (n .first) (g .whole) (n .keeps))
+same-length-3 c = let p = c .before .before .before .before .before .before .before .before .before .before .before .before .pre in let g = c .before .before .before .before .before .before .before .before .before .loop .inv (p .0) (p .1) (p .2) in let n = reviews-next g (c .before .before .before .before .before .before .before .before .loop-test .taken) in review-long g n _ _ (c .before .before .before .before .before .review .ensures (p .0) (p .1) (n .first) (record { whole = g .whole; keeps = n .keeps }))
 
 returns-3 : tie.Need-returns-3 Inv-loop μ-loop
-returns-3 c = λ bs cs h. let g = c .before .before .before .before .before .before .before .before .before .loop .inv bs cs h in let n = reviews-next g (c .before .before .before .before .before .before .before .before .loop-test .taken) in review-bound g n _ _ (c .before .before .before .before .before .review .ensures bs cs (n .first) (g .whole) (n .keeps)) (c .before .rest3 .given .1)
+returns-3 c = λ bs cs h. let g = c .before .before .before .before .before .before .before .before .before .loop .inv bs cs h in let n = reviews-next g (c .before .before .before .before .before .before .before .before .loop-test .taken) in review-bound g n _ _ (c .before .before .before .before .before .review .ensures bs cs (n .first) (record { whole = g .whole; keeps = n .keeps })) (c .before .rest3 .given .1)
 
 same-length-4 : tie.Need-same-length-4 Inv-loop μ-loop
 same-length-4 c = let p = c .before .before .before .before .pre in c .before .loop .inv (p .0) (p .1) (p .2) .apart .long

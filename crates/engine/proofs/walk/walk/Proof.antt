@@ -23,7 +23,7 @@ node-at-requires : tie.Need-node-at-requires Inv-loop μ-loop
 node-at-requires c κs = stands-inside (c .loop .inv (c .before .before .before .pre .0) (c .before .before .before .pre .1) (c .before .before .before .pre .2) .1 .stands)
 
 returns : tie.Need-returns Inv-loop μ-loop
-returns c = (c .before .before .node-at .ensures, λ bs t f. let q = c .before .before .before .loop .inv bs t f in subst (Stands _ _) (sym (q .2)) (walk-node (q .1) (c .before .before .node-at .ensures) (c .if1 .taken)))
+returns c = record { node = c .before .before .node-at .ensures; stands = λ bs t f. let q = c .before .before .before .loop .inv bs t f in subst (Stands _ _) (sym (q .2)) (walk-node (q .1) (c .before .before .node-at .ensures) (c .if1 .taken)) }
 
 variable-at-requires : tie.Need-variable-at-requires Inv-loop μ-loop
 variable-at-requires c κs = omega (arith, walk-variable (c .before .before .before .loop .inv (c .before .before .before .before .before .before .pre .0) (c .before .before .before .before .before .before .pre .1) (c .before .before .before .before .before .before .pre .2) .1) (c .before .before .node-at .ensures) (c .if1 .left))
@@ -38,7 +38,7 @@ shared-slice-read-entry : tie.Need-shared-slice-read-entry Inv-loop μ-loop
 shared-slice-read-entry c = let f = c .before .before .before .before .before .loop .inv (c .before .before .before .before .before .before .before .before .pre .0) (c .before .before .before .before .before .before .before .before .pre .1) (c .before .before .before .before .before .before .before .before .pre .2) .1 in omega (arith, c .before .variable-at .ensures, walk-variable f (c .before .before .before .before .node-at .ensures) (c .before .before .if1 .left), f .binds .long)
 
 returns-2 : tie.Need-returns-2 Inv-loop μ-loop
-returns-2 c = (c .before .before .before .before .before .node-at .ensures, λ bs t f. let q = c .before .before .before .before .before .before .loop .inv bs t f in subst (Stands _ _) (sym (q .2)) (walk-free (q .1) (c .before .before .before .before .before .node-at .ensures) (c .before .before .variable-at .ensures) (c .before .before .before .if1 .left) (c .if2 .taken)))
+returns-2 c = record { node = c .before .before .before .before .before .node-at .ensures; stands = λ bs t f. let q = c .before .before .before .before .before .before .loop .inv bs t f in subst (Stands _ _) (sym (q .2)) (walk-free (q .1) (c .before .before .before .before .before .node-at .ensures) (c .before .before .variable-at .ensures) (c .before .before .before .if1 .left) (c .if2 .taken)) }
 
 sub-at : tie.Need-sub-at Inv-loop μ-loop
 sub-at c = omega (arith, c .if2 .left)

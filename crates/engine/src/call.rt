@@ -105,12 +105,18 @@ pub(crate) fn take_call(
         };
     }
     let trail = pass(program, scratch, goal + 2, st.made, called.params, st.trail);
-    let mut next = st;
-    next.trail = trail;
-    next.made = st.made + called.vars;
-    next.calls = st.calls + 1;
+    let made = State {
+        head: st.head,
+        trail,
+        made: st.made + called.vars,
+        put: st.put,
+        kept: st.kept,
+        calls: st.calls + 1,
+        choices: st.choices,
+        left: st.left,
+    };
     Took {
         way: Way::Goes,
-        state: wait(scratch, next, called.body + ENVIRONMENT * st.made),
+        state: wait(scratch, made, called.body + ENVIRONMENT * st.made),
     }
 }

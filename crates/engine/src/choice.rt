@@ -29,9 +29,16 @@ pub(crate) fn push(scratch: &mut [u32], st: State, rest: u32, end: u32) -> State
     scratch[at + 5] = st.put;
     scratch[at + 6] = st.kept;
     scratch[at + 7] = st.calls;
-    let mut next = st;
-    next.choices = st.choices + 1;
-    next
+    State {
+        head: st.head,
+        trail: st.trail,
+        made: st.made,
+        put: st.put,
+        kept: st.kept,
+        calls: st.calls,
+        choices: st.choices + 1,
+        left: st.left,
+    }
 }
 
 // The state that the newest choice point has saved, with one goal more put to wait, when so many choice points are left.

@@ -41,12 +41,18 @@ pub(crate) fn take_conj(program: &[u32], scratch: &mut [u32], st: State, conjunc
         scratch[at] = goal;
         if part_end(goal, size) == end {
             scratch[at + 1] = st.head;
-            let mut next = st;
-            next.head = st.put + 1;
-            next.put = filled + 1;
             return Took {
                 way: Way::Goes,
-                state: next,
+                state: State {
+                    head: st.put + 1,
+                    trail: st.trail,
+                    made: st.made,
+                    put: filled + 1,
+                    kept: st.kept,
+                    calls: st.calls,
+                    choices: st.choices,
+                    left: st.left,
+                },
             };
         }
         scratch[at + 1] = filled + 2;
@@ -60,13 +66,20 @@ pub(crate) fn wait(scratch: &mut [u32], st: State, goal: u32) -> State
     requires { ⌜ (12288 ≤ length (now scratch)) × (st .put < 1024) ⌝ }
     ensures { λ r. ⌜ (r ≡ one-waits st) × (now (scratch .exit) ≡ cell (now (scratch .entry)) (st .put + 1) goal (st .head)) ⌝ }
 {
-    let cell = st.put + 1;
-    scratch[(CELL_GOAL + 2 * cell) as usize] = goal;
-    scratch[(CELL_NEXT + 2 * cell) as usize] = st.head;
-    let mut next = st;
-    next.head = cell;
-    next.put = cell;
-    next
+    let at = (CELL_GOAL + 2 * (st.put + 1)) as usize;
+    let next = (CELL_NEXT + 2 * (st.put + 1)) as usize;
+    scratch[at] = goal;
+    scratch[next] = st.head;
+    State {
+        head: st.put + 1,
+        trail: st.trail,
+        made: st.made,
+        put: st.put + 1,
+        kept: st.kept,
+        calls: st.calls,
+        choices: st.choices,
+        left: st.left,
+    }
 }
 
 // A disjunction puts its first alternative to wait; where there are more, a choice point has the others.

@@ -24,11 +24,16 @@ ghost use Rattle.engine.specs.Taking.{Ready, TookAs, narrow, review-took
 pub(crate) fn narrowed(st: State, trail: u32, kept: u32, left: u32) -> State
     ensures { λ r. ⌜ r ≡ narrow st trail kept left ⌝ }
 {
-    let mut next = st;
-    next.trail = trail;
-    next.kept = kept;
-    next.left = left;
-    next
+    State {
+        head: st.head,
+        trail,
+        made: st.made,
+        put: st.put,
+        kept,
+        calls: st.calls,
+        choices: st.choices,
+        left,
+    }
 }
 
 // What a review comes to for its path.

@@ -56,13 +56,22 @@ fn go_on(program: &[u32], scratch: &mut [u32], st: State, round: u32) -> Turned
         }
         return leave(program, scratch, st, 0);
     }
-    let goal = scratch[(CELL_GOAL + 2 * st.head) as usize];
-    let mut next = st;
-    next.head = scratch[(CELL_NEXT + 2 * st.head) as usize];
+    let goal = (CELL_GOAL + 2 * st.head) as usize;
+    let next = (CELL_NEXT + 2 * st.head) as usize;
+    let popped = State {
+        head: scratch[next],
+        trail: st.trail,
+        made: st.made,
+        put: st.put,
+        kept: st.kept,
+        calls: st.calls,
+        choices: st.choices,
+        left: st.left,
+    };
     Turned {
         lead: Lead::Goal,
-        state: next,
-        goal,
+        state: popped,
+        goal: scratch[goal],
         cuts: 0,
     }
 }

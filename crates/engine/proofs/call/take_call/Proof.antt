@@ -50,17 +50,17 @@ add-pass c = omega (arith, (c .before .before .before .before .before .before .b
 pass-requires : tie.Need-pass-requires
 pass-requires c κs = (_, _, _, call-passes (c .before .before .before .before .before .before .before .before .before .before .before .before .before .pre .6) (call-found (c .before .before .before .before .before .before .before .before .before .before .before .before .before .pre .6) (c .before .before .before .before .before .before .before .node-at .ensures) (c .before .before .before .before .before .before .relation .ensures)) (c .before .before .before .if2 .left))
 
-add-next : tie.Need-add-next
-add-next c = search needs
+add-wait : tie.Need-add-wait
+add-wait c = search needs
 
-add-next-2 : tie.Need-add-next-2
-add-next-2 c = omega (arith, c .before .before .before .before .before .before .before .before .before .before .before .before .before .before .before .if1 .left, c .before .before .before .before .before .before .before .before .before .before .before .before .before .before .before .before .before .before .before .fits)
+add-wait-2 : tie.Need-add-wait-2
+add-wait-2 c = omega (arith, c .before .before .before .before .before .before .before .before .before .before .before .before .before .before .before .if1 .left, c .before .before .before .before .before .before .before .before .before .before .before .before .before .before .before .before .before .before .before .fits)
 
 mul-wait : tie.Need-mul-wait
 mul-wait c = search needs
 
-add-wait : tie.Need-add-wait
-add-wait c = let q = call-body (c .before .before .before .before .before .before .before .before .before .before .before .before .before .before .before .before .before .before .before .before .before .before .pre .6) (call-found (c .before .before .before .before .before .before .before .before .before .before .before .before .before .before .before .before .before .before .before .before .before .before .pre .6) (c .before .before .before .before .before .before .before .before .before .before .before .before .before .before .before .before .node-at .ensures) (c .before .before .before .before .before .before .before .before .before .before .before .before .before .before .before .relation .ensures)) (c .before .before .before .before .before .before .before .before .before .before .before .before .if2 .left) in omega (arith, q .0, q .1)
+add-wait-3 : tie.Need-add-wait-3
+add-wait-3 c = let q = call-body (c .before .before .before .before .before .before .before .before .before .before .before .before .before .before .before .before .before .before .before .before .before .before .pre .6) (call-found (c .before .before .before .before .before .before .before .before .before .before .before .before .before .before .before .before .before .before .before .before .before .before .pre .6) (c .before .before .before .before .before .before .before .before .before .before .before .before .before .before .before .before .node-at .ensures) (c .before .before .before .before .before .before .before .before .before .before .before .before .before .before .before .relation .ensures)) (c .before .before .before .before .before .before .before .before .before .before .before .before .if2 .left) in omega (arith, q .0, q .1)
 
 wait-requires : tie.Need-wait-requires
 wait-requires c κs = let q = c .before .before .before .before .before .before .before .before .pass .ensures _ _ _ (call-passes (c .before .before .before .before .before .before .before .before .before .before .before .before .before .before .before .before .before .before .before .before .before .before .pre .6) (call-found (c .before .before .before .before .before .before .before .before .before .before .before .before .before .before .before .before .before .before .before .before .before .before .pre .6) (c .before .before .before .before .before .before .before .before .before .before .before .before .before .before .before .before .node-at .ensures) (c .before .before .before .before .before .before .before .before .before .before .before .before .before .before .before .relation .ensures)) (c .before .before .before .before .before .before .before .before .before .before .before .before .if2 .left)) in (omega (arith, q .apart .long, (c .before .before .before .before .before .before .before .before .before .before .before .before .before .before .before .before .before .before .before .before .before .before .pre .6) .taking .stored .roomy .long), c .before .before .before .before .before .before .before .before .before .before .if3 .left)
@@ -89,10 +89,10 @@ take-call-spec =
     returns-3
     add-pass
     pass-requires
-    add-next
-    add-next-2
-    mul-wait
     add-wait
+    add-wait-2
+    mul-wait
+    add-wait-3
     wait-requires
     same-length-3
     returns-4)

@@ -88,8 +88,8 @@ mul-scratch-8 c = search needs
 slice-write-scratch-8 : tie.Need-slice-write-scratch-8
 slice-write-scratch-8 c = simp length-set (omega (arith, c .before .pre .0, c .before .pre .1))
 
-add-next : tie.Need-add-next
-add-next c = search needs
+add-t6 : tie.Need-add-t6
+add-t6 c = search needs
 
 same-length : tie.Need-same-length
 same-length c = search needs
@@ -127,6 +127,6 @@ push-spec =
     add-scratch-7
     mul-scratch-8
     slice-write-scratch-8
-    add-next
+    add-t6
     same-length
     returns)

@@ -29,26 +29,26 @@ add-goal c = omega (arith, cell-there (c .before .before .before .before .before
 cast-goal : tie.Need-cast-goal
 cast-goal c = search needs
 
-mul-goal-2 : tie.Need-mul-goal-2
-mul-goal-2 c = search needs
-
-slice-read-goal : tie.Need-slice-read-goal
-slice-read-goal c = omega (arith, cell-there (c .before .before .before .before .before .before .args .st) (c .before .before .before .before .before .before .pre .3) (c .before .before .if1 .left), c .before .before .before .before .before .before .pre .3 .roomy .long)
-
 mul-next : tie.Need-mul-next
-mul-next c = omega (arith, cell-there (c .before .before .before .before .before .before .before .args .st) (c .before .before .before .before .before .before .before .pre .3) (c .before .before .before .if1 .left))
+mul-next c = omega (arith, cell-there (c .before .before .before .before .before .before .args .st) (c .before .before .before .before .before .before .pre .3) (c .before .before .if1 .left))
 
 add-next : tie.Need-add-next
-add-next c = omega (arith, cell-there (c .before .before .before .before .before .before .before .args .st) (c .before .before .before .before .before .before .before .pre .3) (c .before .before .before .if1 .left))
+add-next c = omega (arith, cell-there (c .before .before .before .before .before .before .args .st) (c .before .before .before .before .before .before .pre .3) (c .before .before .if1 .left))
 
 cast-next : tie.Need-cast-next
 cast-next c = search needs
 
-mul-next-2 : tie.Need-mul-next-2
-mul-next-2 c = search needs
+mul-t15 : tie.Need-mul-t15
+mul-t15 c = search needs
 
-slice-read-next : tie.Need-slice-read-next
-slice-read-next c = omega (arith, cell-there (c .before .before .before .before .before .before .before .before .args .st) (c .before .before .before .before .before .before .before .before .pre .3) (c .before .before .before .before .if1 .left), c .before .before .before .before .before .before .before .before .pre .3 .roomy .long)
+slice-read-t13 : tie.Need-slice-read-t13
+slice-read-t13 c = omega (arith, cell-there (c .before .before .before .before .before .before .before .args .st) (c .before .before .before .before .before .before .before .pre .3) (c .before .before .before .if1 .left), c .before .before .before .before .before .before .before .pre .3 .roomy .long)
+
+mul-t15-2 : tie.Need-mul-t15-2
+mul-t15-2 c = search needs
+
+slice-read-t14 : tie.Need-slice-read-t14
+slice-read-t14 c = omega (arith, cell-there (c .before .before .before .before .before .before .before .before .args .st) (c .before .before .before .before .before .before .before .before .pre .3) (c .before .before .before .before .if1 .left), c .before .before .before .before .before .before .before .before .pre .3 .roomy .long)
 
 returns-3 : tie.Need-returns-3
 returns-3 c = λ P n p cs t h. goes-goal P n _ _ _ (c .before .before .before .before .before .before .before .before .args .st) p cs t h (c .before .before .before .before .if1 .left)
@@ -64,11 +64,11 @@ go-on-spec =
     mul-goal
     add-goal
     cast-goal
-    mul-goal-2
-    slice-read-goal
     mul-next
     add-next
     cast-next
-    mul-next-2
-    slice-read-next
+    mul-t15
+    slice-read-t13
+    mul-t15-2
+    slice-read-t14
     returns-3)

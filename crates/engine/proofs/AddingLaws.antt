@@ -18,24 +18,24 @@ use Rattle.semantics.proofs.Basics.{clash}
 use Rattle.semantics.proofs.SubstitutionLaws.{Seen, walk-seen}
 use Rattle.semantics.proofs.UnifyLaws.{unify-some, no-news}
 use Rattle.engine.specs.Reference.{at, pos-of, KeepsAt}
-use Rattle.engine.specs.Memory.{BindingsIn, KeptIn}
+use Rattle.engine.specs.Memory.{BindingsIn, KeptIn, layout-words}
 use Rattle.engine.specs.Walk.{NodeAt, Binds, Follows}
 use Rattle.engine.specs.Trail.{Trailed, Undone, Apart}
 use Rattle.engine.specs.Unify.{Went, UnifiedAs}
-use Rattle.engine.specs.Keep.{AllKept}
+use Rattle.engine.specs.Trial.{AllKept}
 use Rattle.engine.specs.Look.{look-says, LookedAs, Looks, rights, ThroughAs}
-use Rattle.engine.specs.Lines.{EquationsIn, LineAs, as-differ}
-use Rattle.engine.specs.Put.{Touched}
-use Rattle.engine.specs.Page.{Page, add-lines, Writing, Extended, occurrences, AddsAbsent, AddsTyped}
-use Rattle.engine.specs.Adding.{added-says, AddedAs, Differs, Lists}
-use Rattle.engine.specs.Review.{Kept}
-use Rattle.engine.specs.declared.line.Listed.the-variants.{Differ}
-use Rattle.engine.specs.declared.look.Looked.{Looked}
-use Rattle.engine.specs.declared.look.Looked.the-variants as looked
-use Rattle.engine.specs.declared.unify.Unified.{Unified}
-use Rattle.engine.specs.declared.unify.Unified.the-variants as unified
-use Rattle.engine.specs.declared.constraints.Added.{Added}
-use Rattle.engine.specs.declared.constraints.Added.the-variants.{Done, StepsOut, PathOut}
+use Rattle.engine.specs.Line.{EquationsIn, LineAs, as-differ}
+use Rattle.engine.specs.Term.{Touched}
+use Rattle.engine.specs.Lines.{AnswerSoFar, add-lines, Writing, Extended, occurrences, AddsAbsent, AddsTyped}
+use Rattle.engine.specs.Constraint.{added-says, AddedAs, Differs, Lists}
+use Rattle.engine.specs.Review.{ConstraintsHeld}
+use Rattle.engine.specs.declared.writer.line.Listed.the-variants.{Differ}
+use Rattle.engine.specs.declared.writer.look.Looked.{Looked}
+use Rattle.engine.specs.declared.writer.look.Looked.the-variants as looked
+use Rattle.engine.specs.declared.terms.unify.Unified.{Unified}
+use Rattle.engine.specs.declared.terms.unify.Unified.the-variants as unified
+use Rattle.engine.specs.declared.writer.constraint.Added.{Added}
+use Rattle.engine.specs.declared.writer.constraint.Added.the-variants.{Done, StepsOut, PathOut}
 use Rattle.engine.proofs.ReferenceLaws.{atom-word-is}
 use Rattle.engine.proofs.FrameLaws.{kept-same}
 use Rattle.engine.proofs.TrailLaws.{fresh-few, apart-same, apart-trans, undone-apart}
@@ -50,8 +50,8 @@ abbrev pub writing-apart : {s s′ out : List ℕ} {first end place : ℕ} → A
 writing-apart p g = record { before = g .before; begin = g .begin; head = g .head; lines = g .lines; names = g .names; page = g .page; given = given-apart p (g .given); room = g .room }
 
 -- the page of lines that are done
-page-done : {o out : List ℕ} {begin first end place rest : ℕ} {head : List ℕ} {lines : List (List ℕ)} → Page o out begin first end place head lines → (next left : ℕ) → Done place rest ≡ Done next left → Page o out begin first end next head lines
-page-done {o} {out} {begin} {first} {end} {place} {rest} {head} {lines} p next left e = let z : place ≡ next = cc in subst (λ n. Page o out begin first end n head lines) z p
+page-done : {o out : List ℕ} {begin first end place rest : ℕ} {head : List ℕ} {lines : List (List ℕ)} → AnswerSoFar o out begin first end place head lines → (next left : ℕ) → Done place rest ≡ Done next left → AnswerSoFar o out begin first end next head lines
+page-done {o} {out} {begin} {first} {end} {place} {rest} {head} {lines} p next left e = let z : place ≡ next = cc in subst (λ n. AnswerSoFar o out begin first end n head lines) z p
 
 -- A disequality
 
@@ -103,7 +103,7 @@ tried {ws} {s} {bs} {a} {u} {b} {v} {trail} steps d s₁ r told {n} {rest} e s�
     let q : (w : Went ws s bs s₁ n) × (unify-terms bs u v steps ≡ done (some (w .next)) rest) = rw e at told in
     let new : Substitution = q .0 .new in
     let held : Binds ws s bs = d .meets .held in
-    let long : 12288 ≤ length s = held .long in
+    let long : layout-words ≤ length s = held .long in
     let is-next : n ≡ length (q .0 .next) = q .0 .trail-is in
     let is-long : length (q .0 .next) ≡ length (new ++ bs) = ap length (q .0 .grows) in
     let is-sum : length (new ++ bs) ≡ length new + length bs = length-append new bs in
@@ -203,7 +203,7 @@ module _ {ws s : List ℕ} {w : ℕ} {bs : Substitution} {a : Atom} {t : Term} (
     pub absento-page : {out′ : List ℕ} {place′ : ℕ} → ((k : AddsAbsent ws s out bits (w + 2) first end place) → Extended (k .writing) out′ place′ (lacks-each (k .tag-of) (occurrences (k .term))))
         → Extended g out′ place′ (lacks-each a (appear [] (resolve bs t)))
     unfolding absento-adds
-    absento-page {out′} {place′} f = subst (Page (g .before) out′ (g .begin) first end place′ (g .head)) (absent-once (g .names) a (g .lines) (resolve bs t)) (f absento-adds)
+    absento-page {out′} {place′} f = subst (AnswerSoFar (g .before) out′ (g .begin) first end place′ (g .head)) (absent-once (g .names) a (g .lines) (resolve bs t)) (f absento-adds)
 
 -- a type
 typed-walked : (bs : Substitution) → Good bs → (k : Sort) (t : Term) → typed-lines k (resolve bs t) ≡ typed-lines k (walk bs t)
@@ -239,7 +239,7 @@ added-one {ws} {s} {s′} {g = g} {out′ = out′} {bs = bs} {r = r} c d steps 
 
 -- where the loop is: constraints from i on are left, the lines of those before are added
 pub record Adding (ws s₀ : List ℕ) {out₀ : List ℕ} {first end place₀ : ℕ} (g : Writing s₀ out₀ first end place₀) (bs : Substitution) (cs : List Constraint) (trail kept steps : ℕ) (s out : List ℕ) (place left i : ℕ) : Type 0 where
-  pub whole : Kept ws s bs cs trail kept
+  pub whole : ConstraintsHeld ws s bs cs trail kept
   pub apart : Apart s₀ s
   pub later : List Constraint
   pub kept-in : KeptIn ws s i later
@@ -257,7 +257,7 @@ then-more : (ls ms : List Line) (o : Outcome (List Line)) → and-then (and-then
 then-more ls ms (done ns l) = ap (λ z. done z l) (sym (append-assoc ls ms ns))
 then-more ls ms (stop why l) = refl
 
-pub adding-start : {ws s out : List ℕ} {first end place : ℕ} (g : Writing s out first end place) {bs : Substitution} {cs : List Constraint} {made trail kept : ℕ} (steps : ℕ) → Kept ws s bs cs trail kept → Sound bs cs made
+pub adding-start : {ws s out : List ℕ} {first end place : ℕ} (g : Writing s out first end place) {bs : Substitution} {cs : List Constraint} {made trail kept : ℕ} (steps : ℕ) → ConstraintsHeld ws s bs cs trail kept → Sound bs cs made
     → Adding ws s g bs cs trail kept steps s out place steps 0
 unfolding add-lines
 adding-start {s = s} g {bs} {cs} steps h k = record {
@@ -342,6 +342,6 @@ module _ {ws s₀ out₀ : List ℕ} {first end place₀ : ℕ} {g : Writing s�
           count = omega (arith, h .count);
           passes = n .passes;
           lines = h .lines ++ told .lines;
-          page = subst (Page (g .before) out′ (g .begin) first end next (g .head)) (sym (add-append (g .names) (g .lines) (h .lines) (told .lines))) (told .page next rest e);
+          page = subst (AnswerSoFar (g .before) out′ (g .begin) first end next (g .head)) (sym (add-append (g .names) (g .lines) (h .lines) (told .lines))) (told .page next rest e);
           same = next-is (done (told .lines) rest) q ∙ then-more (h .lines) (told .lines) (all-lines bs (n .others) rest);
         }

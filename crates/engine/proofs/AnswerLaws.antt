@@ -13,8 +13,8 @@ use Rattle.rules.specs.Lists.{Each}
 use Rattle.rules.specs.Reading.{choose}
 use Rattle.rules.specs.Syntax.{Term, var, Constraint, Program}
 use Rattle.rules.specs.Written.{part}
-use Rattle.rules.specs.Inner.{Stands as Spells}
-use Rattle.rules.proofs.Stands.{stands-getD as spells-getD}
+use Rattle.rules.specs.Inner.{Spells}
+use Rattle.rules.proofs.Spelled.{stands-getD as spells-getD}
 use Rattle.semantics.specs.Substitution.{Substitution, resolve}
 use Rattle.semantics.specs.Steps.{waiting, no-steps, at-bound, Outcome, done, stop, and-then}
 use Rattle.semantics.specs.Path.{Path, ChoicePoint}
@@ -27,24 +27,24 @@ use Rattle.engine.specs.Reference.{at}
 use Rattle.engine.specs.Memory.{BindingsIn, Nameless, Stored}
 use Rattle.engine.specs.Walk.{Binds}
 use Rattle.engine.specs.Trail.{Apart}
-use Rattle.engine.specs.Review.{Kept}
+use Rattle.engine.specs.Review.{ConstraintsHeld}
 use Rattle.engine.specs.Names.{top-from, word-from, Distinct, Names, Given, Named}
-use Rattle.engine.specs.Put.{Room, Touched, Laid, Placed, all-laid, some-missing}
-use Rattle.engine.specs.Page.{joined, add-lines, Wholes, Page, Writing}
+use Rattle.engine.specs.Term.{Room, Touched, Laid, Placed, all-laid, some-missing}
+use Rattle.engine.specs.Lines.{joined, add-lines, Wholes, AnswerSoFar, Writing}
 use Rattle.engine.specs.Query.{Known, query-words, Query, Ends, end-says, EndedAs}
 use Rattle.engine.specs.Look.{ThroughAs}
-use Rattle.engine.specs.Adding.{added-says, AddedAs}
-use Rattle.engine.specs.Taking.{Holds, registers}
-use Rattle.engine.specs.Answering.{Answering, AnswerLeft, answer-says, AnswerStands, AnsweredAs}
-use Rattle.engine.specs.declared.state.State.{State}
-use Rattle.engine.specs.declared.put.Put.{Put}
-use Rattle.engine.specs.declared.put.Put.the-variants.{End, Missed}
-use Rattle.engine.specs.declared.look.Looked.{Looked}
-use Rattle.engine.specs.declared.look.Looked.the-variants as looked
-use Rattle.engine.specs.declared.constraints.Added.{Added}
-use Rattle.engine.specs.declared.constraints.Added.the-variants as added
-use Rattle.engine.specs.declared.answer.Answered.{Answered}
-use Rattle.engine.specs.declared.answer.Answered.the-variants as answered
+use Rattle.engine.specs.Constraint.{added-says, AddedAs}
+use Rattle.engine.specs.Take.{PathHeld, registers}
+use Rattle.engine.specs.Answer.{Answering, AnswerLeft, answer-says, AnswerStands, AnsweredAs}
+use Rattle.engine.specs.declared.search.state.State.{State}
+use Rattle.engine.specs.declared.writer.term.Put.{Put}
+use Rattle.engine.specs.declared.writer.term.Put.the-variants.{End, Missed}
+use Rattle.engine.specs.declared.writer.look.Looked.{Looked}
+use Rattle.engine.specs.declared.writer.look.Looked.the-variants as looked
+use Rattle.engine.specs.declared.writer.constraint.Added.{Added}
+use Rattle.engine.specs.declared.writer.constraint.Added.the-variants as added
+use Rattle.engine.specs.declared.writer.answer.Answered.{Answered}
+use Rattle.engine.specs.declared.writer.answer.Answered.the-variants as answered
 use Rattle.engine.proofs.TrailLaws.{fresh-few}
 use Rattle.engine.proofs.FrameLaws.{bindings-same, kept-same}
 use Rattle.engine.proofs.StoredLaws.{trailed, rebound, stored-binds}
@@ -81,14 +81,14 @@ unfolding joined
 bare head = ap length (append-nil head)
 
 module _ {o : List ℕ} (start : ℕ) {end : ℕ} {head : List ℕ} where
-  pub begin-none : end ≤ start → Page o o (start + 1) (end + 1) end (end + 1) head []
+  pub begin-none : end ≤ start → AnswerSoFar o o (start + 1) (end + 1) end (end + 1) head []
   begin-none l = page-over (omega arith) (omega arith) (untouched o (start + 1) end)
 
   module _ {o′ : List ℕ} {r : Put} (p : Placed o o′ (start + 1) end true head r) where
-    pub begin-missed : r ≡ Missed → Page o o′ (start + 1) (end + 1) end (end + 1) head []
+    pub begin-missed : r ≡ Missed → AnswerSoFar o o′ (start + 1) (end + 1) end (end + 1) head []
     begin-missed e = let m = missing-of p e in page-over (omega arith) (omega (arith, m .no-room refl, bare head)) (m .touched)
 
-    pub begin-put : {next : ℕ} → r ≡ End next → Page o o′ (start + 1) next end next head []
+    pub begin-put : {next : ℕ} → r ≡ End next → AnswerSoFar o o′ (start + 1) next end next head []
     unfolding joined Wholes
     begin-put {next} e =
         let d = laid-of p e in
@@ -201,23 +201,23 @@ module _ {P : Program} {ws s output : List ℕ} {st : State} {p : Path} {cs : Li
   as-before = record { stored = a .stored; scratch-length = refl; output-length = refl; before = refl }
 
   -- the steps of the query terms
-  module _ (r : Looked) (h : ThroughAs bs (parameters 0 params) (st .left) r) where
-    pub answer-steps : r ≡ looked.StepsOut → AnsweredAs P ws s output s output st p cs used (answer p params (st .left)) answered.StepsOut
+  module _ (r : Looked) (h : ThroughAs bs (parameters 0 params) (st .steps) r) where
+    pub answer-steps : r ≡ looked.StepsOut → AnsweredAs P ws s output s output st p cs used (answer p params (st .steps)) answered.StepsOut
     unfolding ThroughAs
     answer-steps e =
-        let d : look-through bs (parameters 0 params) (st .left) ≡ stop no-steps 0 = rw e at h in
+        let d : look-through bs (parameters 0 params) (st .steps) ≡ stop no-steps 0 = rw e at h in
         record { leaves-lent = as-before; words = []; says = rw d refl; written = λ n l q. clash (cc); full = λ l q. clash (cc) }
 
-    pub answer-path : {left : ℕ} → r ≡ looked.PathOut left → AnsweredAs P ws s output s output st p cs used (answer p params (st .left)) (answered.PathOut left)
+    pub answer-path : {left : ℕ} → r ≡ looked.PathOut left → AnsweredAs P ws s output s output st p cs used (answer p params (st .steps)) (answered.PathOut left)
     unfolding ThroughAs
     answer-path {left} e =
-        let d : look-through bs (parameters 0 params) (st .left) ≡ stop (at-bound waiting) left = rw e at h in
+        let d : look-through bs (parameters 0 params) (st .steps) ≡ stop (at-bound waiting) left = rw e at h in
         record { leaves-lent = as-before; words = []; says = rw d refl; written = λ n l q. clash (cc); full = λ l q. clash (cc) }
 
-    pub answer-on : {left : ℕ} → r ≡ looked.Done left → answer p params (st .left) ≡ and-then (all-lines bs (p .kept) left) (λ ls m. done (answer-words bs params ls) m)
+    pub answer-on : {left : ℕ} → r ≡ looked.Done left → answer p params (st .steps) ≡ and-then (all-lines bs (p .kept) left) (λ ls m. done (answer-words bs params ls) m)
     unfolding ThroughAs
     answer-on {left} e =
-        let d : ThroughAs bs (parameters 0 params) (st .left) (looked.Done left) = rw e at h in
+        let d : ThroughAs bs (parameters 0 params) (st .steps) (looked.Done left) = rw e at h in
         ap (λ o. and-then o (λ _ l. and-then (all-lines bs (p .kept) l) (λ ls m. done (answer-words bs params ls) m))) d
 
   -- with names
@@ -228,9 +228,9 @@ module _ {P : Program} {ws s output : List ℕ} {st : State} {p : Path} {cs : Li
     pub answer-query : Query ws s₁ params bs names
     answer-query = record { binds = binds-named m answer-binds; given = answer-given; known = query-known bs params }
 
-    pub answer-kept : Kept ws s₁ bs (p .kept) (st .trail) (st .kept)
+    pub answer-kept : ConstraintsHeld ws s₁ bs (p .kept) (st .trail) (st .constraints)
     answer-kept =
-        let k : st .kept ≡ length (p .kept) = a .stored .path-in .kept in
+        let k : st .constraints ≡ length (p .kept) = a .stored .path-in .kept in
         record {
           held = binds-named m answer-binds;
           kept-in = kept-same ws s s₁ 0 (p .kept) (λ i lo hi. m .above i (omega arith)) (a .stored .kept-in);
@@ -240,7 +240,7 @@ module _ {P : Program} {ws s output : List ℕ} {st : State} {p : Path} {cs : Li
         }
 
     -- with the query terms put
-    module _ {out₁ : List ℕ} {end place : ℕ} (room : Room output end) (page : Page output out₁ (used + 1) place end place (query-words bs names 0 params) []) where
+    module _ {out₁ : List ℕ} {end place : ℕ} (room : Room output end) (page : AnswerSoFar output out₁ (used + 1) place end place (query-words bs names 0 params) []) where
       abbrev pub answer-writing : Writing s₁ out₁ place end place
       answer-writing = record { before = output; begin = used + 1; head = query-words bs names 0 params; lines = []; names = names; page = page; given = answer-given; room = room-same (page .touched .long) room }
 
@@ -253,7 +253,7 @@ module _ {P : Program} {ws s output : List ℕ} {st : State} {p : Path} {cs : Li
         answer-ends next left e = d .page next left e .stands
 
         -- without names again
-        pub answer-stored : {s₃ : List ℕ} → Named s₂ s₃ 0 [] → Holds P ws s₃ st p cs
+        pub answer-stored : {s₃ : List ℕ} → Named s₂ s₃ 0 [] → PathHeld P ws s₃ st p cs
         answer-stored {s₃} c =
             let h : Stored P ws s (registers st) (st .choices) p cs = a .stored in
             let empty : Nameless s₃ = nameless-again (c .given) in
@@ -297,8 +297,8 @@ module _ {P : Program} {ws s output : List ℕ} {st : State} {p : Path} {cs : Li
               let x : length (part 15 (page-words bs params (d .lines))) ≡ length words = ap length (words-are bs params (d .lines)) in
               omega (arith, d .page (v .place) left (v .is) .over (v .beyond))
 
-          pub answer-done : {s₃ : List ℕ} → Named s₂ s₃ 0 [] → answer p params (st .left) ≡ and-then o (λ ls k. done (answer-words bs params ls) k)
-              → AnsweredAs P ws s output s₃ out₃ st p cs used (answer p params (st .left)) q
+          pub answer-done : {s₃ : List ℕ} → Named s₂ s₃ 0 [] → answer p params (st .steps) ≡ and-then o (λ ls k. done (answer-words bs params ls) k)
+              → AnsweredAs P ws s output s₃ out₃ st p cs used (answer p params (st .steps)) q
           answer-done {s₃} c f = record {
             leaves-lent = record {
               stored = answer-stored c;
@@ -314,11 +314,11 @@ module _ {P : Program} {ws s output : List ℕ} {st : State} {p : Path} {cs : Li
 
 -- The same from what the calls promise, one after the other.
 module _ {P : Program} {ws s output : List ℕ} {st : State} {p : Path} {cs : List ChoicePoint} {params used : ℕ} (a : Answering P ws s output st p cs params used) where
-  module _ (r : Looked) (look : (bs : Substitution) → Binds ws s bs → ThroughAs bs (parameters 0 params) (st .left) r) where
-    pub steps-out-now : r ≡ looked.StepsOut → AnsweredAs P ws s output s output st p cs used (answer p params (st .left)) answered.StepsOut
+  module _ (r : Looked) (look : (bs : Substitution) → Binds ws s bs → ThroughAs bs (parameters 0 params) (st .steps) r) where
+    pub steps-out-now : r ≡ looked.StepsOut → AnsweredAs P ws s output s output st p cs used (answer p params (st .steps)) answered.StepsOut
     steps-out-now e = answer-steps a r (look (p .bindings) (answer-binds a)) e
 
-    pub path-out-now : {left : ℕ} → r ≡ looked.PathOut left → AnsweredAs P ws s output s output st p cs used (answer p params (st .left)) (answered.PathOut left)
+    pub path-out-now : {left : ℕ} → r ≡ looked.PathOut left → AnsweredAs P ws s output s output st p cs used (answer p params (st .steps)) (answered.PathOut left)
     path-out-now e = answer-path a r (look (p .bindings) (answer-binds a)) e
 
   module _ {s₁ : List ℕ} {top : ℕ} (name : (bs : Substitution) → Binds ws s bs → Names s 0 [] → Named s s₁ top (names-of bs params)) where
@@ -328,15 +328,15 @@ module _ {P : Program} {ws s output : List ℕ} {st : State} {p : Path} {cs : Li
     pub query-now : Query ws s₁ params (p .bindings) (names-of (p .bindings) params)
     query-now = answer-query a named-now
 
-    module _ {out₁ : List ℕ} {end place : ℕ} (room : Room output end) (begin : (bs : Substitution) (names : List ℕ) → Query ws s₁ params bs names → Page output out₁ (used + 1) place end place (query-words bs names 0 params) []) where
-      pub page-now : Page output out₁ (used + 1) place end place (query-words (p .bindings) (names-of (p .bindings) params) 0 params) []
+    module _ {out₁ : List ℕ} {end place : ℕ} (room : Room output end) (begin : (bs : Substitution) (names : List ℕ) → Query ws s₁ params bs names → AnswerSoFar output out₁ (used + 1) place end place (query-words bs names 0 params) []) where
+      pub page-now : AnswerSoFar output out₁ (used + 1) place end place (query-words (p .bindings) (names-of (p .bindings) params) 0 params) []
       page-now = begin (p .bindings) (names-of (p .bindings) params) query-now
 
       abbrev pub writing-now : Writing s₁ out₁ place end place
       writing-now = answer-writing a named-now room page-now
 
       module _ {s₂ out₂ : List ℕ} {left : ℕ} (d : Added)
-          (add : (g : Writing s₁ out₁ place end place) (bs : Substitution) (ks : List Constraint) (made : ℕ) → Kept ws s₁ bs ks (st .trail) (st .kept) → Sound bs ks made → AddedAs ws s₁ s₂ g out₂ bs (all-lines bs ks left) d) where
+          (add : (g : Writing s₁ out₁ place end place) (bs : Substitution) (ks : List Constraint) (made : ℕ) → ConstraintsHeld ws s₁ bs ks (st .trail) (st .constraints) → Sound bs ks made → AddedAs ws s₁ s₂ g out₂ bs (all-lines bs ks left) d) where
         pub added-now : AddedAs ws s₁ s₂ writing-now out₂ (p .bindings) (all-lines (p .bindings) (p .kept) left) d
         added-now = add writing-now (p .bindings) (p .kept) (p .made) (answer-kept a named-now) (a .sound)
 
@@ -352,9 +352,9 @@ module _ {P : Program} {ws s output : List ℕ} {st : State} {p : Path} {cs : Li
         pub ends-now : Ends output out₂ used end (page-words (p .bindings) params (added-now .lines)) d
         ends-now = answer-ends a named-now room page-now _ d added-now
 
-        pub answered-now : (r : Looked) → ((bs : Substitution) → Binds ws s bs → ThroughAs bs (parameters 0 params) (st .left) r) → r ≡ looked.Done left
+        pub answered-now : (r : Looked) → ((bs : Substitution) → Binds ws s bs → ThroughAs bs (parameters 0 params) (st .steps) r) → r ≡ looked.Done left
             → {s₃ : List ℕ} (out₃ : List ℕ) (q : Answered) → end ≡ usable (length output) → ((names : List ℕ) → Names s₂ top names → Named s₂ s₃ 0 [])
             → ((o : List ℕ) (v : List ℕ) → Ends o out₂ used end v d → EndedAs o out₂ out₃ used end v d q)
-            → AnsweredAs P ws s output s₃ out₃ st p cs used (answer p params (st .left)) q
+            → AnsweredAs P ws s output s₃ out₃ st p cs used (answer p params (st .steps)) q
         answered-now r look e out₃ q is-end clear finish =
             answer-done a named-now room page-now _ d added-now out₃ q (finish output _ ends-now) is-end (clear _ names-now) (answer-on a r (look (p .bindings) (answer-binds a)) e)

@@ -18,8 +18,9 @@ use Rattle.semantics.proofs.Sound.{sound-call}
 use Rattle.engine.specs.Reference.{at, TermsAt, refer, pos-of, base-of, Vars, Stands}
 use Rattle.engine.specs.Memory.{Bound, Entry, BindingsIn, bound}
 use Rattle.engine.specs.Walk.{NodeAt, Follows}
-use Rattle.engine.specs.Calling.{Passing, Passed}
+use Rattle.engine.specs.Call.{Passing, Passed}
 use Rattle.engine.specs.Trail.{Apart}
+use Rattle.rules.specs.Settings.{most-words}
 use Rattle.engine.proofs.ReferenceLaws.{stands-at, term-longer, terms-longer, atom-low}
 use Rattle.engine.proofs.GoalLaws.{term-shift}
 use Rattle.engine.proofs.TrailLaws.{fresh-room, bind-in, apart-trans, bound-apart}
@@ -149,7 +150,7 @@ pass-first ws s₀ s base to whole x n w count p some-left = go (p .args) (p .ma
         let l₁ : from + term-size t < mid = term-longer ws 0 from mid t (h .1) in
         let l : mid ≤ to = terms-longer ws 0 mid to ts (h .2) in
         let ins : to ≤ length ws = p .inside in
-        let short : length ws ≤ 16384 = p .short in
+        let short : length ws ≤ most-words = p .short in
         let f : x + count ≤ 2048 = p .fits in
         let low : base ≤ 2048 = p .low in
         let is-w : w ≡ refer from base = p .is-w in

@@ -9,7 +9,7 @@ use lib.Dec.{leb}
 use lib.ListN.{length, set, take, drop, replicate, length-drop, take-append-drop, drop-of-length-le}
 use lib.Seq.{take-all, take-length, drop-length, take-nil, drop-nil, take-suc-set, drop-set-lt, drop-cons}
 use borrow.Author.Tests.{leb-true, leb-false}
-use Rattle.engine.specs.Running.{zeroed, cleared}
+use Rattle.engine.specs.Run.{zeroed, cleared}
 
 pub clear-step : (ws : List ℕ) (at to : ℕ) → at < to → at < length ws → cleared (set ws at 0) (at + 1) to ≡ cleared ws at to
 clear-step ws at to h l =

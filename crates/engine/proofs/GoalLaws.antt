@@ -8,6 +8,7 @@ use Rattle.rules.specs.Syntax.{Term, var, atom, pair, Constraint, differ, typed
 use Rattle.rules.specs.Reading.{kind-at, after}
 use Rattle.semantics.specs.Substitution.{shift, shift-constraint}
 use Rattle.engine.specs.Reference.{TermAt, TermsAt, ConstraintAt, GoalsAt, pos-of, base-of, beyond, TaskAt, RestAt, VarsC, KeepsAt}
+use Rattle.rules.specs.Settings.{most-words}
 use Rattle.engine.proofs.ReferenceLaws.{pos-plus, base-plus, pos-beyond, base-beyond}
 
 -- a sequence has a goal at least
@@ -43,7 +44,7 @@ pub task-more : (ws : List ℕ) (w to base : ℕ) (g : Goal) (gs : Goals) → Re
 task-more ws w to base g gs h =
     let mid : ℕ = after ws (pos-of w) in
     let l : after ws mid ≤ to = goals-longer ws mid to gs (h .goals .1) in
-    let e : to ≤ 16384 = h .small in
+    let e : to ≤ most-words = h .small in
     let ins : to ≤ length ws = h .inside in
     let lt : base-of w ≤ 2048 = omega (arith, h .below) in
     record {
@@ -59,7 +60,7 @@ task-more ws w to base g gs h =
     }
 
 -- the goals inside a conjunction or a disjunction
-pub rest-inside : (ws : List ℕ) (w base : ℕ) (gs : Goals) → base-of w ≡ base → GoalsAt ws (pos-of w + 1) (after ws (pos-of w)) gs → after ws (pos-of w) ≤ 16384 → after ws (pos-of w) ≤ length ws → w < 33570816 → RestAt ws (w + 1) (after ws (pos-of w)) base gs
+pub rest-inside : (ws : List ℕ) (w base : ℕ) (gs : Goals) → base-of w ≡ base → GoalsAt ws (pos-of w + 1) (after ws (pos-of w)) gs → after ws (pos-of w) ≤ most-words → after ws (pos-of w) ≤ length ws → w < 33570816 → RestAt ws (w + 1) (after ws (pos-of w)) base gs
 rest-inside ws w base gs e h le ins lt =
     let l : after ws (pos-of w + 1) ≤ after ws (pos-of w) = goals-longer ws (pos-of w + 1) (after ws (pos-of w)) gs h in
     record { is-base = base-plus w 1 (omega arith) ∙ e; goals = subst (λ k. GoalsAt ws k (after ws (pos-of w)) gs) (sym (pos-plus w 1 (omega arith))) h; small = le; inside = ins; below = omega arith }

@@ -12,10 +12,10 @@ use Rattle.semantics.specs.Substitution.{Substitution}
 use Rattle.semantics.proofs.Basics.{compared, same, other}
 use Rattle.semantics.proofs.SubstitutionLaws.{lookup-same}
 use Rattle.engine.specs.Reference.{at, Stands}
-use Rattle.engine.specs.Memory.{Bound, Entry, BindingsIn}
+use Rattle.engine.specs.Memory.{Bound, Entry, BindingsIn, layout-words}
 use Rattle.engine.specs.Trail.{Trailed, Apart}
-use Rattle.engine.specs.Lines.{half}
-use Rattle.engine.specs.Keep.{HalfSet, Kept, AllKept}
+use Rattle.engine.specs.Line.{half}
+use Rattle.engine.specs.Trial.{HalfSet, EquationsKept, AllKept}
 use Rattle.engine.proofs.FrameLaws.{bindings-same}
 use Rattle.engine.proofs.TrailLaws.{fresh-few, unbind-in, apart-same, apart-trans}
 use Rattle.engine.proofs.LineLaws.{half-low, half-high}
@@ -25,7 +25,7 @@ half-same : (s s′ : List ℕ) (j : ℕ) → at s′ (10752 + j / 2) ≡ at s (
 unfolding half
 half-same s s′ j e = rw e refl
 
-module _ {s : List ℕ} {i x : ℕ} (long : 12288 ≤ length s) (l : i < 2048) (low : x < 2048) where
+module _ {s : List ℕ} {i x : ℕ} (long : layout-words ≤ length s) (l : i < 2048) (low : x < 2048) where
   module _ (v : ℕ) (fine : (j : ℕ) → j / 2 ≡ i / 2 → ¬ (j ≡ i) → half (set s (10752 + i / 2) v) j ≡ half s j) (is : half (set s (10752 + i / 2) v) i ≡ x) where
     half-made : HalfSet s (set s (10752 + i / 2) v) i x
     half-made = record {
@@ -69,8 +69,8 @@ module _ {s : List ℕ} {i x : ℕ} (long : 12288 ≤ length s) (l : i < 2048) (
 
 -- one binding after the other
 kept-same : (ws s s′ : List ℕ) (mark i : ℕ) (cs : List (ℕ × Term)) → ((j : ℕ) → i ≤ j → j < i + length cs → half s′ j ≡ half s j) → ((j : ℕ) → i ≤ j → j < i + length cs → at s′ (2048 + mark + j) ≡ at s (2048 + mark + j))
-    → Kept ws s mark i cs → Kept ws s′ mark i cs
-unfolding Kept
+    → EquationsKept ws s mark i cs → EquationsKept ws s′ mark i cs
+unfolding EquationsKept
 kept-same ws s s′ mark i [] e f h = tt
 kept-same ws s s′ mark i (b ∷ cs) e f h = (
   record { variable = e i (omega arith) (omega arith) ∙ h .0 .variable; low = h .0 .low; right = subst (λ w. Stands ws w (b .1)) (sym (f i (omega arith) (omega arith))) (h .0 .right) },
@@ -85,12 +85,12 @@ pub record Keeping (ws s₀ s : List ℕ) (new bs : Substitution) (mark top : �
   pub mark-is : mark ≡ length bs
   pub top-is : top ≡ length (rest ++ bs)
   pub few : top + length later ≤ 2048
-  pub kept : Kept ws s mark (top - mark) later
-  pub long : 12288 ≤ length s
+  pub kept : EquationsKept ws s mark (top - mark) later
+  pub long : layout-words ≤ length s
   pub apart : Apart s₀ s
 
 pub keeping-start : {ws s : List ℕ} {new bs : Substitution} {mark trail : ℕ} → Trailed ws s new bs mark trail → Keeping ws s s new bs mark trail
-unfolding Kept
+unfolding EquationsKept
 keeping-start {ws} {s} {new} {bs} h = record {
   rest = new;
   later = [];
@@ -108,7 +108,7 @@ pub keeping-end : {ws s₀ s : List ℕ} {new bs : Substitution} {mark top : ℕ
 keeping-end {ws} {s₀} {s} {new} {bs} {mark} {top} g l = go (g .rest) (g .whole) (g .bindings-in) (g .top-is)
   where
     go : (rest : Substitution) → reverseAux rest (g .later) ≡ reverse new → BindingsIn ws s (rest ++ bs) → top ≡ length (rest ++ bs) → AllKept ws s₀ s new bs mark
-    go [] w h t = let z : top - mark ≡ 0 = omega arith in record { bindings-in = h; kept = subst (Kept ws s mark 0) w (subst (λ i. Kept ws s mark i (g .later)) z (g .kept)); apart = g .apart }
+    go [] w h t = let z : top - mark ≡ 0 = omega arith in record { bindings-in = h; kept = subst (EquationsKept ws s mark 0) w (subst (λ i. EquationsKept ws s mark i (g .later)) z (g .kept)); apart = g .apart }
     go (b ∷ rest) w h t = absurd (omega (arith, g .mark-is, length-append rest bs))
 
 -- the newest binding
@@ -126,8 +126,8 @@ pub record Newest (ws s₀ s : List ℕ) (new bs : Substitution) (mark top : ℕ
   pub top-is : top - 1 ≡ length (rest ++ bs)
   pub above : mark ≤ top - 1
   pub few : top + length later ≤ 2048
-  pub kept : Kept ws s mark (top - mark) later
-  pub long : 12288 ≤ length s
+  pub kept : EquationsKept ws s mark (top - mark) later
+  pub long : layout-words ≤ length s
   pub apart : Apart s₀ s
 
 pub newest : {ws s₀ s : List ℕ} {new bs : Substitution} {mark top : ℕ} → Keeping ws s₀ s new bs mark top → mark < top → Newest ws s₀ s new bs mark top
@@ -166,7 +166,7 @@ module _ {ws s₀ s : List ℕ} {new bs : Substitution} {mark top : ℕ} (g : Ne
   newest-some = subst (λ x. 1 ≤ at s x) (sym (g .variable)) (g .some)
 
   taken : {s₃ : List ℕ} (x : ℕ) → x ≡ g .one .0 → mark < top → HalfSet (set (set s (2048 + (top - 1)) (at s x - 1)) x 0) s₃ (top - 1 - mark) x → Keeping ws s₀ s₃ new bs mark (top - 1)
-  unfolding Kept
+  unfolding EquationsKept
   taken {s₃} x q l h =
       let lowx : x < 2048 = omega (arith, q, g .low) in
       let n : top ≤ 2048 = omega (arith, g .few) in
@@ -197,7 +197,7 @@ module _ {ws s₀ s : List ℕ} {new bs : Substitution} {mark top : ℕ} (g : Ne
           kept-same ws s s₃ mark (i + 1) (g .later)
               (λ j a b. h .other j (λ z. omega arith) ∙ half-same s s₂ j (up (10752 + j / 2) (omega arith)))
               (λ j a b. mid (2048 + mark + j) (omega (arith, g .few, g .above)) (λ z. omega (arith, g .above)) (λ z. omega arith))
-              (subst (λ k. Kept ws s mark k (g .later)) j₀ (g .kept)),
+              (subst (λ k. EquationsKept ws s mark k (g .later)) j₀ (g .kept)),
         );
         long = omega (arith, h .long, length-set s₁ x 0, length-set s (2048 + (top - 1)) (at s x - 1), g .long);
         apart = apart-trans (g .apart) (record {

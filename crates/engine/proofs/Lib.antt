@@ -18,10 +18,10 @@ pub mod StartLaws
 pub mod TookLaws
 pub mod ConjTaken
 pub mod DisjTaken
-pub mod BackTaken
+pub mod BacktrackTaken
 pub mod TableLaws
 pub mod CallTaken
-pub mod NarrowTaken
+pub mod ConstrainTaken
 pub mod TakeLaws
 pub mod TurnLaws
 pub mod SearchLaws

@@ -13,12 +13,12 @@ use Rattle.semantics.specs.Answer.{member, index, reify, vars-in, reify-binding
 use Rattle.semantics.proofs.Basics.{clash, and-true}
 use Rattle.engine.specs.Reference.{at}
 use Rattle.engine.specs.Names.{Given}
-use Rattle.engine.specs.Put.{Puts, Laid, Placed, all-laid, some-missing}
-use Rattle.engine.specs.Lines.{half, Equation, Equations, EquationsIn, equation-in, equation-words, equations-words, LineAs, as-sort, as-lacks, as-differ}
-use Rattle.engine.specs.declared.line.Listed.{Listed}
-use Rattle.engine.specs.declared.line.Listed.the-variants.{Typed, Lacks, Differ}
-use Rattle.engine.specs.declared.put.Put.{Put}
-use Rattle.engine.specs.declared.put.Put.the-variants.{End, Missed}
+use Rattle.engine.specs.Term.{Puts, Laid, Placed, all-laid, some-missing}
+use Rattle.engine.specs.Line.{half, Equation, Equations, EquationsIn, equation-in, equation-words, equations-words, LineAs, as-sort, as-lacks, as-differ}
+use Rattle.engine.specs.declared.writer.line.Listed.{Listed}
+use Rattle.engine.specs.declared.writer.line.Listed.the-variants.{Typed, Lacks, Differ}
+use Rattle.engine.specs.declared.writer.term.Put.{Put}
+use Rattle.engine.specs.declared.writer.term.Put.the-variants.{End, Missed}
 use Rattle.engine.proofs.NameLaws.{has-name, no-name}
 use Rattle.engine.proofs.PutLaws.{laid-of, missing-of, missing-inner, laid-none, laid-then, missing-then, placed-then, missed-part, missing-end, missing-more, puts-at}
 

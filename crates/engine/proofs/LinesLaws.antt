@@ -5,13 +5,13 @@ use mathlib.Core.List.{List, [], _∷_, _++_}
 use lib.ListN.{length}
 use Rattle.rules.specs.Syntax.{Atom}
 use Rattle.semantics.specs.Answer.{Line, is-sort, lacks, typed-lines, lacks-each}
-use Rattle.engine.specs.Follow.{Shaped}
-use Rattle.engine.specs.Lines.{LineAs, as-sort, as-lacks}
-use Rattle.engine.specs.Page.{add-line, add-lines, Page, Writing, Extended, occurrences, AddsAbsent, AddsTyped}
-use Rattle.engine.specs.declared.follow.Shape.{Shape}
-use Rattle.engine.specs.declared.follow.Shape.the-variants.{Open, Atom as Leaf, Pair}
-use Rattle.engine.specs.declared.line.Listed.{Listed}
-use Rattle.engine.specs.declared.line.Listed.the-variants.{Typed, Lacks}
+use Rattle.engine.specs.Walk.{Shaped}
+use Rattle.engine.specs.Line.{LineAs, as-sort, as-lacks}
+use Rattle.engine.specs.Lines.{add-line, add-lines, AnswerSoFar, Writing, Extended, occurrences, AddsAbsent, AddsTyped}
+use Rattle.engine.specs.declared.terms.walk.Shape.{Shape}
+use Rattle.engine.specs.declared.terms.walk.Shape.the-variants.{Open, Atom as Leaf, Pair}
+use Rattle.engine.specs.declared.writer.line.Listed.{Listed}
+use Rattle.engine.specs.declared.writer.line.Listed.the-variants.{Typed, Lacks}
 use Rattle.engine.proofs.PutLaws.{room-same}
 use Rattle.engine.proofs.NamingLaws.{Told, told-open, told-leaf, told-pair, Halves, halved}
 
@@ -36,7 +36,7 @@ module _ {ws s out : List ℕ} {kind w first end place : ℕ} (g : AddsTyped ws 
   typed-pair e = subst (λ t. Extended (g .writing) out place (typed-lines (g .sort) t)) (sym (told-pair (g .term) f e (g .here) .2)) (g .writing .page)
 
 -- the output is as long as before
-pub page-long : {o o′ out out′ : List ℕ} {begin first end place first′ end′ place′ begin′ : ℕ} {head head′ : List ℕ} {lines lines′ : List (List ℕ)} → Page o out begin first end place head lines → Page o′ out′ begin′ first′ end′ place′ head′ lines′ → o ≡ o′ → length out′ ≡ length out
+pub page-long : {o o′ out out′ : List ℕ} {begin first end place first′ end′ place′ begin′ : ℕ} {head head′ : List ℕ} {lines lines′ : List (List ℕ)} → AnswerSoFar o out begin first end place head lines → AnswerSoFar o′ out′ begin′ first′ end′ place′ head′ lines′ → o ≡ o′ → length out′ ≡ length out
 page-long h i e = i .touched .long ∙ ap length (sym e) ∙ sym (h .touched .long)
 
 -- an absence
@@ -69,20 +69,20 @@ module _ {ws s before out : List ℕ} {begin tag w first end place : ℕ} {head 
   pub absent-as : {r : Shape} → Told ws s w r → {x : ℕ} → r ≡ Open x → LineAs ws s (Lacks tag x) (lacks (h .rest .tag-of) x)
   absent-as f e = as-lacks (h .rest .tag-of) (h .rest .is-tag) (told-open (h .rest .term) f e (h .rest .here) .1)
 
-  close : {out′ : List ℕ} {place′ : ℕ} → Extended (h .rest .writing) out′ place′ (lacks-each (h .rest .tag-of) (occurrences (h .rest .term))) → Page before out′ begin first end place′ head goal
+  close : {out′ : List ℕ} {place′ : ℕ} → Extended (h .rest .writing) out′ place′ (lacks-each (h .rest .tag-of) (occurrences (h .rest .term))) → AnswerSoFar before out′ begin first end place′ head goal
   close {out′} {place′} p =
       let k : Writing s out first end place = h .rest .writing in
-      subst (λ z. Page z out′ begin first end place′ head goal) (h .is-before)
-      (subst (λ z. Page (k .before) out′ z first end place′ head goal) (h .is-begin)
-      (subst (λ z. Page (k .before) out′ (k .begin) first end place′ z goal) (h .is-head)
-      (subst (λ z. Page (k .before) out′ (k .begin) first end place′ (k .head) z) (h .is-goal) p)))
+      subst (λ z. AnswerSoFar z out′ begin first end place′ head goal) (h .is-before)
+      (subst (λ z. AnswerSoFar (k .before) out′ z first end place′ head goal) (h .is-begin)
+      (subst (λ z. AnswerSoFar (k .before) out′ (k .begin) first end place′ z goal) (h .is-head)
+      (subst (λ z. AnswerSoFar (k .before) out′ (k .begin) first end place′ (k .head) z) (h .is-goal) p)))
 
-  pub absent-add : {r : Shape} → Told ws s w r → {out′ : List ℕ} {x place′ : ℕ} → r ≡ Open x → Adds ws s out out′ (Lacks tag x) first end place place′ → Page before out′ begin first end place′ head goal
+  pub absent-add : {r : Shape} → Told ws s w r → {out′ : List ℕ} {x place′ : ℕ} → r ≡ Open x → Adds ws s out out′ (Lacks tag x) first end place place′ → AnswerSoFar before out′ begin first end place′ head goal
   unfolding occurrences
   absent-add {r} f {out′} {x} {place′} e a =
       close (subst (λ t. Extended (h .rest .writing) out′ place′ (lacks-each (h .rest .tag-of) (occurrences t))) (sym (told-open (h .rest .term) f e (h .rest .here) .0)) (a (h .rest .writing) (lacks (h .rest .tag-of) x) (absent-as f e)))
 
-  pub absent-leaf : {r : Shape} → Told ws s w r → {v : ℕ} → r ≡ Leaf v → Page before out begin first end place head goal
+  pub absent-leaf : {r : Shape} → Told ws s w r → {v : ℕ} → r ≡ Leaf v → AnswerSoFar before out begin first end place head goal
   unfolding add-lines occurrences Shaped
   absent-leaf f e = close (subst (λ t. Extended (h .rest .writing) out place (lacks-each (h .rest .tag-of) (occurrences t))) (sym (told-leaf (h .rest .term) f e (h .rest .here) .1)) (h .rest .writing .page))
 

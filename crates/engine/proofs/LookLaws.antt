@@ -16,12 +16,12 @@ use Rattle.semantics.proofs.Basics.{clash}
 use Rattle.semantics.proofs.ScanLaws.{ScanStep, hit, down, full, last, further, scan-step}
 use Rattle.engine.specs.Reference.{at, Stands}
 use Rattle.engine.specs.Scan.{TestAs, scan-says, ScanAs}
-use Rattle.engine.specs.Keep.{Kept}
+use Rattle.engine.specs.Trial.{EquationsKept}
 use Rattle.engine.specs.Look.{look-says, LookedAs, Looks, rights, ThroughAs}
-use Rattle.engine.specs.declared.scan.Scanned.{Scanned}
-use Rattle.engine.specs.declared.scan.Scanned.the-variants.{Found, Clear, StepsOut, PathOut}
-use Rattle.engine.specs.declared.look.Looked.{Looked}
-use Rattle.engine.specs.declared.look.Looked.the-variants as looked
+use Rattle.engine.specs.declared.terms.scan.Scanned.{Scanned}
+use Rattle.engine.specs.declared.terms.scan.Scanned.the-variants.{Found, Clear, StepsOut, PathOut}
+use Rattle.engine.specs.declared.writer.look.Looked.{Looked}
+use Rattle.engine.specs.declared.writer.look.Looked.the-variants as looked
 use Rattle.engine.proofs.ReferenceLaws.{atom-low}
 
 never-sought : TestAs (word 4 0) never
@@ -94,7 +94,7 @@ module _ {bs : Substitution} {ts : List Term} {steps : ℕ} {later : List Term} 
 -- the right sides of a trial, from equation i on
 pub record LookingRights (ws s : List ℕ) (bs : Substitution) (cs : List (ℕ × Term)) (mark count steps i left : ℕ) : Type 0 where
   pub later : List (ℕ × Term)
-  pub kept : Kept ws s mark i later
+  pub kept : EquationsKept ws s mark i later
   pub count-is : i + length later ≡ count
   pub looking : Looking bs (rights cs) steps (rights later) left
 
@@ -114,13 +114,13 @@ module _ {ws s : List ℕ} {bs : Substitution} {cs : List (ℕ × Term)} {mark c
     pub others : List (ℕ × Term)
     pub is : g .later ≡ one ∷ others
     pub stands : Stands ws (at s (2048 + mark + i)) (one .1)
-    pub kept : Kept ws s mark (i + 1) others
+    pub kept : EquationsKept ws s mark (i + 1) others
 
   pub rights-next : i < count → RightsNext
-  unfolding Kept
+  unfolding EquationsKept
   rights-next lt = go (g .later) refl (g .kept) (g .count-is)
     where
-      go : (later : List (ℕ × Term)) → g .later ≡ later → Kept ws s mark i later → i + length later ≡ count → RightsNext
+      go : (later : List (ℕ × Term)) → g .later ≡ later → EquationsKept ws s mark i later → i + length later ≡ count → RightsNext
       go [] e h n = absurd (omega arith)
       go (b ∷ later) e h n = record { one = b; others = later; is = e; stands = h .0 .right; kept = h .1 }
 

@@ -10,12 +10,13 @@ use Rattle.rules.specs.Syntax.{Term, var, pair}
 use Rattle.semantics.specs.Answer.{appear, vars-in}
 use Rattle.semantics.proofs.Basics.{compared, same, other}
 use Rattle.engine.specs.Reference.{at}
-use Rattle.engine.specs.Follow.{Resolves, Shaped}
+use Rattle.engine.specs.Walk.{Resolves, Shaped}
 use Rattle.engine.specs.Names.{next-top, top-from, Names, Given, Named}
-use Rattle.engine.specs.declared.follow.Shape.{Shape}
-use Rattle.engine.specs.declared.follow.Shape.the-variants.{Open, Atom as Leaf, Pair}
+use Rattle.engine.specs.Memory.{layout-words}
+use Rattle.engine.specs.declared.terms.walk.Shape.{Shape}
+use Rattle.engine.specs.declared.terms.walk.Shape.the-variants.{Open, Atom as Leaf, Pair}
 use Rattle.engine.proofs.FollowLaws.{resolves-same}
-use Rattle.engine.proofs.SizeLaws.{reach, first-reach, second-reach}
+use Rattle.engine.proofs.SizeLaws.{followed-size, first-reach, second-reach}
 use Rattle.engine.proofs.NameLaws.{top-snoc, word-none, word-snoc-same, word-snoc-other, distinct-init, names-few, has-name, no-name, named-still, named-trans}
 
 -- what `follow` tells
@@ -40,8 +41,8 @@ pub record Halves (ws s : List ℕ) (w a b : ℕ) (t : Term) : Type 0 where
   pub first-here : Resolves ws s a first
   pub second-here : Resolves ws s b second
   pub is : t ≡ pair first second
-  pub first-falls : reach ws s a < reach ws s w
-  pub second-falls : {s′ : List ℕ} → Resolves ws s′ b second → reach ws s′ b < reach ws s w
+  pub first-falls : followed-size ws s a < followed-size ws s w
+  pub second-falls : {s′ : List ℕ} → Resolves ws s′ b second → followed-size ws s′ b < followed-size ws s w
 
 pub halved : {ws s : List ℕ} {w a b : ℕ} {r : Shape} (t : Term) → Told ws s w r → r ≡ Pair a b → Resolves ws s w t → Halves ws s w a b t
 unfolding Shaped
@@ -84,7 +85,7 @@ module _ {ws s₀ s : List ℕ} {w top : ℕ} {goal : List ℕ} {r : Shape} (g :
     second-still : Resolves ws s′ b (naming-pair e .second)
     second-still = resolves-same (first-named .below) (first-named .long) (naming-pair e .second-here)
 
-    pub naming-falls : reach ws s′ b < reach ws s w
+    pub naming-falls : followed-size ws s′ b < followed-size ws s w
     naming-falls = naming-pair e .second-falls second-still
 
     pub naming-next : Naming ws s₀ s′ b top′ goal
@@ -156,7 +157,7 @@ pub record Popped (s : List ℕ) (top : ℕ) : Type 0 where
   pub falls : (at s (4096 + (top / 4096 - 1)) - 1) % 4096 < top % 4096
 
 -- the last name
-popped : {s : List ℕ} {top : ℕ} (xs : List ℕ) (x : ℕ) → 12288 ≤ length s → Names s top (xs ++ (x ∷ [])) → Popped s top
+popped : {s : List ℕ} {top : ℕ} (xs : List ℕ) (x : ℕ) → layout-words ≤ length s → Names s top (xs ++ (x ∷ [])) → Popped s top
 popped {s} {top} xs x long h =
     let d = distinct-init xs x (h .distinct) in
     let low : x < 2048 = d .1 in
@@ -188,7 +189,7 @@ popped {s} {top} xs x long h =
       falls = omega arith;
     }
 
-pub pop : {s : List ℕ} {top : ℕ} (names : List ℕ) → 12288 ≤ length s → Names s top names → ¬ (top ≡ 0) → Popped s top
+pub pop : {s : List ℕ} {top : ℕ} (names : List ℕ) → layout-words ≤ length s → Names s top names → ¬ (top ≡ 0) → Popped s top
 unfolding top-from
 pop {s} {top} names long h n = go (snoc names) h
   where

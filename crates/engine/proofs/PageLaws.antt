@@ -11,15 +11,15 @@ use Rattle.word.specs.Word.{payload, payload-word}
 use Rattle.rules.specs.Reading.{choose}
 use Rattle.rules.specs.Syntax.{empty, var, atom}
 use Rattle.rules.specs.Written.{part, sort-kind, atom-word, term-words, goal-words, goals-words}
-use Rattle.rules.specs.Inner.{Stands as Spells}
-use Rattle.rules.proofs.Stands.{stands-at as spells-at, stands-split as spells-split}
+use Rattle.rules.specs.Inner.{Spells}
+use Rattle.rules.proofs.Spelled.{stands-at as spells-at, stands-split as spells-split}
 use Rattle.semantics.specs.Answer.{index, reify, reify-bindings, differ-goals, Line, is-sort, lacks, not-all, line-in, line-words, lines-words, same-words, any-same, listed}
 use Rattle.semantics.proofs.Basics.{and-true, by-choose}
 use Rattle.engine.specs.Reference.{at}
-use Rattle.engine.specs.Put.{Puts, Touched, Laid, Placed, all-laid, some-missing}
-use Rattle.engine.specs.Page.{joined, add-line, add-lines, Whole, Wholes, Stretch, Rows, Page, Writing, Extended}
-use Rattle.engine.specs.declared.put.Put.{Put}
-use Rattle.engine.specs.declared.put.Put.the-variants.{End, Missed}
+use Rattle.engine.specs.Term.{Puts, Touched, Laid, Placed, all-laid, some-missing}
+use Rattle.engine.specs.Lines.{joined, add-line, add-lines, Whole, Wholes, Stretch, Rows, AnswerSoFar, Writing, Extended}
+use Rattle.engine.specs.declared.writer.term.Put.{Put}
+use Rattle.engine.specs.declared.writer.term.Put.the-variants.{End, Missed}
 use Rattle.engine.proofs.PutLaws.{room-same, laid-of, missing-of, laid-then, touched-then}
 
 -- the same words
@@ -160,7 +160,7 @@ module _ (names : List ℕ) (ws : List (List ℕ)) (l : Line) where
       (λ q. omega (arith, ap length (joined-snoc ws (line-words names l)), length-append (joined ws) (line-words names l))) (λ q. omega arith)
 
 -- a page that does not fit
-pub page-over : {o₀ o : List ℕ} {begin first end place : ℕ} {head : List ℕ} {ws : List (List ℕ)} → end < place → end < begin + length (head ++ joined ws) → Touched o₀ o begin end → Page o₀ o begin first end place head ws
+pub page-over : {o₀ o : List ℕ} {begin first end place : ℕ} {head : List ℕ} {ws : List (List ℕ)} → end < place → end < begin + length (head ++ joined ws) → Touched o₀ o begin end → AnswerSoFar o₀ o begin first end place head ws
 page-over beyond long t = record { stands = λ q. absurd (omega arith); whole = λ q. absurd (omega arith); begins = λ q. absurd (omega arith); over = λ _. long; touched = t }
 
 -- one line more for an answer under way
@@ -195,7 +195,7 @@ module _ {s out : List ℕ} {first end place : ℕ} (g : Writing s out first end
 
     as-before : add-line (g .names) (g .lines) l ≡ g .lines → Extended g out place (l ∷ [])
     unfolding add-lines
-    as-before q = subst (Page (g .before) out (g .begin) first end place (g .head)) (sym q) (g .page)
+    as-before q = subst (AnswerSoFar (g .before) out (g .begin) first end place (g .head)) (sym q) (g .page)
 
     pub page-dropped : {named : Bool} → named ≡ line-in (g .names) l → named ≡ false → Extended g out place (l ∷ [])
     page-dropped f n = as-before (line-dropped (g .names) (g .lines) l (sym f ∙ n))

@@ -7,21 +7,21 @@ use native.Mathlib.Omega.{arith}
 use lib.ListN.{length, set, length-set, length-append}
 use lib.Seq.{getD-set-same, getD-set-other}
 use Rattle.word.specs.Word.{word}
-use Rattle.rules.specs.Inner.{Stands as Spells}
-use Rattle.rules.proofs.Stands.{stands-at as spells-at, stands-append as spells-append, stands-split as spells-split, term-some}
+use Rattle.rules.specs.Inner.{Spells}
+use Rattle.rules.proofs.Spelled.{stands-at as spells-at, stands-append as spells-append, stands-split as spells-split, term-some}
 use Rattle.rules.specs.Syntax.{Term, var}
 use Rattle.rules.specs.Written.{part, term-words}
 use Rattle.semantics.specs.Answer.{member, index, reify, vars-in}
 use Rattle.semantics.proofs.Basics.{clash, and-true}
 use Rattle.semantics.proofs.Names.{index-less}
 use Rattle.engine.specs.Reference.{at}
-use Rattle.engine.specs.Follow.{Resolves, Shaped}
+use Rattle.engine.specs.Walk.{Resolves, Shaped}
 use Rattle.engine.specs.Names.{Names}
-use Rattle.engine.specs.Put.{Room, Puts, Touched, WordPut, Laid, Missing, Placed, all-laid, some-missing}
-use Rattle.engine.specs.declared.follow.Shape.{Shape}
-use Rattle.engine.specs.declared.follow.Shape.the-variants.{Open, Atom as Leaf, Pair}
-use Rattle.engine.specs.declared.put.Put.{Put}
-use Rattle.engine.specs.declared.put.Put.the-variants.{End, Missed}
+use Rattle.engine.specs.Term.{Room, Puts, Touched, WordPut, Laid, Missing, Placed, all-laid, some-missing}
+use Rattle.engine.specs.declared.terms.walk.Shape.{Shape}
+use Rattle.engine.specs.declared.terms.walk.Shape.the-variants.{Open, Atom as Leaf, Pair}
+use Rattle.engine.specs.declared.writer.term.Put.{Put}
+use Rattle.engine.specs.declared.writer.term.Put.the-variants.{End, Missed}
 use Rattle.engine.proofs.NameLaws.{name-member, name-number, names-few}
 use Rattle.engine.proofs.NamingLaws.{Told, told-open, told-leaf, Halves, halved}
 

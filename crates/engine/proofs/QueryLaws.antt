@@ -10,13 +10,13 @@ use Rattle.semantics.specs.Substitution.{Substitution, resolve}
 use Rattle.semantics.specs.Answer.{appear, appear-all, reify, vars-in, parameters, query-terms, names-of}
 use Rattle.engine.specs.Walk.{Binds}
 use Rattle.engine.specs.Names.{Names, Named}
-use Rattle.engine.specs.Put.{Room, Puts, Laid, Missing, Placed, all-laid, some-missing}
+use Rattle.engine.specs.Term.{Room, Puts, Laid, Missing, Placed, all-laid, some-missing}
 use Rattle.engine.specs.Look.{LookedAs, ThroughAs}
 use Rattle.engine.specs.Query.{Query, query-words}
-use Rattle.engine.specs.declared.look.Looked.{Looked}
-use Rattle.engine.specs.declared.look.Looked.the-variants as looked
-use Rattle.engine.specs.declared.put.Put.{Put}
-use Rattle.engine.specs.declared.put.Put.the-variants.{End, Missed}
+use Rattle.engine.specs.declared.writer.look.Looked.{Looked}
+use Rattle.engine.specs.declared.writer.look.Looked.the-variants as looked
+use Rattle.engine.specs.declared.writer.term.Put.{Put}
+use Rattle.engine.specs.declared.writer.term.Put.the-variants.{End, Missed}
 use Rattle.engine.proofs.TrailLaws.{fresh-few}
 use Rattle.engine.proofs.FrameLaws.{bindings-same}
 use Rattle.engine.proofs.LookLaws.{Looking, looking-start, looking-end, looking-steps, looking-path, looking-on}

@@ -15,26 +15,27 @@ use Rattle.semantics.specs.Substitution.{same-atom}
 use Rattle.semantics.specs.Invariant.{term-size}
 use Rattle.semantics.proofs.TermLaws.{same-atom-true, same-atom-refl}
 use Rattle.engine.specs.Walk.{NodeAt}
-use Rattle.engine.specs.Reference.{at, AtomIs, TermAt, TermsAt, refer, pos-of, base-of, beyond, Vars, Stands}
+use Rattle.engine.specs.Reference.{at, AtomIs, TermAt, TermsAt, refer, pos-of, base-of, beyond, Vars, Stands, positions}
+use Rattle.rules.specs.Settings.{most-words}
 
 -- references
-pub pos-refer : (pos base : ℕ) → pos < 16384 → pos-of (refer pos base) ≡ pos
+pub pos-refer : (pos base : ℕ) → pos < positions → pos-of (refer pos base) ≡ pos
 pos-refer pos base lt = omega arith
 
-pub base-refer : (pos base : ℕ) → pos < 16384 → base-of (refer pos base) ≡ base
+pub base-refer : (pos base : ℕ) → pos < positions → base-of (refer pos base) ≡ base
 base-refer pos base lt = omega arith
 
 -- a reference moves with its position
-pub pos-plus : (w d : ℕ) → pos-of w + d < 16384 → pos-of (w + d) ≡ pos-of w + d
+pub pos-plus : (w d : ℕ) → pos-of w + d < positions → pos-of (w + d) ≡ pos-of w + d
 pos-plus w d lt = omega arith
 
-pub base-plus : (w d : ℕ) → pos-of w + d < 16384 → base-of (w + d) ≡ base-of w
+pub base-plus : (w d : ℕ) → pos-of w + d < positions → base-of (w + d) ≡ base-of w
 base-plus w d lt = omega arith
 
-pub pos-beyond : (ws : List ℕ) (w : ℕ) → after ws (pos-of w) < 16384 → pos-of (beyond ws w) ≡ after ws (pos-of w)
+pub pos-beyond : (ws : List ℕ) (w : ℕ) → after ws (pos-of w) < positions → pos-of (beyond ws w) ≡ after ws (pos-of w)
 pos-beyond ws w lt = omega arith
 
-pub base-beyond : (ws : List ℕ) (w : ℕ) → after ws (pos-of w) < 16384 → base-of (beyond ws w) ≡ base-of w
+pub base-beyond : (ws : List ℕ) (w : ℕ) → after ws (pos-of w) < positions → base-of (beyond ws w) ≡ base-of w
 base-beyond ws w lt = omega arith
 
 -- a term takes more words than it has pairs
@@ -51,11 +52,11 @@ terms-longer ws base from to (t ∷ ts) h = omega (arith, term-longer ws base fr
 pub stands-inside : {ws : List ℕ} {w : ℕ} {t : Term} → Stands ws w t → pos-of w < length ws
 stands-inside {ws} {w} {t} h = omega (arith, term-longer ws (base-of w) (pos-of w) (h .to) t (h .reads), h .inside)
 
-pub stands-short : {ws : List ℕ} {w : ℕ} {t : Term} → Stands ws w t → term-size t < 16384
+pub stands-short : {ws : List ℕ} {w : ℕ} {t : Term} → Stands ws w t → term-size t < positions
 stands-short {ws} {w} {t} h = omega (arith, term-longer ws (base-of w) (pos-of w) (h .to) t (h .reads), h .small)
 
 -- The one law over the offset: a term at a place of the program stands for the place's reference in its environment, however the code came there.
-unfoldable pub stands-at : (ws : List ℕ) (base from to q : ℕ) (t : Term) → q ≡ refer from base → TermAt ws base from to t → to ≤ length ws → to ≤ 16384 → base ≤ 2048 → Vars (λ x. x < 2048) t → Stands ws q t
+unfoldable pub stands-at : (ws : List ℕ) (base from to q : ℕ) (t : Term) → q ≡ refer from base → TermAt ws base from to t → to ≤ length ws → to ≤ most-words → base ≤ 2048 → Vars (λ x. x < 2048) t → Stands ws q t
 stands-at ws base from to q t e h inside small low v =
     let l : from + term-size t < to = term-longer ws base from to t h in
     let is-pos : pos-of q ≡ from = omega arith in
@@ -74,7 +75,7 @@ pub record TwoAt (ws : List ℕ) (w : ℕ) (u v : Term) : Type 0 where
   pub first : Stands ws (w + 1) u
   pub second : (q : ℕ) → q + pos-of (w + 1) ≡ w + 1 + first .to → Stands ws q v
 
-pub two-terms : {ws : List ℕ} {w : ℕ} (base to : ℕ) (u v : Term) → base-of w ≡ base → TermsAt ws base (pos-of w + 1) to (u ∷ v ∷ []) → to ≤ length ws → to ≤ 16384 → w < 33570816
+pub two-terms : {ws : List ℕ} {w : ℕ} (base to : ℕ) (u v : Term) → base-of w ≡ base → TermsAt ws base (pos-of w + 1) to (u ∷ v ∷ []) → to ≤ length ws → to ≤ most-words → w < 33570816
     → Vars (λ x. x < 2048) u → Vars (λ x. x < 2048) v → TwoAt ws w u v
 unfolding stands-at
 two-terms {ws} {w} base to u v is-base h inside small below in-u in-v =
@@ -101,7 +102,7 @@ parts ws w s t h =
     let mid : ℕ = p + 1 + payload-at ws p in
     let l : mid + term-size t < h .to = term-longer ws b mid (h .to) t (h .reads .2) in
     let i : h .to ≤ length ws = h .inside in
-    let e : h .to ≤ 16384 = h .small in
+    let e : h .to ≤ most-words = h .small in
     let lt : b ≤ 2048 = omega (arith, h .below) in
     record {
       is-pair = h .reads .0;
@@ -135,7 +136,7 @@ skip-pair {ws} {w} {p = p} node (pair s t) h e =
     let q : p ≡ payload-at ws (pos-of w) = node .is-payload in
     let mid : ℕ = after ws (pos-of w) in
     let l : mid + term-size t < h .to = term-longer ws (base-of w) mid (h .to) t (h .reads .2) in
-    let small : h .to ≤ 16384 = h .small in
+    let small : h .to ≤ most-words = h .small in
     let is-base : base-of (w + 1 + p) ≡ base-of w = omega arith in
     record {
       term = t;

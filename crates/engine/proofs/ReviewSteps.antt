@@ -21,13 +21,13 @@ use Rattle.engine.specs.Walk.{NodeAt, Binds, Follows}
 use Rattle.engine.specs.Trail.{Trailed, Undone, Apart}
 use Rattle.engine.specs.Scan.{ScanAs, scan-says}
 use Rattle.engine.specs.Unify.{Meets, Went, UnifiedAs}
-use Rattle.engine.specs.Review.{atom-kind, other-kind, Kept, review-says, ReviewedAs}
-use Rattle.engine.specs.declared.scan.Scanned.{Scanned}
-use Rattle.engine.specs.declared.scan.Scanned.the-variants as scanned
-use Rattle.engine.specs.declared.unify.Unified.{Unified}
-use Rattle.engine.specs.declared.unify.Unified.the-variants as unified
-use Rattle.engine.specs.declared.review.Reviewed.{Reviewed}
-use Rattle.engine.specs.declared.review.Reviewed.the-variants.{Fails, Holds, StepsOut, PathOut}
+use Rattle.engine.specs.Review.{atom-kind, other-kind, ConstraintsHeld, review-says, ReviewedAs}
+use Rattle.engine.specs.declared.terms.scan.Scanned.{Scanned}
+use Rattle.engine.specs.declared.terms.scan.Scanned.the-variants as scanned
+use Rattle.engine.specs.declared.terms.unify.Unified.{Unified}
+use Rattle.engine.specs.declared.terms.unify.Unified.the-variants as unified
+use Rattle.engine.specs.declared.terms.review.Reviewed.{Reviewed}
+use Rattle.engine.specs.declared.terms.review.Reviewed.the-variants.{Fails, Holds, StepsOut, PathOut}
 use Rattle.engine.proofs.ReferenceLaws.{sort-low, term-longer, stands-at, two-terms}
 use Rattle.engine.proofs.ScanSteps.{open-at, atom-sought}
 use Rattle.engine.proofs.FrameLaws.{kept-same}
@@ -171,7 +171,7 @@ pub record Clashing (ws s : List ℕ) (bs : Substitution) (cs : List Constraint)
   pub count : i + length later ≡ kept
   pub same : clashes bs k x cs ≡ clashes bs k x later
 
-pub clashing-start : {ws s : List ℕ} {bs : Substitution} {cs : List Constraint} {trail kept : ℕ} (k : Sort) (x : ℕ) → Kept ws s bs cs trail kept → Clashing ws s bs cs k x kept 0
+pub clashing-start : {ws s : List ℕ} {bs : Substitution} {cs : List Constraint} {trail kept : ℕ} (k : Sort) (x : ℕ) → ConstraintsHeld ws s bs cs trail kept → Clashing ws s bs cs k x kept 0
 clashing-start {cs = cs} k x h = record { later = cs; kept-in = h .kept-in; count = omega (arith, h .kept-is); same = refl }
 
 pub record ClashNext (ws s : List ℕ) (bs : Substitution) (cs : List Constraint) (k : Sort) (x kept i : ℕ) : Type 0 where
@@ -340,7 +340,7 @@ module _ {ws s : List ℕ} {bs : Substitution} {a : ℕ} {u : Term} {b : ℕ} {v
 
 -- One review, whatever its kind
 
-module _ {ws s : List ℕ} {bs : Substitution} {cs : List Constraint} {trail kept : ℕ} (h : Kept ws s bs cs trail kept) (c : Constraint) (steps : ℕ) where
+module _ {ws s : List ℕ} {bs : Substitution} {cs : List Constraint} {trail kept : ℕ} (h : ConstraintsHeld ws s bs cs trail kept) (c : Constraint) (steps : ℕ) where
   pub review-none : steps ≡ 0 → ReviewedAs ws s s bs (review bs cs c steps) StepsOut
   unfolding review-says
   review-none z = record { says = ap (review bs cs c) z; bindings-in = h .held .bindings-in; apart = apart-same s }
@@ -360,7 +360,7 @@ module _ {ws s : List ℕ} {bs : Substitution} {cs : List Constraint} {trail kep
 -- All reviews
 
 -- after what leaves constraints alone and gives the bindings back
-pub kept-again : {ws s s′ : List ℕ} {bs : Substitution} {cs : List Constraint} {trail kept : ℕ} → Apart s s′ → BindingsIn ws s′ bs → Kept ws s bs cs trail kept → Kept ws s′ bs cs trail kept
+pub kept-again : {ws s s′ : List ℕ} {bs : Substitution} {cs : List Constraint} {trail kept : ℕ} → Apart s s′ → BindingsIn ws s′ bs → ConstraintsHeld ws s bs cs trail kept → ConstraintsHeld ws s′ bs cs trail kept
 kept-again {ws} {s} {s′} {bs} {cs} a b h = record {
   held = record { short = h .held .short; long = omega (arith, a .long, h .held .long); bindings-in = b; good = h .held .good };
   kept-in = kept-same ws s s′ 0 cs (λ i lo hi. a .middle i (omega arith) (omega (arith, h .kept-is, h .few))) (h .kept-in);
@@ -370,14 +370,14 @@ kept-again {ws} {s} {s′} {bs} {cs} a b h = record {
 }
 
 pub record Reviewing (ws s₀ : List ℕ) (bs : Substitution) (cs : List Constraint) (trail kept steps : ℕ) (s : List ℕ) (i left : ℕ) : Type 0 where
-  pub whole : Kept ws s bs cs trail kept
+  pub whole : ConstraintsHeld ws s bs cs trail kept
   pub apart : Apart s₀ s
   pub later : List Constraint
   pub kept-in : KeptIn ws s i later
   pub count : i + length later ≡ kept
   pub same : review-all bs cs cs steps ≡ review-all bs cs later left
 
-pub reviewing-start : {ws s : List ℕ} {bs : Substitution} {cs : List Constraint} {trail kept : ℕ} (steps : ℕ) → Kept ws s bs cs trail kept → Reviewing ws s bs cs trail kept steps s 0 steps
+pub reviewing-start : {ws s : List ℕ} {bs : Substitution} {cs : List Constraint} {trail kept : ℕ} (steps : ℕ) → ConstraintsHeld ws s bs cs trail kept → Reviewing ws s bs cs trail kept steps s 0 steps
 reviewing-start {s = s} {cs = cs} steps h = record { whole = h; apart = apart-same s; later = cs; kept-in = h .kept-in; count = omega (arith, h .kept-is); same = refl }
 
 module _ {ws s₀ : List ℕ} {bs : Substitution} {cs : List Constraint} {trail kept steps : ℕ} {s : List ℕ} {i left : ℕ} (g : Reviewing ws s₀ bs cs trail kept steps s i left) where

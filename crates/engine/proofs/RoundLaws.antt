@@ -15,7 +15,7 @@ use Rattle.semantics.specs.Answer.{answer}
 use Rattle.semantics.specs.Run.{usable, page}
 use Rattle.semantics.specs.Substitution.{argument}
 use Rattle.semantics.specs.Round as round
-use Rattle.semantics.specs.Round.{Tally, Next, over, Rounded, completed, broken, end-of, output-full, spend, write, back, give, onward, search, start, one-round}
+use Rattle.semantics.specs.Round.{Tally, Next, over, Rounded, completed, broken, end-of, output-full, spend, write, backtrack, give, onward, search, start, one-round}
 use Rattle.semantics.specs.Invariant.{RelationIn, ProgramIn, StateFine}
 use Rattle.semantics.proofs.Basics.{clash}
 use Rattle.semantics.proofs.Sound.{sound-start}
@@ -23,30 +23,30 @@ use Rattle.semantics.proofs.StepLaws.{Spent}
 use Rattle.semantics.proofs.Counts.{answer-spent}
 use Rattle.semantics.proofs.Programs.{program-in}
 use Rattle.semantics.proofs.Fair.{RoundedFair, search-fair}
-use Rattle.engine.specs.Reference.{pos-of}
+use Rattle.engine.specs.Reference.{pos-of, positions}
 use Rattle.engine.specs.Memory.{Registers, Stored}
 use Rattle.engine.specs.Trail.{Undone}
-use Rattle.engine.specs.Report.{ran, ended}
-use Rattle.engine.specs.Taking.{Holds, RelationIs, OverAs, ResumedAs, BackAs, narrow, stop-of}
-use Rattle.engine.specs.Searching.{Searching, counted-to, Answers, SearchedAs}
-use Rattle.engine.specs.Answering.{answer-says, AnswerStands, AnsweredAs}
+use Rattle.engine.specs.Report.{ran, end-says}
+use Rattle.engine.specs.Take.{PathHeld, RelationIs, OverAs, ResumedAs, BacktrackAs, with-counts, stop-of}
+use Rattle.engine.specs.Search.{Searching, counted-to, Answers, SearchedAs}
+use Rattle.engine.specs.Answer.{answer-says, AnswerStands, AnsweredAs}
 use Rattle.engine.specs.Rounds.{Clean, TallyAs, Starting, RoundedAs, Giving, GoesAs, GivenAs}
-use Rattle.engine.specs.declared.End.{End}
-use Rattle.engine.specs.declared.End.the-variants as ends
-use Rattle.engine.specs.declared.Bound.the-variants.{Waiting}
-use Rattle.engine.specs.declared.state.State.{State}
-use Rattle.engine.specs.declared.state.Stop.{Stop}
-use Rattle.engine.specs.declared.state.Searched.{Searched}
-use Rattle.engine.specs.declared.state.Searched.the-variants.{Answer, Over, Stops}
-use Rattle.engine.specs.declared.state.Resumed.{Resumed}
-use Rattle.engine.specs.declared.state.Resumed.the-variants as resumed
+use Rattle.engine.specs.declared.report.End.{End}
+use Rattle.engine.specs.declared.report.End.the-variants as ends
+use Rattle.engine.specs.declared.report.Bound.the-variants.{Waiting}
+use Rattle.engine.specs.declared.search.state.State.{State}
+use Rattle.engine.specs.declared.search.state.Stop.{Stop}
+use Rattle.engine.specs.declared.search.state.Searched.{Searched}
+use Rattle.engine.specs.declared.search.state.Searched.the-variants.{Answer, Over, Stops}
+use Rattle.engine.specs.declared.search.state.Resumed.{Resumed}
+use Rattle.engine.specs.declared.search.state.Resumed.the-variants as resumed
 use Rattle.engine.specs.declared.round.Given.{Given}
 use Rattle.engine.specs.declared.round.Given.the-variants.{Ends, Goes}
-use Rattle.engine.specs.declared.answer.Answered.{Answered}
-use Rattle.engine.specs.declared.answer.Answered.the-variants.{Written, Full, StepsOut, PathOut}
-use Rattle.engine.specs.declared.tally.Tally as code
-use Rattle.engine.specs.declared.tally.Rounded as code-rounded
-use Rattle.engine.specs.declared.tally.Rounded.the-variants.{Completed, Broken}
+use Rattle.engine.specs.declared.writer.answer.Answered.{Answered}
+use Rattle.engine.specs.declared.writer.answer.Answered.the-variants.{Written, Full, StepsOut, PathOut}
+use Rattle.engine.specs.declared.round.Tally as code
+use Rattle.engine.specs.declared.round.Rounded as code-rounded
+use Rattle.engine.specs.declared.round.Rounded.the-variants.{Completed, Broken}
 use Rattle.engine.proofs.FrameLaws.{table-same, names-same}
 use Rattle.engine.proofs.StartLaws.{first-registers, start-stored}
 
@@ -67,7 +67,7 @@ pub record Rounding (ws : List ℕ) (P : Program) (R : Relation) (k n : ℕ) (a 
   pub under : Searching P well-formed n k ws s st goal cuts state
   pub enough : state .tally .left < fuel
   pub same : one-round P R k (a .room) (a .left) (a .written) ≡ search P n k fuel state
-  pub tally : TallyAs output (record { left = st .left; used = used; answers = answers }) (state .tally)
+  pub tally : TallyAs output (record { left = st .steps; used = used; answers = answers }) (state .tally)
 
 -- The start.
 
@@ -79,14 +79,14 @@ fine-first P wf query R k t e small = let r : RelationIn P R = wf query R e in r
 }
 
 pub round-starts : {ws s output : List ℕ} {P : Program} {query : ℕ} {R : Relation} {k : ℕ} {t : code.Tally} {a : Tally} {n vars body : ℕ} → Starting ws s output P query R k t a → RelationIs ws n vars body R
-    → Rounding ws P R k n a s output (record { head = 0; trail = 0; made = vars; put = 1; kept = 0; calls = 0; choices = 0; left = t .left }) body (t .used) (t .answers) 0
+    → Rounding ws P R k n a s output (record { head = 0; trail = 0; variables = vars; goals = 1; constraints = 0; calls = 0; choices = 0; steps = t .left }) body (t .used) (t .answers) 0
 round-starts {ws} {s} {output} {P} {query} {R} {k} {t} {a} {n} {vars} {body} h r =
     let w = read-is-written ws P (h .ready .is-read) in
     let wf : ProgramIn P = program-in P (w .well-formed) in
     let first : Tally = record { left = a .left; room = a .room; cuts = 0; written = a .written } in
     let small : a .room < 268435456 = omega (arith, h .tally .room) in
     let few : R .vars ≤ 2048 = omega (arith, wf query R (h .ready .query-is) .few-vars) in
-    let below : body < 16384 = omega (arith, r .small) in
+    let below : body < positions = omega (arith, r .small) in
     let e : pos-of body ≡ body = omega (arith, below) in
     record {
       well-formed = wf;
@@ -131,23 +131,23 @@ module _ {ws : List ℕ} {P : Program} {R : Relation} {k n : ℕ} {a : Tally} {s
   fair : RoundedFair (h .state .tally .left) (h .state .tally .room + length (page (h .state .tally .written))) (search P n k (h .fuel) (h .state))
   fair = search-fair argument P n k _ (h .fuel) (h .state) (h .enough) refl
 
-  pub round-stops : {why : Stop} {l : ℕ} (d : End) → r ≡ Stops why l → ended d ≡ ran (end-of (stop-of why)) → RoundAs ws P R k a s′ output (Broken d (record { left = l; used = used; answers = answers }))
+  pub round-stops : {why : Stop} {l : ℕ} (d : End) → r ≡ Stops why l → end-says d ≡ ran (end-of (stop-of why)) → RoundAs ws P R k a s′ output (Broken d (record { left = l; used = used; answers = answers }))
   unfolding SearchedAs RoundedAs
   round-stops {why} {l} d e is =
       let q : (c : ℕ) × (search P n k (h .fuel) (h .state) ≡ broken (end-of (stop-of why)) (counted-to (h .state .tally) l c)) = rw e at told in
       let few : l ≤ h .state .tally .left = fair-left _ _ _ _ fair .1 _ (q .1) in
       record { end = end-of (stop-of why); last = counted-to (h .state .tally) l (q .0); is-round = h .same ∙ q .1; tally = fewer-left (q .0) (h .tally) (omega (arith, few, h .tally .left)) refl refl; is-end = is }
 
-  pub over-held : {last : State} {c : ℕ} → r ≡ Over last c → (p : Path) × Holds P ws s′ last p []
+  pub over-held : {last : State} {c : ℕ} → r ≡ Over last c → (p : Path) × PathHeld P ws s′ last p []
   unfolding SearchedAs
-  over-held {last} {c} e = let q : (search P n k (h .fuel) (h .state) ≡ completed (counted-to (h .state .tally) (last .left) c)) × ((p : Path) × Holds P ws s′ last p []) = rw e at told in q .1
+  over-held {last} {c} e = let q : (search P n k (h .fuel) (h .state) ≡ completed (counted-to (h .state .tally) (last .steps) c)) × ((p : Path) × PathHeld P ws s′ last p []) = rw e at told in q .1
 
-  pub round-over : {last : State} {c : ℕ} {s″ : List ℕ} → r ≡ Over last c → Clean ws s″ P → RoundAs ws P R k a s″ output (Completed (record { left = last .left; used = used; answers = answers }) c)
+  pub round-over : {last : State} {c : ℕ} {s″ : List ℕ} → r ≡ Over last c → Clean ws s″ P → RoundAs ws P R k a s″ output (Completed (record { left = last .steps; used = used; answers = answers }) c)
   unfolding SearchedAs RoundedAs
   round-over {last} {c} {s″} e clean =
-      let q : (search P n k (h .fuel) (h .state) ≡ completed (counted-to (h .state .tally) (last .left) c)) × ((p : Path) × Holds P ws s′ last p []) = rw e at told in
-      let few : last .left ≤ h .state .tally .left = fair-left _ _ _ _ fair .0 (q .0) in
-      record { last = counted-to (h .state .tally) (last .left) c; is-round = h .same ∙ q .0; clean = clean; tally = fewer-left c (h .tally) (omega (arith, few, h .tally .left)) refl refl; cuts-are = refl }
+      let q : (search P n k (h .fuel) (h .state) ≡ completed (counted-to (h .state .tally) (last .steps) c)) × ((p : Path) × PathHeld P ws s′ last p []) = rw e at told in
+      let few : last .steps ≤ h .state .tally .left = fair-left _ _ _ _ fair .0 (q .0) in
+      record { last = counted-to (h .state .tally) (last .steps) c; is-round = h .same ∙ q .0; clean = clean; tally = fewer-left c (h .tally) (omega (arith, few, h .tally .left)) refl refl; cuts-are = refl }
 
   pub round-answers : {last : State} {c : ℕ} → r ≡ Answer last c → Answers P (h .well-formed) n k ws s′ last c (h .state) (h .fuel)
   unfolding SearchedAs
@@ -157,10 +157,10 @@ module _ {ws : List ℕ} {P : Program} {R : Relation} {k n : ℕ} {a : Tally} {s
 module _ {ws : List ℕ} {P : Program} {R : Relation} {k n : ℕ} {a : Tally} {s output : List ℕ} {st : State} {goal used answers cuts : ℕ} (h : Rounding ws P R k n a s output st goal used answers cuts)
     {s′ : List ℕ} {last : State} {c : ℕ} (x : Answers P (h .well-formed) n k ws s′ last c (h .state) (h .fuel)) where
   abbrev pub tally-then : Tally
-  tally-then = counted-to (h .state .tally) (last .left) c
+  tally-then = counted-to (h .state .tally) (last .steps) c
 
   abbrev pub given-then : Next
-  given-then = give P n k (x .choices) tally-then (answer (x .path) n (last .left))
+  given-then = give P n k (x .choices) tally-then (answer (x .path) n (last .steps))
 
   pub round-gives : Giving P ws s′ output last (x .path) (x .choices) n used answers c tally-then
   round-gives = record {
@@ -180,11 +180,11 @@ module _ {ws : List ℕ} {P : Program} {R : Relation} {k n : ℕ} {a : Tally} {s
         let q : (y : Rounded) × (given-then ≡ over y) × RoundedAs ws s″ output′ P y r = rw e at told in
         subst (λ y. RoundedAs ws s″ output′ P y r) (sym (goes-on (q .1))) (q .2)
 
-    pub round-goes : {next : State} {v words : ℕ} → g ≡ Goes next v words → Rounding ws P R k n a s″ output′ next v words (answers + 1) c × (next .left < st .left)
+    pub round-goes : {next : State} {v words : ℕ} → g ≡ Goes next v words → Rounding ws P R k n a s″ output′ next v words (answers + 1) c × (next .steps < st .steps)
     unfolding GivenAs
     round-goes {next} {v} {words} e =
         let q : GoesAs P ws s″ output′ last answers c given-then next v words = rw e at told in
-        let left-is : q .state .tally .left ≡ next .left = sym (q .tally .left) in (
+        let left-is : q .state .tally .left ≡ next .steps = sym (q .tally .left) in (
           record {
             well-formed = h .well-formed;
             state = q .state;
@@ -213,25 +213,25 @@ stop-left m steps.no-steps l h = omega arith
 stop-left m (steps.at-bound b) l h = h .1
 
 module _ {P : Program} {ws s output : List ℕ} {st : State} {p : Path} {cs : List ChoicePoint} {n used answers cuts : ℕ} {a : Tally} (g : Giving P ws s output st p cs n used answers cuts a) (k : ℕ)
-    {s′ output′ : List ℕ} {w : Answered} (same : length output′ ≡ length output) (said : AnsweredAs P ws s output s′ output′ st p cs used (answer p n (st .left)) w) where
+    {s′ output′ : List ℕ} {w : Answered} (same : length output′ ≡ length output) (said : AnsweredAs P ws s output s′ output′ st p cs used (answer p n (st .steps)) w) where
   -- what the definition says of the answer, by the writer's case
-  answered : {x : Answered} → w ≡ x → answer p n (st .left) ≡ answer-says (said .words) x
+  answered : {x : Answered} → w ≡ x → answer p n (st .steps) ≡ answer-says (said .words) x
   answered e = said .says ∙ ap (answer-says (said .words)) e
 
   abbrev given : Next
-  given = give P n k cs a (answer p n (st .left))
+  given = give P n k cs a (answer p n (st .steps))
 
   abbrev pub Gave : List ℕ → Given → Type 0
   Gave s″ x = GivenAs P ws s″ output′ st answers cuts given x
 
-  spent : {o : Outcome (List ℕ)} → answer p n (st .left) ≡ o → Spent (st .left) (st .left) o
-  spent e = subst (Spent (st .left) (st .left)) e (answer-spent p n (st .left))
+  spent : {o : Outcome (List ℕ)} → answer p n (st .steps) ≡ o → Spent (st .steps) (st .steps) o
+  spent e = subst (Spent (st .steps) (st .steps)) e (answer-spent p n (st .steps))
 
-  given-as : {o : Outcome (List ℕ)} → answer p n (st .left) ≡ o → given ≡ give P n k cs a o
+  given-as : {o : Outcome (List ℕ)} → answer p n (st .steps) ≡ o → given ≡ give P n k cs a o
   given-as e = ap (give P n k cs a) e
 
   -- the round is broken off
-  breaks : (e : round.End) (d : End) (l : ℕ) → l ≤ st .left → given ≡ over (broken e (spend a l)) → ended d ≡ ran e → Gave s′ (Ends (Broken d (record { left = l; used = used; answers = answers })))
+  breaks : (e : round.End) (d : End) (l : ℕ) → l ≤ st .steps → given ≡ over (broken e (spend a l)) → end-says d ≡ ran e → Gave s′ (Ends (Broken d (record { left = l; used = used; answers = answers })))
   unfolding GivenAs RoundedAs
   breaks e d l few q is = (broken e (spend a l), q, record { end = e; last = spend a l; is-round = refl; tally = fewer-left (a .cuts) (g .tally) few same (said .leaves-lent .before); is-end = is })
 
@@ -240,8 +240,8 @@ module _ {P : Program} {ws s output : List ℕ} {st : State} {p : Path} {cs : Li
       let long : a .room < length (said .words) = omega (arith, said .full l e, g .tally .room) in
       breaks output-full ends.Output l (spent (answered e)) (given-as (answered e) ∙ rw (lt-leb (length (said .words)) (a .room) long) refl) refl
 
-  stops : {why : steps.Stop} {l : ℕ} (d : End) → answer p n (st .left) ≡ stop why l → ended d ≡ ran (end-of why) → Gave s′ (Ends (Broken d (record { left = l; used = used; answers = answers })))
-  stops {why} {l} d q is = breaks (end-of why) d l (stop-left (st .left) why l (spent q)) (given-as q) is
+  stops : {why : steps.Stop} {l : ℕ} (d : End) → answer p n (st .steps) ≡ stop why l → end-says d ≡ ran (end-of why) → Gave s′ (Ends (Broken d (record { left = l; used = used; answers = answers })))
+  stops {why} {l} d q is = breaks (end-of why) d l (stop-left (st .steps) why l (spent q)) (given-as q) is
 
   pub gives-steps-out : w ≡ StepsOut → Gave s′ (Ends (Broken ends.Steps (record { left = 0; used = used; answers = answers })))
   gives-steps-out e = stops ends.Steps (answered e) refl
@@ -252,9 +252,9 @@ module _ {P : Program} {ws s output : List ℕ} {st : State} {p : Path} {cs : Li
   -- It is written: the path is left with the tally that has it.
   pub record Wrote (words l : ℕ) : Type 0 where
     pub tally : Tally
-    pub is-back : given ≡ back cs tally
+    pub is-back : given ≡ backtrack cs tally
     pub tally-as : TallyAs output′ (record { left = l; used = words; answers = answers + 1 }) tally
-    pub fewer : l ≤ st .left
+    pub fewer : l ≤ st .steps
     pub cuts-are : tally .cuts ≡ cuts
 
   pub wrote : {words l : ℕ} → w ≡ Written words l → Wrote words l
@@ -265,7 +265,7 @@ module _ {P : Program} {ws s output : List ℕ} {st : State} {p : Path} {cs : Li
       let more : page (a .written ++ ((k, xs) ∷ [])) ≡ page (a .written) ++ xs = page-more (a .written) k xs in
       let words-more : length (page (a .written ++ ((k, xs) ∷ []))) ≡ length (page (a .written)) + length xs = ap length more ∙ length-append (page (a .written)) xs in
       let one-more : length (a .written ++ ((k, xs) ∷ [])) ≡ length (a .written) + 1 = length-append (a .written) ((k, xs) ∷ []) in
-      let few : l ≤ st .left = spent (answered e) in
+      let few : l ≤ st .steps = spent (answered e) in
       record {
         tally = write a k l xs;
         is-back = given-as (answered e) ∙ rw (le-leb (length xs) (a .room) fits) refl;
@@ -282,31 +282,31 @@ module _ {P : Program} {ws s output : List ℕ} {st : State} {p : Path} {cs : Li
       }
 
   -- Back from there; `after` is the state with the steps that the writer left.
-  module _ {words l : ℕ} (y : Wrote words l) (after : State) (is : after ≡ narrow st (st .trail) (st .kept) l) where
-    pub wrote-held : Holds P ws s′ after p cs
-    wrote-held = subst (λ z. Holds P ws s′ z p cs) (sym is) (said .leaves-lent .stored)
+  module _ {words l : ℕ} (y : Wrote words l) (after : State) (is : after ≡ with-counts st (st .trail) (st .constraints) l) where
+    pub wrote-held : PathHeld P ws s′ after p cs
+    wrote-held = subst (λ z. PathHeld P ws s′ z p cs) (sym is) (said .leaves-lent .stored)
 
-    left-is : after .left ≡ l
-    left-is = ap (λ z. z .left) is
+    left-is : after .steps ≡ l
+    left-is = ap (λ z. z .steps) is
 
     -- the tally, with the steps left as the code has them
     tally-of : {m : ℕ} → m ≡ l → TallyAs output′ (record { left = m; used = words; answers = answers + 1 }) (y .tally)
     tally-of e = subst (λ z. TallyAs output′ (record { left = z; used = words; answers = answers + 1 }) (y .tally)) (sym e) (y .tally-as)
 
-    module _ (s″ : List ℕ) (r : Resumed) (told : BackAs P ws s″ after (y .tally) (back cs (y .tally)) r) where
-      pub none-left : r ≡ resumed.Over → OverAs P ws s″ after (y .tally) (back cs (y .tally))
-      unfolding BackAs
+    module _ (s″ : List ℕ) (r : Resumed) (told : BacktrackAs P ws s″ after (y .tally) (backtrack cs (y .tally)) r) where
+      pub none-left : r ≡ resumed.Over → OverAs P ws s″ after (y .tally) (backtrack cs (y .tally))
+      unfolding BacktrackAs
       none-left e = rw e at told
 
-      pub gives-last : {s‴ : List ℕ} → r ≡ resumed.Over → Clean ws s‴ P → Gave s‴ (Ends (Completed (record { left = after .left; used = words; answers = answers + 1 }) cuts))
+      pub gives-last : {s‴ : List ℕ} → r ≡ resumed.Over → Clean ws s‴ P → Gave s‴ (Ends (Completed (record { left = after .steps; used = words; answers = answers + 1 }) cuts))
       unfolding GivenAs RoundedAs
       gives-last e clean = (completed (y .tally), y .is-back ∙ none-left e .says, record { last = y .tally; is-round = refl; clean = clean; tally = tally-of left-is; cuts-are = sym (y .cuts-are) })
 
       pub gives-next : {next : State} {v : ℕ} → r ≡ resumed.Goal next v → Gave s″ (Goes next v words)
-      unfolding BackAs GivenAs
+      unfolding BacktrackAs GivenAs
       gives-next {next} {v} e =
-          let b : ResumedAs P ws s″ after (y .tally) (back cs (y .tally)) next v = rw e at told in
-          let same-left : next .left ≡ l = b .left-is ∙ left-is in
+          let b : ResumedAs P ws s″ after (y .tally) (backtrack cs (y .tally)) next v = rw e at told in
+          let same-left : next .steps ≡ l = b .left-is ∙ left-is in
           record {
             state = record { task = b .task; path = b .path; choices = b .choices; tally = y .tally };
             is-next = y .is-back ∙ b .says;

@@ -10,14 +10,14 @@ use Rattle.semantics.specs.Round as definition
 use Rattle.semantics.specs.Round.{Tally, Rounded, completed, broken, End, start, one-round, Result}
 use Rattle.semantics.specs.Run.{usable, page}
 use Rattle.semantics.proofs.Fair.{RoundedFair, search-fair}
-use Rattle.engine.specs.Report.{ran, ended}
-use Rattle.engine.specs.Rounds.{Ready, TallyAs, Starting, CompletedAs, BrokenAs, RoundedAs, Reported, ResultAs}
-use Rattle.engine.specs.declared.End as code-end
-use Rattle.engine.specs.declared.End.the-variants.{Finished, Rounds}
-use Rattle.engine.specs.declared.Report.{Report}
-use Rattle.engine.specs.declared.tally.Tally as code-tally
-use Rattle.engine.specs.declared.tally.Rounded as code-rounded
-use Rattle.engine.specs.declared.tally.Rounded.the-variants.{Completed, Broken}
+use Rattle.engine.specs.Report.{ran, end-says}
+use Rattle.engine.specs.Rounds.{RunReady, TallyAs, Starting, CompletedAs, BrokenAs, RoundedAs, Reported, ResultAs}
+use Rattle.engine.specs.declared.report.End as code-end
+use Rattle.engine.specs.declared.report.End.the-variants.{Finished, Rounds}
+use Rattle.engine.specs.declared.report.Report.{Report}
+use Rattle.engine.specs.declared.round.Tally as code-tally
+use Rattle.engine.specs.declared.round.Rounded as code-rounded
+use Rattle.engine.specs.declared.round.Rounded.the-variants.{Completed, Broken}
 
 -- a round only spends steps
 left-of : Rounded → ℕ
@@ -37,7 +37,7 @@ fewer P R k a x e =
 -- what is known when a round is to begin: the rounds still to come give the run's result
 pub record Going (ws s₀ output₀ : List ℕ) (query limit steps : ℕ) (s output : List ℕ) (k : ℕ) (t : code-tally.Tally) : Type 0 where
   pub up-to : k ≤ limit
-  pub on : (P : Program) (R : Relation) → Ready ws s₀ P query R limit → (a : Tally) × Starting ws s output P query R k t a × (a .left ≤ steps)
+  pub on : (P : Program) (R : Relation) → RunReady ws s₀ P query R limit → (a : Tally) × Starting ws s output P query R k t a × (a .left ≤ steps)
       × (definition.rounds steps P R limit 0 (usable (length output₀)) steps [] ≡ definition.rounds steps P R (limit - k) k (a .room) (a .left) (a .written))
 
 pub start-going : (ws s output : List ℕ) (query limit steps : ℕ) (t : code-tally.Tally) → t .left ≡ steps → t .used ≡ 0 → t .answers ≡ 0 → steps ≤ 4294967295 → Going ws s output query limit steps s output 0 t
@@ -95,9 +95,9 @@ next-rest steps P R zero k room left written t n less z = absurd (omega arith)
 next-rest steps P R (suc later) k room left written t n less z = let y : later ≡ less = omega arith in cuts-go steps (t .cuts) k t _ n ∙ ap (λ l. definition.rounds steps P R l (suc k) (t .room) (t .left) (t .written)) y
 
 -- a result from an end and a tally
-resulted : {output : List ℕ} {limit k : ℕ} {e : End} {b : Tally} {d : code-end.End} {t : code-tally.Tally} {r : Report} → TallyAs output t b → ended d ≡ ran e → Reported d k limit t r → ResultAs output (definition.result limit e k b) r
+resulted : {output : List ℕ} {limit k : ℕ} {e : End} {b : Tally} {d : code-end.End} {t : code-tally.Tally} {r : Report} → TallyAs output t b → end-says d ≡ ran e → Reported d k limit t r → ResultAs output (definition.result limit e k b) r
 resulted {limit = limit} ta q h = record {
-  is-end = ap ended (h .is-end) ∙ q;
+  is-end = ap end-says (h .is-end) ∙ q;
   is-round = h .is-round;
   is-steps = h .is-steps ∙ ap (λ n. limit - n) (ta .left);
   is-answers = h .is-answers ∙ ta .answers;
@@ -105,7 +105,7 @@ resulted {limit = limit} ta q h = record {
   page-is = rw (h .is-words) (ta .page-is);
 }
 
-module _ {ws s₀ output₀ : List ℕ} {query limit steps : ℕ} {s output : List ℕ} {k : ℕ} {t : code-tally.Tally} (g : Going ws s₀ output₀ query limit steps s output k t) {P : Program} {R : Relation} (q : Ready ws s₀ P query R limit) where
+module _ {ws s₀ output₀ : List ℕ} {query limit steps : ℕ} {s output : List ℕ} {k : ℕ} {t : code-tally.Tally} (g : Going ws s₀ output₀ query limit steps s output k t) {P : Program} {R : Relation} (q : RunReady ws s₀ P query R limit) where
   abbrev pub tally-now : Tally
   tally-now = g .on P R q .0
 
@@ -143,7 +143,7 @@ module _ {ws s₀ output₀ : List ℕ} {query limit steps : ℕ} {s output : Li
   run-rest : {x : Rounded} → round-now ≡ x → run-whole ≡ rest-of steps P R (limit - k) k (tally-now .room) (tally-now .left) (tally-now .written) x
   run-rest e = g .on P R q .3 ∙ rounds-rest steps P R (limit - k) k (tally-now .room) (tally-now .left) (tally-now .written) ∙ ap (rest-of steps P R (limit - k) k (tally-now .room) (tally-now .left) (tally-now .written)) e
 
-  ends-as : {output′ : List ℕ} {e : End} {last : Tally} {d : code-end.End} {u : code-tally.Tally} {x : Report} → run-whole ≡ definition.result steps e k last → TallyAs output′ u last → ended d ≡ ran e → Reported d k steps u x → ResultAs output′ run-whole x
+  ends-as : {output′ : List ℕ} {e : End} {last : Tally} {d : code-end.End} {u : code-tally.Tally} {x : Report} → run-whole ≡ definition.result steps e k last → TallyAs output′ u last → end-says d ≡ ran e → Reported d k steps u x → ResultAs output′ run-whole x
   ends-as {output′} {x = x} z ta is y = subst (λ r. ResultAs output′ r x) (sym z) (resulted ta is y)
 
   pub broken-result : {output′ : List ℕ} {d : code-end.End} {u : code-tally.Tally} {x : Report} → BrokenAs output′ round-now d u → Reported d k steps u x → ResultAs output′ run-whole x
@@ -167,5 +167,5 @@ module _ {ws s₀ output₀ : List ℕ} {query limit steps : ℕ} {s output : Li
         )
 
 pub next-going : {ws s₀ output₀ : List ℕ} {query limit steps : ℕ} {s output : List ℕ} {k : ℕ} {t : code-tally.Tally} (g : Going ws s₀ output₀ query limit steps s output k t) {s′ output′ : List ℕ} {u : code-tally.Tally} {c : ℕ}
-    → ((P : Program) (R : Relation) (q : Ready ws s₀ P query R limit) → CompletedAs ws s′ output′ P (round-now g q) u c) → (c ≡ 0 → ⊥) → k < limit → Going ws s₀ output₀ query limit steps s′ output′ (k + 1) u
+    → ((P : Program) (R : Relation) (q : RunReady ws s₀ P query R limit) → CompletedAs ws s′ output′ P (round-now g q) u c) → (c ≡ 0 → ⊥) → k < limit → Going ws s₀ output₀ query limit steps s′ output′ (k + 1) u
 next-going g told w m = record { up-to = omega arith; on = λ P R q. next-on g q (told P R q) w m }

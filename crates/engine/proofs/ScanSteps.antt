@@ -17,10 +17,10 @@ use Rattle.semantics.proofs.ScanLaws.{Leaf}
 use Rattle.engine.specs.Reference.{at, AtomIs, pos-of, base-of, Stands}
 use Rattle.engine.specs.Walk.{NodeAt, Follows}
 use Rattle.engine.specs.Scan.{LeafWord, TestAs, ScanAs, scan-says}
-use Rattle.engine.specs.declared.scan.Scanned.{Scanned}
-use Rattle.engine.specs.declared.scan.Scanned.the-variants.{Found, Clear, StepsOut, PathOut}
+use Rattle.engine.specs.declared.terms.scan.Scanned.{Scanned}
+use Rattle.engine.specs.declared.terms.scan.Scanned.the-variants.{Found, Clear, StepsOut, PathOut}
 use Rattle.engine.proofs.ReferenceLaws.{atom-low, atom-test, parts}
-use Rattle.engine.proofs.SizeLaws.{reach, reach-size}
+use Rattle.engine.proofs.SizeLaws.{followed-size, reach-size}
 
 -- what stands at a followed reference, by the kind of its word
 module _ {ws : List ℕ} {w : ℕ} {bits k p : ℕ} (node : NodeAt ws w bits k p) where
@@ -120,7 +120,7 @@ pub record Parting (ws s : List ℕ) (sought n steps : ℕ) (bs : Substitution) 
   pub second-follows : Follows ws s bs y second
   pub first-smaller : size bs first < size bs t
   pub second-smaller : size bs second < size bs t
-  pub second-falls : size bs second < reach ws s w
+  pub second-falls : size bs second < followed-size ws s w
   pub same : (test : Term → Bool) (vs : List Term) → TestAs sought test → length vs ≡ n → scan test bs vs t steps ≡ scan test bs (second ∷ vs) first left
 
 module _ {ws s : List ℕ} {sought n steps : ℕ} {bs : Substitution} {t : Term} {w left : ℕ} (g : Scanning ws s sought n steps bs t w left) where
@@ -168,13 +168,13 @@ module _ {ws s : List ℕ} {sought n steps : ℕ} {bs : Substitution} {t : Term}
   pub first-walked : {v : ℕ} → Stands ws v (walk bs (g .first)) → Follows ws s bs v (walk bs (g .first))
   first-walked h = record { binds = g .first-follows .binds; stands = h }
 
-  pub first-falls : {v w₀ : ℕ} → Stands ws v (walk bs (g .first)) → Follows ws s bs w₀ t → reach ws s v < reach ws s w₀
+  pub first-falls : {v w₀ : ℕ} → Stands ws v (walk bs (g .first)) → Follows ws s bs w₀ t → followed-size ws s v < followed-size ws s w₀
   first-falls h f = omega (arith, g .first-smaller, size-walk bs (g .first-follows .binds .good) (g .first), reach-size (first-walked h), reach-size f)
 
   pub first-says : {v : ℕ} (r : Scanned) → Stands ws v (walk bs (g .first)) → ((bs : Substitution) (t : Term) → Follows ws s bs v t → ScanAs sought bs t (n + 1) left r) → ScanAs sought bs (g .first) (n + 1) left r
   first-says r h says test vs is m = scan-walked test bs (g .first-follows .binds .good) vs (g .first) left ∙ says bs (walk bs (g .first)) (first-walked h) test vs is m
 
-  pub second-less : reach ws s y < reach ws s w
+  pub second-less : followed-size ws s y < followed-size ws s w
   second-less = omega (arith, g .second-falls, reach-size (g .second-follows))
 
   -- what it says, then the rest

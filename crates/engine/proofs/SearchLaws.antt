@@ -19,14 +19,14 @@ use Rattle.semantics.proofs.Counts.{taken-spent}
 use Rattle.semantics.proofs.Fair.{NextFair, turn-fair}
 use Rattle.semantics.proofs.Turn.{NextWell, TakenWell, GoesOn, open-of, goal-well, turn-keeps}
 use Rattle.engine.specs.Reference.{TaskAt}
-use Rattle.engine.specs.Taking.{Holds, stop-of}
-use Rattle.engine.specs.Turning.{Turning, took-goal, tallied, NextAs}
-use Rattle.engine.specs.Searching.{count-cuts, Searching, counted-to, SearchedAs}
-use Rattle.engine.specs.declared.state.State.{State}
-use Rattle.engine.specs.declared.state.Stop.{Stop}
-use Rattle.engine.specs.declared.state.Lead.{Lead}
-use Rattle.engine.specs.declared.state.Lead.the-variants as lead
-use Rattle.engine.specs.declared.state.Searched.the-variants.{Answer, Over, Stops}
+use Rattle.engine.specs.Take.{PathHeld, stop-of}
+use Rattle.engine.specs.Turn.{Turning, took-goal, tallied, NextAs}
+use Rattle.engine.specs.Search.{count-cuts, Searching, counted-to, SearchedAs}
+use Rattle.engine.specs.declared.search.state.State.{State}
+use Rattle.engine.specs.declared.search.state.Stop.{Stop}
+use Rattle.engine.specs.declared.search.state.Lead.{Lead}
+use Rattle.engine.specs.declared.search.state.Lead.the-variants as lead
+use Rattle.engine.specs.declared.search.state.Searched.the-variants.{Answer, Over, Stops}
 
 pub count-none : (cuts cut : ℕ) → cut ≡ 0 → cuts ≡ count-cuts cuts cut
 count-none cuts zero e = refl
@@ -77,7 +77,7 @@ turn-of P n k zero state x lt e = absurd (omega arith)
 turn-of P n k (suc f) state x lt e = (f, refl, ap (λ y. onward P n k y (λ next. search P n k f next)) e)
 
 module _ {P : Program} {wf : ProgramIn P} {n k : ℕ} {ws s : List ℕ} {st : State} {w cuts : ℕ} {state₀ : round.State} {fuel₀ : ℕ} (g : Going P wf n k ws s st w cuts state₀ fuel₀)
-    (s′ : List ℕ) (to : Lead) (next : State) (v c : ℕ) (told : NextAs P n k ws s′ (g .state .tally) (took-goal k P (g .state) (st .left)) (turn P n k (g .state)) to next v c) where
+    (s′ : List ℕ) (to : Lead) (next : State) (v c : ℕ) (told : NextAs P n k ws s′ (g .state .tally) (took-goal k P (g .state) (st .steps)) (turn P n k (g .state)) to next v c) where
   total : ℕ
   total = g .state .tally .room + length (page (g .state .tally .written))
 
@@ -102,31 +102,31 @@ module _ {P : Program} {wf : ProgramIn P} {n k : ℕ} {ws s : List ℕ} {st : St
   pub searched-over : {d : ℕ} → to ≡ lead.Over → d ≡ count-cuts cuts c → SearchedAs P wf n k ws s′ state₀ fuel₀ (Over next d)
   unfolding NextAs SearchedAs
   searched-over {d} e f =
-      let q : (turn P n k (g .state) ≡ over (completed (tallied (g .state .tally) (next .left) c))) × ((p : Path) × Holds P ws s′ next p []) = rw e at told in
+      let q : (turn P n k (g .state) ≡ over (completed (tallied (g .state .tally) (next .steps) c))) × ((p : Path) × PathHeld P ws s′ next p []) = rw e at told in
       let t = turn-of P n k (g .fuel) (g .state) _ (g .enough) (q .0) in
-      (g .same ∙ t .2 ∙ ap completed (cuts-as (next .left) c ∙ ap (counted-to (state₀ .tally) (next .left)) (sym f)), q .1)
+      (g .same ∙ t .2 ∙ ap completed (cuts-as (next .steps) c ∙ ap (counted-to (state₀ .tally) (next .steps)) (sym f)), q .1)
 
-  pub over-some : to ≡ lead.Over → 0 < st .left
+  pub over-some : to ≡ lead.Over → 0 < st .steps
   unfolding NextAs
   over-some e =
-      let q : (turn P n k (g .state) ≡ over (completed (tallied (g .state .tally) (next .left) c))) × ((p : Path) × Holds P ws s′ next p []) = rw e at told in
+      let q : (turn P n k (g .state) ≡ over (completed (tallied (g .state .tally) (next .steps) c))) × ((p : Path) × PathHeld P ws s′ next p []) = rw e at told in
       omega (arith, g .under .left-is, over-spent P n k (g .state) (g .state .tally .left) _ (q .0))
 
   keeps : {new : round.State} → turn P n k (g .state) ≡ going new → StateFine P wf n k new
   keeps e = subst (NextWell P wf n k (open-of P wf n k (g .state)) (g .state .tally .written) (g .state .tally .cuts)) e (turn-keeps P wf n k (g .state) (g .under .fine)) .0
 
   -- the round goes on
-  pub searched-goal : {d : ℕ} → to ≡ lead.Goal → d ≡ count-cuts cuts c → Going P wf n k ws s′ next v d state₀ fuel₀ × (next .left < st .left)
+  pub searched-goal : {d : ℕ} → to ≡ lead.Goal → d ≡ count-cuts cuts c → Going P wf n k ws s′ next v d state₀ fuel₀ × (next .steps < st .steps)
   unfolding NextAs
   searched-goal {d} e f =
-      let q : (state : round.State) × (turn P n k (g .state) ≡ going state) × TaskAt ws v (state .task) × Holds P ws s′ next (state .path) (state .choices) × (state .tally ≡ tallied (g .state .tally) (next .left) c) = rw e at told in
+      let q : (state : round.State) × (turn P n k (g .state) ≡ going state) × TaskAt ws v (state .task) × PathHeld P ws s′ next (state .path) (state .choices) × (state .tally ≡ tallied (g .state .tally) (next .steps) c) = rw e at told in
       let new : round.State = q .0 in
       let t = turn-of P n k (g .fuel) (g .state) (going new) (g .enough) (q .1) in
       let falls : new .tally .left < g .state .tally .left = subst (NextFair (g .state .tally .left) total) (q .1) fair .0 in
-      let is : new .tally ≡ counted-to (state₀ .tally) (next .left) (count-cuts cuts c) = q .4 ∙ cuts-as (next .left) c in
-      let left-is : new .tally .left ≡ next .left = ap (λ x. x .left) is in
-      let less : next .left < st .left = omega (arith, left-is, falls, g .under .left-is) in
-      let more : next .left < g .state .tally .left = omega (arith, left-is, falls) in (
+      let is : new .tally ≡ counted-to (state₀ .tally) (next .steps) (count-cuts cuts c) = q .4 ∙ cuts-as (next .steps) c in
+      let left-is : new .tally .left ≡ next .steps = ap (λ x. x .left) is in
+      let less : next .steps < st .steps = omega (arith, left-is, falls, g .under .left-is) in
+      let more : next .steps < g .state .tally .left = omega (arith, left-is, falls) in (
         record {
           state = new;
           fuel = t .0;
@@ -144,15 +144,15 @@ module _ {P : Program} {wf : ProgramIn P} {n k : ℕ} {ws s : List ℕ} {st : St
   pub searched-answer : to ≡ lead.Answer → SearchedAs P wf n k ws s′ state₀ fuel₀ (Answer next cuts)
   unfolding NextAs SearchedAs
   searched-answer e =
-      let o : Outcome Taken = took-goal k P (g .state) (st .left) in
-      let q : (p : Path) × (cs : List ChoicePoint) × (turn P n k (g .state) ≡ give P n k cs (spend (g .state .tally) (next .left)) (answer p n (next .left))) × Holds P ws s′ next p cs × (p .stack ≡ []) × (p .calls ≡ k) × (o ≡ done (goes p cs) (next .left)) = rw e at told in
+      let o : Outcome Taken = took-goal k P (g .state) (st .steps) in
+      let q : (p : Path) × (cs : List ChoicePoint) × (turn P n k (g .state) ≡ give P n k cs (spend (g .state .tally) (next .steps)) (answer p n (next .steps))) × PathHeld P ws s′ next p cs × (p .stack ≡ []) × (p .calls ≡ k) × (o ≡ done (goes p cs) (next .steps)) = rw e at told in
       let p : Path = q .0 in
       let cs : List ChoicePoint = q .1 in
       let well : GoesOn P wf n k (g .state .path) (g .state .task) (g .state .choices) p cs
-      = subst (TakenWell P wf n k (g .state .path) (g .state .task) (g .state .choices)) (q .6) (goal-well P wf n k (g .state .path) (g .state .task .0) (g .state .choices) (g .under .fine .fine-choices) (g .state .task .1) (st .left) (g .under .fine .fine)) in
-      let spent : next .left < st .left = take-spent k P (g .state .path) (g .state .choices) (g .state .task .0) (g .state .task .1) (st .left) (goes p cs) (next .left) (q .6) in
-      let counted : spend (g .state .tally) (next .left) ≡ counted-to (state₀ .tally) (next .left) cuts = tally-as (next .left) (g .state .tally .cuts) ∙ ap (counted-to (state₀ .tally) (next .left)) (g .under .cuts-are) in
-      let given : turn P n k (g .state) ≡ give P n k cs (counted-to (state₀ .tally) (next .left) cuts) (answer p n (next .left)) = q .2 ∙ ap (λ x. give P n k cs x (answer p n (next .left))) counted in
+      = subst (TakenWell P wf n k (g .state .path) (g .state .task) (g .state .choices)) (q .6) (goal-well P wf n k (g .state .path) (g .state .task .0) (g .state .choices) (g .under .fine .fine-choices) (g .state .task .1) (st .steps) (g .under .fine .fine)) in
+      let spent : next .steps < st .steps = take-spent k P (g .state .path) (g .state .choices) (g .state .task .0) (g .state .task .1) (st .steps) (goes p cs) (next .steps) (q .6) in
+      let counted : spend (g .state .tally) (next .steps) ≡ counted-to (state₀ .tally) (next .steps) cuts = tally-as (next .steps) (g .state .tally .cuts) ∙ ap (counted-to (state₀ .tally) (next .steps)) (g .under .cuts-are) in
+      let given : turn P n k (g .state) ≡ give P n k cs (counted-to (state₀ .tally) (next .steps) cuts) (answer p n (next .steps)) = q .2 ∙ ap (λ x. give P n k cs x (answer p n (next .steps))) counted in
       let t = turn-of P n k (g .fuel) (g .state) _ (g .enough) given in
       record {
         path = p;

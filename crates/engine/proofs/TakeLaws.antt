@@ -9,11 +9,11 @@ use Rattle.semantics.specs.Steps.{Outcome, step}
 use Rattle.semantics.specs.Path.{Task, Path, ChoicePoint, taken, take-goal}
 use Rattle.engine.specs.Reference.{GoalAt, pos-of, TaskAt}
 use Rattle.engine.specs.Walk.{NodeAt}
-use Rattle.engine.specs.Taking.{Ready, Due, TookAs, narrow}
-use Rattle.engine.specs.declared.state.State.{State}
-use Rattle.engine.specs.declared.state.Stop.the-variants.{Steps}
-use Rattle.engine.specs.declared.state.Way.the-variants.{Stops}
-use Rattle.engine.specs.declared.state.Took.{Took}
+use Rattle.engine.specs.Take.{GoalReady, Due, TookAs, with-counts}
+use Rattle.engine.specs.declared.search.state.State.{State}
+use Rattle.engine.specs.declared.search.state.Stop.the-variants.{Steps}
+use Rattle.engine.specs.declared.search.state.Way.the-variants.{Stops}
+use Rattle.engine.specs.declared.search.state.Took.{Took}
 use Rattle.engine.proofs.ReferenceLaws.{sort-low}
 use Rattle.engine.proofs.TookLaws.{took-stops}
 
@@ -68,11 +68,11 @@ step-is : {A : Type 0} (left : ℕ) (go : ℕ → Outcome A) → (left ≡ 0 →
 step-is zero go n = absurd (n refl)
 step-is (suc left) go n = let e : suc left - 1 ≡ left = omega arith in ap go (sym e)
 
-module _ {P : Program} {ws s : List ℕ} {st : State} {w : ℕ} {p : Path} {cs : List ChoicePoint} {task : Task} (d : Due P ws s st w p cs task) (some-left : st .left ≡ 0 → ⊥)
-    {st′ : State} (is-st : st′ ≡ narrow st (st .trail) (st .kept) (st .left - 1)) {g : Goal} (is : task .1 ≡ g) where
+module _ {P : Program} {ws s : List ℕ} {st : State} {w : ℕ} {p : Path} {cs : List ChoicePoint} {task : Task} (d : Due P ws s st w p cs task) (some-left : st .steps ≡ 0 → ⊥)
+    {st′ : State} (is-st : st′ ≡ with-counts st (st .trail) (st .constraints) (st .steps - 1)) {g : Goal} (is : task .1 ≡ g) where
   -- what the goal's function asks for
-  pub taking : st .left < 4294967296 → Ready P ws s st′ w p cs (task .0, g)
-  taking fits = rw is-st (subst (λ g. Ready P ws s (narrow st (st .trail) (st .kept) (st .left - 1)) w p cs (task .0, g)) is (record {
+  pub taking : st .steps < 4294967296 → GoalReady P ws s st′ w p cs (task .0, g)
+  taking fits = rw is-st (subst (λ g. GoalReady P ws s (with-counts st (st .trail) (st .constraints) (st .steps - 1)) w p cs (task .0, g)) is (record {
     taking = record { stored = d .stored; task-at = d .task-at; step-taken = omega (arith, some-left) };
     short = d .short;
     program-in = d .program-in;
@@ -81,8 +81,8 @@ module _ {P : Program} {ws s : List ℕ} {st : State} {w : ℕ} {p : Path} {cs :
   }))
 
   -- what it says is what the definition says, its step taken
-  pub taken-as : (round : ℕ) (s′ : List ℕ) (r : Took) → TookAs P ws s′ cs (taken round P p cs (task .0) g (st′ .left)) (r .way) (r .state) → TookAs P ws s′ cs (take-goal round P p cs (task .0) (task .1) (st .left)) (r .way) (r .state)
+  pub taken-as : (round : ℕ) (s′ : List ℕ) (r : Took) → TookAs P ws s′ cs (taken round P p cs (task .0) g (st′ .steps)) (r .way) (r .state) → TookAs P ws s′ cs (take-goal round P p cs (task .0) (task .1) (st .steps)) (r .way) (r .state)
   taken-as round s′ r h =
-      let left-is : st′ .left ≡ st .left - 1 = ap (λ x. x .left) is-st in
-      subst (λ o. TookAs P ws s′ cs o (r .way) (r .state)) (sym (step-is (st .left) (λ l. taken round P p cs (task .0) (task .1) l) some-left))
-      (subst (λ x. TookAs P ws s′ cs (taken round P p cs (task .0) x (st .left - 1)) (r .way) (r .state)) (sym is) (subst (λ l. TookAs P ws s′ cs (taken round P p cs (task .0) g l) (r .way) (r .state)) left-is h))
+      let left-is : st′ .steps ≡ st .steps - 1 = ap (λ x. x .steps) is-st in
+      subst (λ o. TookAs P ws s′ cs o (r .way) (r .state)) (sym (step-is (st .steps) (λ l. taken round P p cs (task .0) (task .1) l) some-left))
+      (subst (λ x. TookAs P ws s′ cs (taken round P p cs (task .0) x (st .steps - 1)) (r .way) (r .state)) (sym is) (subst (λ l. TookAs P ws s′ cs (taken round P p cs (task .0) g l) (r .way) (r .state)) left-is h))

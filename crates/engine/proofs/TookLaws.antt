@@ -7,23 +7,23 @@ use Rattle.rules.specs.Syntax.{Program}
 use Rattle.semantics.specs.Steps.{at-bound, Outcome, done, stop}
 use Rattle.semantics.specs.Path.{Path, ChoicePoint, Taken, leaves, cut, goes}
 use Rattle.engine.specs.Report.{bound-of}
-use Rattle.engine.specs.Taking.{Holds, stop-of, took-says, TookHolds, TookAs}
-use Rattle.engine.specs.declared.Bound.{Bound}
-use Rattle.engine.specs.declared.state.State.{State}
-use Rattle.engine.specs.declared.state.Stop.{Stop}
-use Rattle.engine.specs.declared.state.Stop.the-variants.{Path as PathLimit}
-use Rattle.engine.specs.declared.state.Way.the-variants.{Goes, Leaves, Cut, Stops}
+use Rattle.engine.specs.Take.{PathHeld, stop-of, took-says, TookHolds, TookAs}
+use Rattle.engine.specs.declared.report.Bound.{Bound}
+use Rattle.engine.specs.declared.search.state.State.{State}
+use Rattle.engine.specs.declared.search.state.Stop.{Stop}
+use Rattle.engine.specs.declared.search.state.Stop.the-variants.{Path as PathLimit}
+use Rattle.engine.specs.declared.search.state.Way.the-variants.{Goes, Leaves, Cut, Stops}
 
 module _ {P : Program} {ws s : List ℕ} {p : Path} {cs : List ChoicePoint} {o : Outcome Taken} {st : State} where
-  pub took-goes : {cs′ : List ChoicePoint} → Holds P ws s st p cs′ → o ≡ done (goes p cs′) (st .left) → TookAs P ws s cs o Goes st
+  pub took-goes : {cs′ : List ChoicePoint} → PathHeld P ws s st p cs′ → o ≡ done (goes p cs′) (st .steps) → TookAs P ws s cs o Goes st
   unfolding took-says TookHolds
   took-goes {cs′} h e = record { path = p; choices = cs′; says = e; held = h }
 
-  pub took-leaves : Holds P ws s st p cs → o ≡ done leaves (st .left) → TookAs P ws s cs o Leaves st
+  pub took-leaves : PathHeld P ws s st p cs → o ≡ done leaves (st .steps) → TookAs P ws s cs o Leaves st
   unfolding took-says TookHolds
   took-leaves h e = record { path = p; choices = cs; says = e; held = h }
 
-  pub took-cut : Holds P ws s st p cs → o ≡ done cut (st .left) → TookAs P ws s cs o Cut st
+  pub took-cut : PathHeld P ws s st p cs → o ≡ done cut (st .steps) → TookAs P ws s cs o Cut st
   unfolding took-says TookHolds
   took-cut h e = record { path = p; choices = cs; says = e; held = h }
 
@@ -33,5 +33,5 @@ module _ {P : Program} {ws s : List ℕ} (p : Path) {cs : List ChoicePoint} {o :
   took-stops e = record { path = p; choices = cs; says = e; held = tt }
 
   -- where a bound is met, the goal's own step is given back
-  pub took-bound : {b : Bound} → o ≡ stop (at-bound (bound-of b)) (suc (st .left)) → TookAs P ws s cs o (Stops (PathLimit b) (st .left + 1)) st
-  took-bound {b} e = let n : suc (st .left) ≡ st .left + 1 = omega arith in took-stops (e ∙ ap (stop (at-bound (bound-of b))) n)
+  pub took-bound : {b : Bound} → o ≡ stop (at-bound (bound-of b)) (suc (st .steps)) → TookAs P ws s cs o (Stops (PathLimit b) (st .steps + 1)) st
+  took-bound {b} e = let n : suc (st .steps) ≡ st .steps + 1 = omega arith in took-stops (e ∙ ap (stop (at-bound (bound-of b))) n)

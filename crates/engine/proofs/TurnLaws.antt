@@ -11,20 +11,20 @@ use Rattle.semantics.specs.Steps.{Outcome, done}
 use Rattle.semantics.specs.Path.{Task, Path, ChoicePoint, Taken, goes, waiting-on}
 use Rattle.semantics.specs.Answer.{answer}
 use Rattle.semantics.specs.Round as round
-use Rattle.semantics.specs.Round.{Tally, Next, spend, back, give, go-on, after, turn}
+use Rattle.semantics.specs.Round.{Tally, Next, spend, backtrack, give, go-on, after, turn}
 use Rattle.engine.specs.Reference.{at}
 use Rattle.engine.specs.Memory.{goal-at, next-at, TasksIn, Stored}
-use Rattle.engine.specs.Taking.{registers, Holds, took-says, TookHolds, TookAs, OverAs, ResumedAs, BackAs}
-use Rattle.engine.specs.Turning.{took-goal, tallied, NextAs, TurnedAs}
-use Rattle.engine.specs.declared.state.State.{State}
-use Rattle.engine.specs.declared.state.Stop.{Stop}
-use Rattle.engine.specs.declared.state.Way.{Way}
-use Rattle.engine.specs.declared.state.Way.the-variants as way
-use Rattle.engine.specs.declared.state.Resumed.{Resumed}
-use Rattle.engine.specs.declared.state.Resumed.the-variants as resumed
-use Rattle.engine.specs.declared.state.Lead.{Lead}
-use Rattle.engine.specs.declared.state.Lead.the-variants.{Goal, Over, Answer, Stops}
-use Rattle.engine.specs.declared.state.Turned.{Turned}
+use Rattle.engine.specs.Take.{registers, PathHeld, took-says, TookHolds, TookAs, OverAs, ResumedAs, BacktrackAs}
+use Rattle.engine.specs.Turn.{took-goal, tallied, NextAs, TurnedAs}
+use Rattle.engine.specs.declared.search.state.State.{State}
+use Rattle.engine.specs.declared.search.state.Stop.{Stop}
+use Rattle.engine.specs.declared.search.state.Way.{Way}
+use Rattle.engine.specs.declared.search.state.Way.the-variants as way
+use Rattle.engine.specs.declared.search.state.Resumed.{Resumed}
+use Rattle.engine.specs.declared.search.state.Resumed.the-variants as resumed
+use Rattle.engine.specs.declared.search.state.Lead.{Lead}
+use Rattle.engine.specs.declared.search.state.Lead.the-variants.{Goal, Over, Answer, Stops}
+use Rattle.engine.specs.declared.search.state.Turned.{Turned}
 use Rattle.engine.proofs.ClaimLaws.{pop}
 
 -- The path is left.
@@ -34,34 +34,34 @@ tally-left : (t : Tally) (l m c : ℕ) → m ≡ l → tallied t l c ≡ tallied
 tally-left t l m c e = ap (λ x. tallied t x c) (sym e)
 
 module _ (P : Program) (n k : ℕ) (ws s : List ℕ) (st : State) (t : Tally) (o : Outcome Taken) (c : ℕ) where
-  pub left-over : (x : Next) {r : Resumed} → r ≡ resumed.Over → BackAs P ws s st (tallied t (st .left) c) x r → NextAs P n k ws s t o x Over st 0 c
-  unfolding BackAs NextAs
-  left-over x e b = let q : OverAs P ws s st (tallied t (st .left) c) x = rw e at b in (q .says, (q .path, q .held))
+  pub left-over : (x : Next) {r : Resumed} → r ≡ resumed.Over → BacktrackAs P ws s st (tallied t (st .steps) c) x r → NextAs P n k ws s t o x Over st 0 c
+  unfolding BacktrackAs NextAs
+  left-over x e b = let q : OverAs P ws s st (tallied t (st .steps) c) x = rw e at b in (q .says, (q .path, q .held))
 
-  pub left-goal : (x : Next) {r : Resumed} {next : State} {w : ℕ} → r ≡ resumed.Goal next w → BackAs P ws s st (tallied t (st .left) c) x r → NextAs P n k ws s t o x Goal next w c
-  unfolding BackAs NextAs
+  pub left-goal : (x : Next) {r : Resumed} {next : State} {w : ℕ} → r ≡ resumed.Goal next w → BacktrackAs P ws s st (tallied t (st .steps) c) x r → NextAs P n k ws s t o x Goal next w c
+  unfolding BacktrackAs NextAs
   left-goal x {next = next} {w = w} e b =
-      let q : ResumedAs P ws s st (tallied t (st .left) c) x next w = rw e at b in
-      (record { task = q .task; path = q .path; choices = q .choices; tally = tallied t (st .left) c }, q .says, q .task-at, q .held, tally-left t (st .left) (next .left) c (q .left-is))
+      let q : ResumedAs P ws s st (tallied t (st .steps) c) x next w = rw e at b in
+      (record { task = q .task; path = q .path; choices = q .choices; tally = tallied t (st .steps) c }, q .says, q .task-at, q .held, tally-left t (st .steps) (next .steps) c (q .left-is))
 
 -- The path goes on.
 
 -- its first cell is in the area
-pub cell-there : {P : Program} {ws s : List ℕ} (st : State) {p : Path} {cs : List ChoicePoint} → Holds P ws s st p cs → (st .head ≡ 0 → ⊥) → st .head ≤ 1024
+pub cell-there : {P : Program} {ws s : List ℕ} (st : State) {p : Path} {cs : List ChoicePoint} → PathHeld P ws s st p cs → (st .head ≡ 0 → ⊥) → st .head ≤ 1024
 cell-there {P} {ws} {s} st {p} h e = go (p .stack) (h .path-in .tasks)
   where
-    go : (ts : List Task) → TasksIn ws s (st .put) (st .head) ts → st .head ≤ 1024
+    go : (ts : List Task) → TasksIn ws s (st .goals) (st .head) ts → st .head ≤ 1024
     go [] q = absurd (e q)
     go (x ∷ xs) q = omega (arith, q .0 .low, h .roomy .put)
 
-module _ (P : Program) (n k : ℕ) (ws s : List ℕ) (st : State) (p : Path) (cs : List ChoicePoint) (t : Tally) (h : Holds P ws s st p cs) where
+module _ (P : Program) (n k : ℕ) (ws s : List ℕ) (st : State) (p : Path) (cs : List ChoicePoint) (t : Tally) (h : PathHeld P ws s st p cs) where
   abbrev pub goes-to : List ℕ → Lead → State → ℕ → ℕ → Type 0
-  goes-to s′ lead next w c = NextAs P n k ws s′ t (done (goes p cs) (st .left)) (go-on P n k p (p .stack) cs (spend t (st .left))) lead next w c
+  goes-to s′ lead next w c = NextAs P n k ws s′ t (done (goes p cs) (st .steps)) (go-on P n k p (p .stack) cs (spend t (st .steps))) lead next w c
 
   no-stack : st .head ≡ 0 → p .stack ≡ []
   no-stack e = go (p .stack) (h .path-in .tasks)
     where
-      go : (ts : List Task) → TasksIn ws s (st .put) (st .head) ts → ts ≡ []
+      go : (ts : List Task) → TasksIn ws s (st .goals) (st .head) ts → ts ≡ []
       go [] q = refl
       go (x ∷ xs) q = absurd (omega (arith, q .0 .is-cell))
 
@@ -70,41 +70,41 @@ module _ (P : Program) (n k : ℕ) (ws s : List ℕ) (st : State) (p : Path) (cs
   goes-answer e f =
       let calls : p .calls ≡ k = sym (h .path-in .calls) ∙ f in
       let y : eqb (p .calls) k ≡ true = eq-eqb (p .calls) k calls in
-      let x : go-on P n k p [] cs (spend t (st .left)) ≡ give P n k cs (spend t (st .left)) (answer p n (st .left)) = rw y refl in
-      (p, cs, ap (λ ts. go-on P n k p ts cs (spend t (st .left))) (no-stack e) ∙ x, h, no-stack e, calls, refl)
+      let x : go-on P n k p [] cs (spend t (st .steps)) ≡ give P n k cs (spend t (st .steps)) (answer p n (st .steps)) = rw y refl in
+      (p, cs, ap (λ ts. go-on P n k p ts cs (spend t (st .steps))) (no-stack e) ∙ x, h, no-stack e, calls, refl)
 
   pub goes-fewer : (s′ : List ℕ) (r : Turned) → st .head ≡ 0 → (st .calls ≡ k → ⊥)
-      → ((Q : Program) (m j : ℕ) (q : Path) (ds : List ChoicePoint) (u : Tally) (o : Outcome Taken) → Holds Q ws s st q ds → TurnedAs Q m j ws s′ u o (back ds (tallied u (st .left) 0)) r) → goes-to s′ (r .lead) (r .state) (r .goal) (r .cuts)
+      → ((Q : Program) (m j : ℕ) (q : Path) (ds : List ChoicePoint) (u : Tally) (o : Outcome Taken) → PathHeld Q ws s st q ds → TurnedAs Q m j ws s′ u o (backtrack ds (tallied u (st .steps) 0)) r) → goes-to s′ (r .lead) (r .state) (r .goal) (r .cuts)
   goes-fewer s′ r e f left =
       let y : eqb (p .calls) k ≡ false = ne-eqb (p .calls) k (λ q. f (h .path-in .calls ∙ q)) in
-      let x : go-on P n k p [] cs (spend t (st .left)) ≡ back cs (spend t (st .left)) = rw y refl in
-      subst (λ z. TurnedAs P n k ws s′ t (done (goes p cs) (st .left)) z r) (sym (ap (λ ts. go-on P n k p ts cs (spend t (st .left))) (no-stack e) ∙ x)) (left P n k p cs t (done (goes p cs) (st .left)) h)
+      let x : go-on P n k p [] cs (spend t (st .steps)) ≡ backtrack cs (spend t (st .steps)) = rw y refl in
+      subst (λ z. TurnedAs P n k ws s′ t (done (goes p cs) (st .steps)) z r) (sym (ap (λ ts. go-on P n k p ts cs (spend t (st .steps))) (no-stack e) ∙ x)) (left P n k p cs t (done (goes p cs) (st .steps)) h)
 
   pub goes-goal : (st .head ≡ 0 → ⊥)
-      → goes-to s Goal (record { head = at s (next-at (st .head)); trail = st .trail; made = st .made; put = st .put; kept = st .kept; calls = st .calls; choices = st .choices; left = st .left }) (at s (goal-at (st .head))) 0
+      → goes-to s Goal (record { head = at s (next-at (st .head)); trail = st .trail; variables = st .variables; goals = st .goals; constraints = st .constraints; calls = st .calls; choices = st .choices; steps = st .steps }) (at s (goal-at (st .head))) 0
   unfolding NextAs
   goes-goal e = go (p .stack) refl
     where
-      go : (ts : List Task) → p .stack ≡ ts → goes-to s Goal (record { head = at s (next-at (st .head)); trail = st .trail; made = st .made; put = st .put; kept = st .kept; calls = st .calls; choices = st .choices; left = st .left }) (at s (goal-at (st .head))) 0
-      go [] q = absurd (e (subst (TasksIn ws s (st .put) (st .head)) q (h .path-in .tasks)))
+      go : (ts : List Task) → p .stack ≡ ts → goes-to s Goal (record { head = at s (next-at (st .head)); trail = st .trail; variables = st .variables; goals = st .goals; constraints = st .constraints; calls = st .calls; choices = st .choices; steps = st .steps }) (at s (goal-at (st .head))) 0
+      go [] q = absurd (e (subst (TasksIn ws s (st .goals) (st .head)) q (h .path-in .tasks)))
       go (x ∷ xs) q =
           let g : Stored P ws s (registers st) (st .choices) (waiting-on p (x ∷ xs) (p .put)) cs = subst (λ ts. Stored P ws s (registers st) (st .choices) (waiting-on p ts (p .put)) cs) q h in
           let o = pop p x xs g in
-          (record { task = x; path = waiting-on p xs (p .put); choices = cs; tally = spend t (st .left) }, ap (λ ts. go-on P n k p ts cs (spend t (st .left))) q, o .1, o .2, refl)
+          (record { task = x; path = waiting-on p xs (p .put); choices = cs; tally = spend t (st .steps) }, ap (λ ts. go-on P n k p ts cs (spend t (st .steps))) q, o .1, o .2, refl)
 
 -- The turn.
 
 -- what the state holds when the goal was taken
 module _ {P : Program} {ws s : List ℕ} {cs : List ChoicePoint} {o : Outcome Taken} {y : Way} {st : State} (b : TookAs P ws s cs o y st) where
-  pub held-goes : y ≡ way.Goes → Holds P ws s st (b .path) (b .choices)
+  pub held-goes : y ≡ way.Goes → PathHeld P ws s st (b .path) (b .choices)
   unfolding TookHolds
   held-goes e = rw e at (b .held)
 
-  pub held-left : y ≡ way.Leaves → Holds P ws s st (b .path) cs
+  pub held-left : y ≡ way.Leaves → PathHeld P ws s st (b .path) cs
   unfolding TookHolds
   held-left e = rw e at (b .held)
 
-  pub held-cut : y ≡ way.Cut → Holds P ws s st (b .path) cs
+  pub held-cut : y ≡ way.Cut → PathHeld P ws s st (b .path) cs
   unfolding TookHolds
   held-cut e = rw e at (b .held)
 
@@ -116,8 +116,8 @@ module _ (P : Program) (n k : ℕ) (ws s s′ : List ℕ) (state : round.State) 
   turn-is e = ap (λ l. after P n k state (took-goal k P state l)) same ∙ ap (after P n k state) e
 
   module _ {y : Way} {st : State} (b : TookAs P ws s (state .choices) (took-goal k P state left) y st) where
-    took-as : {z : Way} → y ≡ z → (took-goal k P state left) ≡ took-says (b .path) (b .choices) z (st .left)
-    took-as e = b .says ∙ ap (λ z. took-says (b .path) (b .choices) z (st .left)) e
+    took-as : {z : Way} → y ≡ z → (took-goal k P state left) ≡ took-says (b .path) (b .choices) z (st .steps)
+    took-as e = b .says ∙ ap (λ z. took-says (b .path) (b .choices) z (st .steps)) e
 
     pub turn-stops : {why : Stop} {l : ℕ} (w c : ℕ) → y ≡ way.Stops why l → turns-to (record { lead = Stops why l; state = st; goal = w; cuts = c })
     unfolding took-says NextAs
@@ -126,9 +126,9 @@ module _ (P : Program) (n k : ℕ) (ws s s′ : List ℕ) (state : round.State) 
     -- and what comes of it
     module _ (said : Turned) where
       abbrev Leaves-as : ℕ → Type 0
-      Leaves-as c = (Q : Program) (m j : ℕ) (q : Path) (ds : List ChoicePoint) (u : Tally) (o : Outcome Taken) → Holds Q ws s st q ds → TurnedAs Q m j ws s′ u o (back ds (tallied u (st .left) c)) said
+      Leaves-as c = (Q : Program) (m j : ℕ) (q : Path) (ds : List ChoicePoint) (u : Tally) (o : Outcome Taken) → PathHeld Q ws s st q ds → TurnedAs Q m j ws s′ u o (backtrack ds (tallied u (st .steps) c)) said
 
-      leaves-to : (c : ℕ) → turn P n k state ≡ back (state .choices) (tallied (state .tally) (st .left) c) → Holds P ws s st (b .path) (state .choices) → Leaves-as c → turns-to said
+      leaves-to : (c : ℕ) → turn P n k state ≡ backtrack (state .choices) (tallied (state .tally) (st .steps) c) → PathHeld P ws s st (b .path) (state .choices) → Leaves-as c → turns-to said
       leaves-to c q h f = subst (λ x. TurnedAs P n k ws s′ (state .tally) (took-goal k P state left) x said) (sym q) (f P n k (b .path) (state .choices) (state .tally) (took-goal k P state left) h)
 
       pub turn-leaves : y ≡ way.Leaves → Leaves-as 0 → turns-to said
@@ -140,10 +140,10 @@ module _ (P : Program) (n k : ℕ) (ws s s′ : List ℕ) (state : round.State) 
       turn-cuts e = leaves-to 1 (turn-is (took-as e)) (held-cut b e)
 
       pub turn-onward : y ≡ way.Goes
-          → ((Q : Program) (m : ℕ) (q : Path) (ds : List ChoicePoint) (u : Tally) → Holds Q ws s st q ds → TurnedAs Q m k ws s′ u (done (goes q ds) (st .left)) (go-on Q m k q (q .stack) ds (spend u (st .left))) said)
+          → ((Q : Program) (m : ℕ) (q : Path) (ds : List ChoicePoint) (u : Tally) → PathHeld Q ws s st q ds → TurnedAs Q m k ws s′ u (done (goes q ds) (st .steps)) (go-on Q m k q (q .stack) ds (spend u (st .steps))) said)
           → turns-to said
       unfolding took-says
       turn-onward e f =
-          let is : (took-goal k P state left) ≡ done (goes (b .path) (b .choices)) (st .left) = took-as e in
+          let is : (took-goal k P state left) ≡ done (goes (b .path) (b .choices)) (st .steps) = took-as e in
           subst (λ z. TurnedAs P n k ws s′ (state .tally) (took-goal k P state left) z said) (sym (turn-is is))
-          (subst (λ z. TurnedAs P n k ws s′ (state .tally) z (go-on P n k (b .path) (b .path .stack) (b .choices) (spend (state .tally) (st .left))) said) (sym is) (f P n (b .path) (b .choices) (state .tally) (held-goes b e)))
+          (subst (λ z. TurnedAs P n k ws s′ (state .tally) z (go-on P n k (b .path) (b .path .stack) (b .choices) (spend (state .tally) (st .steps))) said) (sym is) (f P n (b .path) (b .choices) (state .tally) (held-goes b e)))

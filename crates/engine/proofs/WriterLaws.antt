@@ -22,17 +22,16 @@ use Rattle.semantics.proofs.Basics.{one-of}
 use Rattle.semantics.proofs.SubstitutionLaws.{walk-some, walk-open, resolve-lookup, resolve-open}
 use Rattle.engine.specs.Reference.{at, Stands}
 use Rattle.engine.specs.Memory.{Entry, BindingsIn}
-use Rattle.engine.specs.Walk.{Binds, Follows}
-use Rattle.engine.specs.Follow.{Resolves}
+use Rattle.engine.specs.Walk.{Binds, Follows, Resolves}
 use Rattle.engine.specs.Names.{Named}
-use Rattle.engine.specs.Put.{Puts, Placed}
+use Rattle.engine.specs.Term.{Puts, Placed}
 use Rattle.engine.specs.Look.{LookedAs}
-use Rattle.engine.specs.declared.put.Put.{Put}
-use Rattle.engine.specs.declared.look.Looked.{Looked}
-use Rattle.engine.specs.declared.look.Looked.the-variants as looked
-use Rattle.engine.specs.Lines.{Equations}
-use Rattle.engine.specs.Keep.{Kept}
-use Rattle.engine.specs.Page.{add-line, add-lines, occurrences}
+use Rattle.engine.specs.declared.writer.term.Put.{Put}
+use Rattle.engine.specs.declared.writer.look.Looked.{Looked}
+use Rattle.engine.specs.declared.writer.look.Looked.the-variants as looked
+use Rattle.engine.specs.Line.{Equations}
+use Rattle.engine.specs.Trial.{EquationsKept}
+use Rattle.engine.specs.Lines.{add-line, add-lines, occurrences}
 use Rattle.engine.proofs.PageLaws.{same-self, any-snoc}
 use Rattle.engine.proofs.LinesLaws.{lacks-append, add-append}
 
@@ -114,8 +113,8 @@ trial-new new bs =
     let z : length (new ++ bs) - length bs ≡ length new = omega arith in
     ap (λ k. reverse (take k (new ++ bs))) z ∙ ap reverse (take-append-seam new bs)
 
-pub equations-kept : {ws s : List ℕ} {bs : Substitution} (mark i : ℕ) (cs : List (ℕ × Term)) → Binds ws s bs → Kept ws s mark i cs → Equations ws s mark i (resolve-right bs cs)
-unfolding Kept Equations
+pub equations-kept : {ws s : List ℕ} {bs : Substitution} (mark i : ℕ) (cs : List (ℕ × Term)) → Binds ws s bs → EquationsKept ws s mark i cs → Equations ws s mark i (resolve-right bs cs)
+unfolding EquationsKept Equations
 equations-kept mark i [] h k = tt
 equations-kept {bs = bs} mark i (b ∷ cs) h k = (
   record { variable = k .0 .variable; low = k .0 .low; right = record { bindings = bs; term = b .1; follows = record { binds = h; stands = k .0 .right }; is = refl } },

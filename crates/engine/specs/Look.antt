@@ -10,9 +10,9 @@ use Rattle.semantics.specs.Steps.{waiting, no-steps, at-bound, Outcome, done, s
 use Rattle.semantics.specs.Unify.{scan, never}
 use Rattle.semantics.specs.Answer.{look-through}
 use Rattle.engine.specs.Walk.{Binds}
-use Rattle.engine.specs.Keep.{Kept}
-use Rattle.engine.specs.declared.look.Looked.{Looked}
-use Rattle.engine.specs.declared.look.Looked.the-variants.{Done, StepsOut, PathOut}
+use Rattle.engine.specs.Trial.{EquationsKept}
+use Rattle.engine.specs.declared.writer.look.Looked.{Looked}
+use Rattle.engine.specs.declared.writer.look.Looked.the-variants.{Done, StepsOut, PathOut}
 
 -- what each case says of a look that comes to `a`
 abbrev pub look-says : {A : Type 0} → A → Looked → Outcome A
@@ -27,7 +27,7 @@ LookedAs bs t steps r = scan never bs [] t steps ≡ look-says false r
 -- a trial's equations, all of them kept
 pub record Looks (ws s : List ℕ) (bs : Substitution) (cs : List (ℕ × Term)) (mark count : ℕ) : Type 0 where
   pub held : Binds ws s bs
-  pub kept : Kept ws s mark 0 cs
+  pub kept : EquationsKept ws s mark 0 cs
   pub count-is : count ≡ length cs
   pub few : mark + count ≤ 2048
 

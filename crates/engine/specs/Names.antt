@@ -8,6 +8,7 @@ use lib.ListN.{length}
 use Rattle.rules.specs.Reading.{choose}
 use Rattle.semantics.specs.Answer.{member}
 use Rattle.engine.specs.Reference.{at}
+use Rattle.engine.specs.Memory.{layout-words}
 
 -- `top` after one name more
 abbrev pub next-top : ℕ → ℕ → ℕ
@@ -36,7 +37,7 @@ pub record Names (s : List ℕ) (top : ℕ) (names : List ℕ) : Type 0 where
 
 -- names are given, in a scratch that is long enough
 pub record Given (s : List ℕ) (names : List ℕ) : Type 0 where
-  pub long : 12288 ≤ length s
+  pub long : layout-words ≤ length s
   pub top : ℕ
   pub named : Names s top names
 

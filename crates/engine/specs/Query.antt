@@ -11,11 +11,11 @@ use Rattle.semantics.specs.Substitution.{Substitution, resolve}
 use Rattle.semantics.specs.Answer.{vars-in, reify, query-terms}
 use Rattle.engine.specs.Walk.{Binds}
 use Rattle.engine.specs.Names.{Given}
-use Rattle.engine.specs.Put.{Touched, Laid}
-use Rattle.engine.specs.declared.constraints.Added.{Added}
-use Rattle.engine.specs.declared.constraints.Added.the-variants as added
-use Rattle.engine.specs.declared.answer.Answered.{Answered}
-use Rattle.engine.specs.declared.answer.Answered.the-variants as answered
+use Rattle.engine.specs.Term.{Touched, Laid}
+use Rattle.engine.specs.declared.writer.constraint.Added.{Added}
+use Rattle.engine.specs.declared.writer.constraint.Added.the-variants as added
+use Rattle.engine.specs.declared.writer.answer.Answered.{Answered}
+use Rattle.engine.specs.declared.writer.answer.Answered.the-variants as answered
 
 -- the open variables of the query terms have names
 abbrev pub Known : Substitution → List ℕ → ℕ → Type 0

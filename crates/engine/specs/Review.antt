@@ -11,8 +11,8 @@ use Rattle.engine.specs.Reference.{Stands, KeepsAt}
 use Rattle.engine.specs.Memory.{BindingsIn, KeptIn}
 use Rattle.engine.specs.Walk.{Binds}
 use Rattle.engine.specs.Trail.{Apart}
-use Rattle.engine.specs.declared.review.Reviewed.{Reviewed}
-use Rattle.engine.specs.declared.review.Reviewed.the-variants.{Fails, Holds, StepsOut, PathOut}
+use Rattle.engine.specs.declared.terms.review.Reviewed.{Reviewed}
+use Rattle.engine.specs.declared.terms.review.Reviewed.the-variants.{Fails, Holds, StepsOut, PathOut}
 
 -- the kind of the atoms of a sort
 abbrev pub atom-kind : Sort → ℕ
@@ -25,7 +25,7 @@ other-kind symbols = 8
 other-kind numbers = 7
 
 -- the scratch holds a path's bindings and constraints
-pub record Kept (ws s : List ℕ) (bs : Substitution) (cs : List Constraint) (trail kept : ℕ) : Type 0 where
+pub record ConstraintsHeld (ws s : List ℕ) (bs : Substitution) (cs : List Constraint) (trail kept : ℕ) : Type 0 where
   pub held : Binds ws s bs
   pub kept-in : KeptIn ws s 0 cs
   pub kept-is : kept ≡ length cs
@@ -39,12 +39,12 @@ pub record Constrains (ws s : List ℕ) (bs : Substitution) (w : ℕ) (c : Const
 
 -- .. and with its constraints
 pub record Reviews (ws s : List ℕ) (bs : Substitution) (cs : List Constraint) (trail kept w : ℕ) (c : Constraint) : Type 0 where
-  pub whole : Kept ws s bs cs trail kept
+  pub whole : ConstraintsHeld ws s bs cs trail kept
   pub keeps : KeepsAt ws w c
 
 -- a term that is to be of a sort: the kind of its atoms, and that of the type that it excludes
 pub record Typing (ws s : List ℕ) (bs : Substitution) (cs : List Constraint) (trail kept : ℕ) (k : Sort) (w : ℕ) (t : Term) (atom other : ℕ) : Type 0 where
-  pub whole : Kept ws s bs cs trail kept
+  pub whole : ConstraintsHeld ws s bs cs trail kept
   pub stands : Stands ws w t
   pub is-atom : atom ≡ atom-kind k
   pub is-other : other ≡ other-kind k

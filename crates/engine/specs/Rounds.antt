@@ -10,28 +10,28 @@ use Rattle.semantics.specs.Path.{Path, ChoicePoint}
 use Rattle.semantics.specs.Round as definition
 use Rattle.semantics.specs.Run.{usable, page}
 use Rattle.engine.specs.Reference.{at, TaskAt}
-use Rattle.engine.specs.Memory.{TableIn, Nameless}
-use Rattle.engine.specs.Report.{ran, ended}
-use Rattle.engine.specs.Taking.{Holds}
-use Rattle.engine.specs.Answering.{Answering}
-use Rattle.engine.specs.declared.End.{End}
-use Rattle.engine.specs.declared.Report.{Report}
-use Rattle.engine.specs.declared.state.State.{State}
+use Rattle.engine.specs.Memory.{TableIn, Nameless, layout-words}
+use Rattle.engine.specs.Report.{ran, end-says}
+use Rattle.engine.specs.Take.{PathHeld}
+use Rattle.engine.specs.Answer.{Answering}
+use Rattle.engine.specs.declared.report.End.{End}
+use Rattle.engine.specs.declared.report.Report.{Report}
+use Rattle.engine.specs.declared.search.state.State.{State}
 use Rattle.engine.specs.declared.round.Given.{Given}
 use Rattle.engine.specs.declared.round.Given.the-variants.{Ends, Goes}
-use Rattle.engine.specs.declared.tally.Tally.{Tally}
-use Rattle.engine.specs.declared.tally.Rounded.{Rounded}
-use Rattle.engine.specs.declared.tally.Rounded.the-variants.{Completed, Broken}
+use Rattle.engine.specs.declared.round.Tally.{Tally}
+use Rattle.engine.specs.declared.round.Rounded.{Rounded}
+use Rattle.engine.specs.declared.round.Rounded.the-variants.{Completed, Broken}
 
 -- The scratch as a round finds and leaves it: the table of relations filled, no variable bound or named.
 pub record Clean (ws s : List ℕ) (P : Program) : Type 0 where
-  pub long : 12288 ≤ length s
+  pub long : layout-words ≤ length s
   pub table : TableIn ws s P
   pub open-all : (x : ℕ) → x < 2048 → at s x ≡ 0
   pub nameless : Nameless s
 
 -- an accepted program with its query relation, its scratch clean, and a round limit in its bounds
-pub record Ready (ws s : List ℕ) (P : Program) (query : ℕ) (R : Relation) (limit : ℕ) : Type 0 where
+pub record RunReady (ws s : List ℕ) (P : Program) (query : ℕ) (R : Relation) (limit : ℕ) : Type 0 where
   pub is-read : read ws ≡ accepted P
   pub query-is : getElem? P query ≡ some R
   pub clean : Clean ws s P
@@ -48,7 +48,7 @@ pub record TallyAs (output : List ℕ) (t : Tally) (a : definition.Tally) : Type
   pub counted : t .answers + t .left ≤ 4294967295
 
 pub record Starting (ws s output : List ℕ) (P : Program) (query : ℕ) (R : Relation) (k : ℕ) (t : Tally) (a : definition.Tally) : Type 0 where
-  pub ready : Ready ws s P query R k
+  pub ready : RunReady ws s P query R k
   pub tally : TallyAs output t a
 
 -- How a round is completed, and how it is broken off, where the definition's comes to x.
@@ -64,7 +64,7 @@ pub record BrokenAs (output′ : List ℕ) (x : definition.Rounded) (d : End) (t
   pub last : definition.Tally
   pub is-round : x ≡ definition.broken end last
   pub tally : TallyAs output′ t last
-  pub is-end : ended d ≡ ran end
+  pub is-end : end-says d ≡ ran end
 
 unfoldable pub RoundedAs : List ℕ → List ℕ → List ℕ → Program → definition.Rounded → Rounded → Type 0
 RoundedAs ws s′ output′ P x (Completed t cuts) = CompletedAs ws s′ output′ P x t cuts
@@ -73,19 +73,19 @@ RoundedAs ws s′ output′ P x (Broken d t) = BrokenAs output′ x d t
 -- A path at its end gives its answer. There were so many answers before it, and so many branches cut; one answer more is a number.
 pub record Giving (P : Program) (ws s output : List ℕ) (st : State) (p : Path) (cs : List ChoicePoint) (params used answers cuts : ℕ) (a : definition.Tally) : Type 0 where
   pub answering : Answering P ws s output st p cs params used
-  pub tally : TallyAs output (record { left = st .left; used = used; answers = answers }) a
+  pub tally : TallyAs output (record { left = st .steps; used = used; answers = answers }) a
   pub cuts-are : a .cuts ≡ cuts
-  pub fits : answers + st .left < 4294967295
+  pub fits : answers + st .steps < 4294967295
 
 -- it is written, and the next goal is to be taken where the newest choice point leads
 pub record GoesAs (P : Program) (ws s′ output′ : List ℕ) (st : State) (answers cuts : ℕ) (x : definition.Next) (next : State) (goal words : ℕ) : Type 0 where
   pub state : definition.State
   pub is-next : x ≡ definition.going state
-  pub held : Holds P ws s′ next (state .path) (state .choices)
+  pub held : PathHeld P ws s′ next (state .path) (state .choices)
   pub task-at : TaskAt ws goal (state .task)
-  pub tally : TallyAs output′ (record { left = next .left; used = words; answers = answers + 1 }) (state .tally)
+  pub tally : TallyAs output′ (record { left = next .steps; used = words; answers = answers + 1 }) (state .tally)
   pub cuts-are : state .tally .cuts ≡ cuts
-  pub fewer : next .left ≤ st .left
+  pub fewer : next .steps ≤ st .steps
 
 unfoldable pub GivenAs : Program → List ℕ → List ℕ → List ℕ → State → ℕ → ℕ → definition.Next → Given → Type 0
 GivenAs P ws s′ output′ st answers cuts x (Ends r) = (y : definition.Rounded) × (x ≡ definition.over y) × RoundedAs ws s′ output′ P y r
@@ -93,7 +93,7 @@ GivenAs P ws s′ output′ st answers cuts x (Goes next goal words) = GoesAs P 
 
 -- a report is that of a result, and the output begins with its answers
 pub record ResultAs (output′ : List ℕ) (x : definition.Result) (r : Report) : Type 0 where
-  pub is-end : ended (r .end) ≡ ran (x .end)
+  pub is-end : end-says (r .end) ≡ ran (x .end)
   pub is-round : r .round ≡ x .round
   pub is-steps : r .steps ≡ x .steps
   pub is-answers : r .answers ≡ length (x .answers)

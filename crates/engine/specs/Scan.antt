@@ -10,8 +10,8 @@ use Rattle.semantics.specs.Substitution.{Substitution}
 use Rattle.semantics.specs.Steps.{waiting, no-steps, at-bound, Outcome, done, stop}
 use Rattle.semantics.specs.Unify.{scan, scan-next}
 use Rattle.engine.specs.Reference.{AtomIs, base-of}
-use Rattle.engine.specs.declared.scan.Scanned.{Scanned}
-use Rattle.engine.specs.declared.scan.Scanned.the-variants.{Found, Clear, StepsOut, PathOut}
+use Rattle.engine.specs.declared.terms.scan.Scanned.{Scanned}
+use Rattle.engine.specs.declared.terms.scan.Scanned.the-variants.{Found, Clear, StepsOut, PathOut}
 
 -- the word by which a leaf is sought, from what stands at its reference
 pub record LeafWord (w bits k p r : ℕ) : Type 0 where

@@ -1,7 +1,7 @@
 // Lent words, set to 0.
 ghost use mathlib.Core.Path.{_≡_};
 ghost use Prim.Native.Nat.{min};
-ghost use Rattle.engine.specs.Running.{cleared};
+ghost use Rattle.engine.specs.Run.{cleared};
 
 fn at_most(n: usize, most: usize) -> usize
     ensures { λ r. ⌜ r ≡ min n most ⌝ }

@@ -1,16 +1,16 @@
 // The rounds of a run, one after the other.
-use crate::End;
-use crate::Report;
+use crate::report::End;
+use crate::report::Report;
+use crate::round::Rounded;
+use crate::round::Tally;
 use crate::round::round;
-use crate::tally::Rounded;
-use crate::tally::Tally;
 ghost use Prim.Native.Nat.{_≤_};
 ghost use mathlib.Core.List.{[]};
 ghost use lib.ListN.{length};
 ghost use Rattle.rules.specs.Syntax.{Program, Relation};
 ghost use Rattle.semantics.specs.Round as definition;
 ghost use Rattle.semantics.specs.Run.{usable};
-ghost use Rattle.engine.specs.Rounds.{Ready, Reported, ResultAs};
+ghost use Rattle.engine.specs.Rounds.{RunReady, Reported, ResultAs};
 
 // The report of a run with this step limit.
 fn report(end: End, round: u32, limit: u32, tally: Tally) -> Report
@@ -35,8 +35,8 @@ pub(crate) fn rounds(
     limit: u32,
     steps: u32,
 ) -> Report
-    requires { ⌜ ((P : Program) × (R : Relation) × Ready (now program) (now scratch) P query R limit) ⌝ }
-    ensures { λ r. ⌜ ((P : Program) (R : Relation) → Ready (now (program .entry)) (now (scratch .entry)) P query R limit
+    requires { ⌜ ((P : Program) × (R : Relation) × RunReady (now program) (now scratch) P query R limit) ⌝ }
+    ensures { λ r. ⌜ ((P : Program) (R : Relation) → RunReady (now (program .entry)) (now (scratch .entry)) P query R limit
         → ResultAs (now (output .exit)) (definition.rounds steps P R limit 0 (usable (length (now (output .entry)))) steps []) r) ⌝ }
 {
     let mut number = 0;

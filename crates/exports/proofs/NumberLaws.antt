@@ -16,16 +16,16 @@ use Rattle.semantics.specs.Run as definition
 use Rattle.semantics.specs.Path.{as-written}
 use Rattle.semantics.specs.Run.{Run, run-as-written, returns-by, refusal, ran, report-read-by, report-program-by, leave, counts}
 use Rattle.semantics.proofs.Basics.{clash}
-use Rattle.engine.specs.Report.{ended, report-ended, Kept}
-use Rattle.engine.specs.declared.End.{End}
-use Rattle.engine.specs.declared.Report.{Report}
+use Rattle.engine.specs.Report.{end-says, report-ended, RunPromise}
+use Rattle.engine.specs.declared.report.End.{End}
+use Rattle.engine.specs.declared.report.Report.{Report}
 use Rattle.exports.specs.Numbers.{end-numbers, numbers, call, Called}
 use Rattle.exports.specs.declared.EndNumbers.{EndNumbers}
 
 -- an end in numbers, case by case
-pub in-case : (e d : End) (n : EndNumbers) (a b p : ℕ) → e ≡ d → end-numbers (ended d) ≡ a ∷ b ∷ p ∷ [] → (n .end ≡ a) × (n .which ≡ b) × (n .place ≡ p)
-    → end-numbers (ended e) ≡ n .end ∷ n .which ∷ n .place ∷ []
-in-case e d n a b p q h k = ap (λ (x : End). end-numbers (ended x)) q ∙ h ∙ rw (k .0, k .1, k .2) refl
+pub in-case : (e d : End) (n : EndNumbers) (a b p : ℕ) → e ≡ d → end-numbers (end-says d) ≡ a ∷ b ∷ p ∷ [] → (n .end ≡ a) × (n .which ≡ b) × (n .place ≡ p)
+    → end-numbers (end-says e) ≡ n .end ∷ n .which ∷ n .place ∷ []
+in-case e d n a b p q h k = ap (λ (x : End). end-numbers (end-says x)) q ∙ h ∙ rw (k .0, k .1, k .2) refl
 
 -- the place of a refusal is small
 refusal-place : (words : List ℕ) (round-limit step-limit output scratch c p : ℕ) → returns-by as-written words round-limit step-limit output scratch ≡ refusal c p → p ≤ 16384
@@ -59,8 +59,8 @@ module _ (words : List ℕ) (round-limit step-limit : ℕ) (output scratch lent 
   place-of (refusal c p) e = refusal-place words round-limit step-limit (length output) (length scratch) c p e
   place-of (ran r) e = omega (arith, no-place (r .end))
 
-  pub place-fits : (r : Report) (output′ scratch′ : List ℕ) (n : EndNumbers) → Kept words round-limit step-limit output scratch r output′ scratch′
-      → end-numbers (ended (r .end)) ≡ n .end ∷ n .which ∷ n .place ∷ [] → n .place ≤ 16384
+  pub place-fits : (r : Report) (output′ scratch′ : List ℕ) (n : EndNumbers) → RunPromise words round-limit step-limit output scratch r output′ scratch′
+      → end-numbers (end-says (r .end)) ≡ n .end ∷ n .which ∷ n .place ∷ [] → n .place ≤ 16384
   place-fits r output′ scratch′ n k h =
       let z : getD (end-numbers (report-ended (run-as-written words round-limit step-limit output scratch .report))) 2 0 ≡ n .place = ap (λ (ns : List ℕ). getD ns 2 0) (sym (ap end-numbers (k .says .is-end)) ∙ h) in
       omega (arith, z, place-of (returns-by as-written words round-limit step-limit (length output) (length scratch)) refl)
@@ -69,8 +69,8 @@ module _ (words : List ℕ) (round-limit step-limit : ℕ) (output scratch lent 
   pub called-short : length lent < 7 → Called words round-limit step-limit output scratch lent 0 output scratch lent
   called-short h = record { is-call = simp (lt-leb 7 (length lent) h); demands = λ e. absurd (omega arith) }
 
-  pub called-run : (r : Report) (output′ scratch′ : List ℕ) (n : EndNumbers) → 7 ≤ length lent → Kept words round-limit step-limit output scratch r output′ scratch′
-      → end-numbers (ended (r .end)) ≡ n .end ∷ n .which ∷ n .place ∷ []
+  pub called-run : (r : Report) (output′ scratch′ : List ℕ) (n : EndNumbers) → 7 ≤ length lent → RunPromise words round-limit step-limit output scratch r output′ scratch′
+      → end-numbers (end-says (r .end)) ≡ n .end ∷ n .which ∷ n .place ∷ []
       → Called words round-limit step-limit output scratch lent 7 output′ scratch′ (set (set (set (set (set (set (set lent 0 (n .end)) 1 (n .which)) 2 (n .place)) 3 (r .round)) 4 (r .steps)) 5 (r .answers)) 6 (r .words))
   called-run r output′ scratch′ n h k e =
       record {

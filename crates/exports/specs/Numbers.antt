@@ -10,7 +10,7 @@ use Rattle.semantics.specs.Steps as steps
 use Rattle.semantics.specs.Round as round
 use Rattle.semantics.specs.Run as run
 use Rattle.semantics.specs.Promise.{Demands}
-use Rattle.engine.specs.Report.{Ended, ran, turned-away, report-ended}
+use Rattle.engine.specs.Report.{Ended, ran, refused, report-ended}
 
 -- 0, or the refusal's number in the upper and its place in the lower 32 bits
 abbrev pub packed : Said → ℕ
@@ -25,7 +25,7 @@ end-numbers (ran round.rounds-used) = 1 ∷ 0 ∷ 0 ∷ []
 end-numbers (ran round.steps-used) = 2 ∷ 0 ∷ 0 ∷ []
 end-numbers (ran round.output-full) = 3 ∷ 0 ∷ 0 ∷ []
 end-numbers (ran (round.path-limit b)) = 4 ∷ steps.bound-number b ∷ 0 ∷ []
-end-numbers (turned-away number place) = 5 ∷ number ∷ place ∷ []
+end-numbers (refused number place) = 5 ∷ number ∷ place ∷ []
 
 abbrev pub numbers : run.Report → List ℕ
 numbers x = end-numbers (report-ended x) ++ (run.counts x .round ∷ run.counts x .steps ∷ run.counts x .answers ∷ run.counts x .words ∷ [])

@@ -5,7 +5,7 @@ ghost use mathlib.Core.Path.{_≡_};
 ghost use mathlib.Core.List.{[], _∷_};
 ghost use Rattle.rules.specs.Accept.{read};
 ghost use Rattle.rules.specs.Verdict.{said};
-ghost use Rattle.engine.specs.Report.{ended};
+ghost use Rattle.engine.specs.Report.{end-says};
 ghost use Rattle.exports.specs.Numbers.{Called, end-numbers, packed};
 
 // 0 if the program is accepted, else the number times 2^32 plus the place.
@@ -27,7 +27,7 @@ struct EndNumbers {
 }
 
 fn numbered(end: End) -> EndNumbers
-    ensures { λ r. ⌜ end-numbers (ended end) ≡ r .end ∷ r .which ∷ r .place ∷ [] ⌝ }
+    ensures { λ r. ⌜ end-numbers (end-says end) ≡ r .end ∷ r .which ∷ r .place ∷ [] ⌝ }
 {
     match end {
         End::Finished => by_number(0, 0, 0),

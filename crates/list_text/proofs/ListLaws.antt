@@ -6,11 +6,12 @@ use native.Mathlib.Omega.{arith}
 use lib.ListN.{length, replicate, take}
 use Rattle.semantics.specs.Round.{Result}
 use Rattle.semantics.specs.Run as run
-use Rattle.engine.specs.Report.{Kept, ended}
-use Rattle.engine.specs.declared.Report.{Report}
+use Rattle.engine.specs.Report.{RunPromise, end-says}
+use Rattle.engine.specs.declared.report.Report.{Report}
 use Rattle.semantics.specs.Path.{as-written}
 use Rattle.list_text.specs.Listing.{Listed, first-line, joined, line, printed-text, report-answers, report-text, words-of}
 use Rattle.list_text.specs.Writing.{Wrote}
+use Rattle.rules.specs.Settings.{scratch-words}
 use Rattle.list_text.proofs.TextLaws.{behind, sets-start}
 use Rattle.list_text.proofs.WordLaws.{read-short, same-run, start-decides}
 
@@ -24,8 +25,8 @@ page-answers : (x : run.Run) (y : run.Report) (output scratch : List ℕ) → x 
 page-answers x (run.refusal number place) output scratch e z h = rw (e, z) (none-on-zeros (length output))
 page-answers x (run.ran r) output scratch e z h = h r (ap (λ (w : run.Run). w .report) e) ∙ ap (λ (w : run.Run). report-answers (w .report)) (sym e)
 
-listed : {words : List ℕ} {rounds steps : ℕ} {output scratch : List ℕ} {r : Report} {output-after scratch-after : List ℕ} → output ≡ replicate (length output) 0 → Kept words rounds steps output scratch r output-after scratch-after →
-    first-line (ended (r .end)) (r .round) (r .steps) (r .answers) ++ joined (map line (run.answers-on output-after)) ≡ report-text (run.run-as-written words rounds steps output scratch .report)
+listed : {words : List ℕ} {rounds steps : ℕ} {output scratch : List ℕ} {r : Report} {output-after scratch-after : List ℕ} → output ≡ replicate (length output) 0 → RunPromise words rounds steps output scratch r output-after scratch-after →
+    first-line (end-says (r .end)) (r .round) (r .steps) (r .answers) ++ joined (map line (run.answers-on output-after)) ≡ report-text (run.run-as-written words rounds steps output scratch .report)
 listed {words} {rounds} {steps} {output} {scratch} {r} {output-after} z kept =
     let x = run.run-as-written words rounds steps output scratch in
     let s = kept .says in
@@ -34,8 +35,8 @@ listed {words} {rounds} {steps} {output} {scratch} {r} {output-after} z kept =
 
 -- first line and answers behind it
 pub list-text : {words : List ℕ} {rounds steps : ℕ} {output scratch : List ℕ} {r : Report} {output-after scratch-after : List ℕ} {out mid after : List ℕ} {m next : ℕ} →
-    output ≡ replicate (length output) 0 → Kept words rounds steps output scratch r output-after scratch-after →
-    Wrote (first-line (ended (r .end)) (r .round) (r .steps) (r .answers)) 0 out m mid → Wrote (joined (map line (run.answers-on output-after))) m mid next after →
+    output ≡ replicate (length output) 0 → RunPromise words rounds steps output scratch r output-after scratch-after →
+    Wrote (first-line (end-says (r .end)) (r .round) (r .steps) (r .answers)) 0 out m mid → Wrote (joined (map line (run.answers-on output-after))) m mid next after →
     Wrote (report-text (run.run-as-written words rounds steps output scratch .report)) 0 out next after
 list-text {out = out} {after = after} {next = next} z kept w v = subst (λ (t : List ℕ). Wrote t 0 out next after) (listed z kept) (behind w v)
 
@@ -57,4 +58,4 @@ file-text bytes {program} {output} {out} {after} {count} rounds steps n scratch 
 -- The listing program reads no more bytes than 65,540: it prints what it would print of the whole file.
 pub printed-start : (bytes : List ℕ) → printed-text (take 65540 bytes) ≡ printed-text bytes
 printed-start bytes =
-    ap (λ (x : run.Run). report-text (x .report)) (same-run (words-of (take 65540 bytes)) (words-of bytes) 16 1000000 (replicate 4096 0) (replicate 16384 0) (start-decides bytes))
+    ap (λ (x : run.Run). report-text (x .report)) (same-run (words-of (take 65540 bytes)) (words-of bytes) 16 1000000 (replicate 4096 0) (replicate scratch-words 0) (start-decides bytes))

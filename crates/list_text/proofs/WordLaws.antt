@@ -12,7 +12,7 @@ use lib.Seq.{take-all, take-suc, take-suc-set, length-take-le}
 use borrow.Author.Tests.{le-leb, lt-leb, leb-true, leb-false}
 use Rattle.rules.specs.Accept.{Accept, admit, read, refused}
 use Rattle.rules.specs.Reading.{choose}
-use Rattle.rules.specs.Settings.{settings-good}
+use Rattle.rules.specs.Settings.{settings-good, most-words}
 use Rattle.semantics.specs.Run as run
 use Rattle.semantics.specs.Path.{as-written}
 use Rattle.list_text.specs.Listing.{whole-words, word-of, words-of}
@@ -56,17 +56,17 @@ pub read-program : (bytes words : List ℕ) {count : ℕ} → count ≡ words-re
 read-program bytes words e h = h ∙ rw e (read-start bytes)
 
 -- more words than a program may have are refused, however many
-read-too-many : (ws : List ℕ) → 16384 < length ws → read ws ≡ refused 1 0
+read-too-many : (ws : List ℕ) → most-words < length ws → read ws ≡ refused 1 0
 unfolding read
-read-too-many ws l = rw (le-leb 1 (length ws) (omega arith), lt-leb (length ws) 16384 l)
+read-too-many ws l = rw (le-leb 1 (length ws) (omega arith), lt-leb (length ws) most-words l)
 
 pub read-short : (ws : List ℕ) → read (take 16385 ws) ≡ read ws
-read-short ws = by-test (leb (length ws) 16384) refl
+read-short ws = by-test (leb (length ws) most-words) refl
   where
-    by-test : (b : Bool) → leb (length ws) 16384 ≡ b → read (take 16385 ws) ≡ read ws
-    by-test true e = rw (take-all 16385 ws (omega (arith, leb-true (length ws) 16384 e)))
+    by-test : (b : Bool) → leb (length ws) most-words ≡ b → read (take 16385 ws) ≡ read ws
+    by-test true e = rw (take-all 16385 ws (omega (arith, leb-true (length ws) most-words e)))
     by-test false e =
-        let l : 16384 < length ws = leb-false (length ws) 16384 e in
+        let l : most-words < length ws = leb-false (length ws) most-words e in
         read-too-many (take 16385 ws) (omega (arith, length-take-le 16385 ws (omega arith))) ∙ sym (read-too-many ws l)
 
 -- so a file is decided by the bytes of one word more than a program may have: longer ones are refused, whatever their count

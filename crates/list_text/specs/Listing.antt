@@ -11,7 +11,8 @@ use Rattle.rules.specs.Reading.{choose}
 use Rattle.semantics.specs.Round as round
 use Rattle.semantics.specs.Run as run
 use Rattle.semantics.specs.Steps.{bound-number}
-use Rattle.engine.specs.Report.{Ended, ran, turned-away, report-ended}
+use Rattle.engine.specs.Report.{Ended, ran, refused, report-ended}
+use Rattle.rules.specs.Settings.{scratch-words}
 
 -- a text's codes
 abbrev pub codes : String → List ℕ
@@ -80,7 +81,7 @@ counts-text r s a = joined (codes " round " ∷ decimal r ∷ codes " steps " �
 -- the first line, with round, steps and how many answers; "a refusal prints `refused N at P` alone"
 abbrev pub first-line : Ended → ℕ → ℕ → ℕ → List ℕ
 first-line (ran e) r s a = codes "end " ++ (end-name e ++ counts-text r s a)
-first-line (turned-away number place) r s a = joined (codes "refused " ∷ decimal number ∷ codes " at " ∷ decimal place ∷ codes "\n" ∷ [])
+first-line (refused number place) r s a = joined (codes "refused " ∷ decimal number ∷ codes " at " ∷ decimal place ∷ codes "\n" ∷ [])
 
 -- the answers of the result
 abbrev pub report-answers : run.Report → List (List ℕ)
@@ -93,7 +94,7 @@ report-text x = first-line (report-ended x) (run.counts x .round) (run.counts x 
 
 -- the text of a file: of the run of its words with these limits, so many output words, but at most 4,096, and a scratch of 16,384 words
 abbrev pub listing-text : List ℕ → ℕ → ℕ → ℕ → List ℕ
-listing-text bytes rounds steps room = report-text (run.run-as-written (words-of bytes) rounds steps (replicate (min room 4096) 0) (replicate 16384 0) .report)
+listing-text bytes rounds steps room = report-text (run.run-as-written (words-of bytes) rounds steps (replicate (min room 4096) 0) (replicate scratch-words 0) .report)
 
 -- "with round limit 16, step limit 1,000,000 and 4,096 output words": what the listing program prints of the bytes that it has read
 abbrev pub printed-text : List ℕ → List ℕ

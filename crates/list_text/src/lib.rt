@@ -14,6 +14,7 @@ ghost use lib.ListN.{length, replicate};
 ghost use Rattle.semantics.specs.Run.{run-as-written};
 ghost use Rattle.list_text.specs.Listing.{Listed, listing-text, printed-text, report-text, word-of};
 ghost use Rattle.list_text.specs.Writing.{Wrote};
+ghost use Rattle.rules.specs.Settings.{scratch-words};
 
 // The word of four bytes, low byte first.
 pub fn word(low: u8, second: u8, third: u8, high: u8) -> u32
@@ -37,7 +38,7 @@ pub fn at_most(n: usize, most: usize) -> usize
 // Runs the program with this output, which is all 0, and writes its list.
 fn list(program: &[u32], rounds: u32, steps: u32, output: &mut [u32], out: &mut [u8]) -> usize
     requires { ⌜ (length (now output) ≤ 4096) × (now output ≡ replicate (length (now output)) 0) ⌝ }
-    ensures { λ r. ⌜ Wrote (report-text (run-as-written (now (program .entry)) rounds steps (now (output .entry)) (replicate 16384 0) .report)) 0 (now (out .entry)) r (now (out .exit)) × (r ≤ 65536) ⌝ }
+    ensures { λ r. ⌜ Wrote (report-text (run-as-written (now (program .entry)) rounds steps (now (output .entry)) (replicate scratch-words 0) .report)) 0 (now (out .entry)) r (now (out .exit)) × (r ≤ 65536) ⌝ }
 {
     let mut scratch = [0u32; 16384];
     let report = engine::run(program, rounds, steps, output, &mut scratch);

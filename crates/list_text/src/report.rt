@@ -6,7 +6,7 @@ use engine::Report;
 ghost use mathlib.Core.List.{_++_};
 ghost use Prim.Native.Nat.{_≤_};
 ghost use lib.ListN.{length};
-ghost use Rattle.engine.specs.Report.{ended, turned-away};
+ghost use Rattle.engine.specs.Report.{end-says, refused};
 ghost use Rattle.list_text.specs.Listing.{codes, counts-text, decimal, first-line};
 ghost use Rattle.list_text.specs.Writing.{Wrote};
 
@@ -41,7 +41,7 @@ fn put_path(number: u32, round: u32, steps: u32, answers: u32, out: &mut [u8]) -
 }
 
 fn put_refusal(number: u32, place: usize, out: &mut [u8]) -> usize
-    ensures { λ r. ⌜ Wrote (first-line (turned-away number place) 0 0 0) 0 (now (out .entry)) r (now (out .exit)) × (r ≤ 100) ⌝ }
+    ensures { λ r. ⌜ Wrote (first-line (refused number place) 0 0 0) 0 (now (out .entry)) r (now (out .exit)) × (r ≤ 100) ⌝ }
 {
     let mut next = put(b"refused ", 0, out);
     next = put_number(number as usize, next, out);
@@ -51,7 +51,7 @@ fn put_refusal(number: u32, place: usize, out: &mut [u8]) -> usize
 }
 
 pub(crate) fn put_report(report: Report, out: &mut [u8]) -> usize
-    ensures { λ r. ⌜ Wrote (first-line (ended (report .end)) (report .round) (report .steps) (report .answers)) 0 (now (out .entry)) r (now (out .exit)) × (r ≤ 100) ⌝ }
+    ensures { λ r. ⌜ Wrote (first-line (end-says (report .end)) (report .round) (report .steps) (report .answers)) 0 (now (out .entry)) r (now (out .exit)) × (r ≤ 100) ⌝ }
 {
     let round = report.round;
     let steps = report.steps;

@@ -2,6 +2,7 @@
 use Prim.Native.Nat.{ℕ, zero, suc}
 use mathlib.Core.List.{List, [], _∷_, _++_}
 use Rattle.word.specs.Word.{word}
+use Rattle.rules.specs.Settings.{scratch-words}
 
 -- settings and words, and the number and the place of the refusal
 pub record Example : Type 0 where
@@ -13,7 +14,7 @@ pub record Example : Type 0 where
 
 -- an example with settings that are allowed
 abbrev pub example : List ℕ → ℕ → ℕ → Example
-example ws c p = record { rounds = 16; scratch = 16384; words = ws; number = c; place = p }
+example ws c p = record { rounds = 16; scratch = scratch-words; words = ws; number = c; place = p }
 
 -- "257 times `13:5 2:0 2:0 5:2 3:0 3:0`"
 abbrev pub times : ℕ → List ℕ → List ℕ
@@ -33,5 +34,5 @@ examples =
     ∷ example (times 257 small-relation) 6 1536
     ∷ example (word 13 4 ∷ word 2 0 ∷ word 2 0 ∷ word 12 1 ∷ word 2 1 ∷ []) 7 3
     ∷ example (word 13 5 ∷ word 2 0 ∷ word 2 0 ∷ word 12 2 ∷ word 2 0 ∷ word 3 0 ∷ []) 8 3
-    ∷ record { rounds = 256; scratch = 16384; words = small-relation; number = 9; place = 0 }
+    ∷ record { rounds = 256; scratch = scratch-words; words = small-relation; number = 9; place = 0 }
     ∷ []

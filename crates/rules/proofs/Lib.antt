@@ -1,5 +1,5 @@
 pub mod Combine
-pub mod Stands
+pub mod Spelled
 pub mod Sound
 pub mod Complete
 pub mod CallLaws

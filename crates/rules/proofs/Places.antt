@@ -13,6 +13,7 @@ use Rattle.rules.specs.Written.{goal-words, goals-words, relation-words,
 use Rattle.rules.specs.Reading.{Reading, found, refuse, next, require, choose, filled, fill, kind-at, payload-at, after, read-word, read-leaf, read-term, read-one, read-two, read-terms, goal-kind, goal-parts, read-goal, read-goals, read-tag, read-absento, read-call, read-body, read-variables, read-relation, read-relations, read-structure}
 use Rattle.rules.specs.Calls.{Fault, sound, fault, or-else, counted, call-fault, goal-fault, goals-fault, relations-fault}
 use Rattle.rules.specs.Accept.{refused, judge, calls-read, read}
+use Rattle.rules.specs.Settings.{most-words}
 use Rattle.rules.proofs.Sound.{term-sound, word-sound, goal-sound, relation-sound}
 use Rattle.rules.proofs.Accepted.{structure-written}
 
@@ -172,7 +173,7 @@ relations-bounded (suc words) ws before at l =
 
 structure-bounded : (ws : List ℕ) → Bounded (length ws) (read-structure ws)
 structure-bounded ws =
-    bounded-require (length ws) 1 0 (leb 1 (length ws) && leb (length ws) 16384) _ (placed (length ws) 1 0 (omega arith) (omega arith) (omega arith))
+    bounded-require (length ws) 1 0 (leb 1 (length ws) && leb (length ws) most-words) _ (placed (length ws) 1 0 (omega arith) (omega arith) (omega arith))
     (λ _. relations-bounded (2 * length ws + 4) ws 0 0 (omega arith))
 
 -- the same of the calls' faults

@@ -10,6 +10,7 @@ use lib.Dec.{eqb, ltb, leb}
 use lib.ListN.{length, getD}
 use Rattle.word.specs.Word.{kind, payload}
 use Rattle.rules.specs.Syntax.{Atom, symbol, number, empty, Term, var, atom, pair, symbols, numbers, differ, typed, absento, Goal, Goals, equal, constrain, conj, disj, call, one, more, Relation, Program}
+use Rattle.rules.specs.Settings.{most-words}
 
 -- what a reader finds: a value and the place after it, or the number and the place of a refusal
 pub data Reading (A : Type 0) : Type 0 where
@@ -193,4 +194,4 @@ read-relations (suc words) ws before at =
 -- conditions 1 to 6: "word count outside the bounds" first
 abbrev pub read-structure : List ℕ → Reading Program
 read-structure ws =
-    require (leb 1 (length ws) && leb (length ws) 16384) 1 0 (λ _. read-relations (2 * length ws + 4) ws 0 0)
+    require (leb 1 (length ws) && leb (length ws) most-words) 1 0 (λ _. read-relations (2 * length ws + 4) ws 0 0)

@@ -15,7 +15,7 @@ use Rattle.semantics.specs.Invariant.{Good, Passes, Reaches, Sat, SortPa
 use Rattle.semantics.specs.Logic.{AllProper, Assignment, Holds, Proper, Tree, firsts, value}
 use Rattle.semantics.specs.Path.{Path}
 use Rattle.semantics.specs.Review.{clashes}
-use Rattle.semantics.specs.Shows.{Shows, any, read-answer}
+use Rattle.semantics.specs.Shows.{Shows, payloads, read-answer}
 use Rattle.semantics.specs.Steps.{done, goals}
 use Rattle.semantics.specs.Substitution.{Substitution, resolve, walk}
 use Rattle.semantics.proofs.Basics.{each-map}
@@ -107,7 +107,7 @@ pub record ShowsPath (n : ℕ) (bs : Substitution) (kept : List Constraint) (ws 
   pub some-tuple : (tuple : List Tree) × Shows n ws tuple
 
 module _ (bs : Substitution) (kept : List Constraint) (made : ℕ) (sound : Sound bs kept made) (n : ℕ) (query : n ≤ made) (lines : List Line)
-    (listing : Listing made bs (kind-in bs kept) (tags-in kept) kept lines) (short : length (answer-words bs n lines) ≤ any) where
+    (listing : Listing made bs (kind-in bs kept) (tags-in kept) kept lines) (short : length (answer-words bs n lines) ≤ payloads) where
   abbrev N : List ℕ
   N = names-of bs n
 
@@ -117,10 +117,10 @@ module _ (bs : Substitution) (kept : List Constraint) (made : ℕ) (sound : Soun
   abbrev L : List Line
   L = listed N [] lines
 
-  total : length (terms-words (map (reify N) T)) + length (lines-words N L) < any
+  total : length (terms-words (map (reify N) T)) + length (lines-words N L) < payloads
   total = let a = length-append (terms-words (map (reify N) T)) (lines-words N L) in omega arith
 
-  few-names : length N < any
+  few-names : length N < payloads
   few-names = let a = appear-all-few N [] T in let b = total in omega arith
 
   terms-in : Each (TermIn made) T
@@ -214,11 +214,11 @@ module _ (bs : Substitution) (kept : List Constraint) (made : ℕ) (sound : Soun
       let f = some-filled (kind-in bs kept) (tags-in kept) lines (listing .ready) few-lines in
       record { just = λ tuple. (shown-begins tuple, begins-shown tuple); some-tuple = (map (value (f .assignment)) T, met-shown (f .assignment) (f .proper) (f .meets)) }
 
-pub answer-shows : (p : Path) (n left left′ : ℕ) (ws : List ℕ) → Sound (p .bindings) (p .kept) (p .made) → n ≤ p .made → answer p n left ≡ done ws left′ → length ws ≤ any → ShowsPath n (p .bindings) (p .kept) ws
+pub answer-shows : (p : Path) (n left left′ : ℕ) (ws : List ℕ) → Sound (p .bindings) (p .kept) (p .made) → n ≤ p .made → answer p n left ≡ done ws left′ → length ws ≤ payloads → ShowsPath n (p .bindings) (p .kept) ws
 answer-shows p n left left′ ws sound query e short =
     let a = through (look-through (p .bindings) (parameters 0 n) left) _ ws left′ e in
     let b = through (all-lines (p .bindings) (p .kept) (a .left)) _ ws left′ (a .second) in
     let q = done-value (answer-words (p .bindings) n (b .value)) ws (b .left) left′ (b .second) in
     let listing = all-listing (p .made) (sound .few-made) (p .bindings) (sound .good) (sound .scope) (kind-in (p .bindings) (p .kept)) (tags-in (p .kept)) (p .kept) (sound .kept-in)
     (may-meet (p .bindings) (sound .good) (p .kept) (p .kept) (λ Q m. m) (λ ps m. m) (sound .passes)) (a .left) (b .left) (b .value) (b .first) in
-    subst (ShowsPath n (p .bindings) (p .kept)) q (lines-show (p .bindings) (p .kept) (p .made) sound n query (b .value) listing (subst (λ (vs : List ℕ). length vs ≤ any) (sym q) short))
+    subst (ShowsPath n (p .bindings) (p .kept)) q (lines-show (p .bindings) (p .kept) (p .made) sound n query (b .value) listing (subst (λ (vs : List ℕ). length vs ≤ payloads) (sym q) short))

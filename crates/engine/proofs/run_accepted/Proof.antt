@@ -9,13 +9,13 @@ use Rattle.engine.proofs.run_accepted.Tie as tie
 clear-requires : tie.Need-clear-requires
 clear-requires c κs = search needs
 
-fill-requires : tie.Need-fill-requires
-fill-requires c κs = filling _ _ 0 [] _ (c .before .before .before .before .before .before .before .before .pre) _ (c .before .before .before .clear .ensures)
+fill-relations-requires : tie.Need-fill-relations-requires
+fill-relations-requires c κs = filling _ _ 0 [] _ (c .before .before .before .before .before .before .before .before .pre) _ (c .before .before .before .clear .ensures)
 
 rounds-requires : tie.Need-rounds-requires
 rounds-requires c κs =
     let a = c .before .before .before .before .before .before .before .before .before .before .before .before .before .pre in
-    let filled = c .before .before .before .before .fill in
+    let filled = c .before .before .before .before .fill-relations in
     (a .program, query-of _ _ 0 [] _ a, ready _ _ 0 [] _ a _ _ (c .before .before .before .before .before .before .before .before .clear .ensures) (filled .kept .1 .0) (filled .ensures .0) (filled .ensures .1))
 
 cast-used : tie.Need-cast-used
@@ -37,7 +37,7 @@ returns : tie.Need-returns
 returns c =
     let a = c .before .before .before .before .before .before .before .before .before .before .before .before .before .before .before .before .before .before .before .before .before .before .before .before .before .before .before .pre in
     let first = c .before .before .before .before .before .before .before .before .before .before .before .before .before .before .before .before .before .before .before .before .before .before .clear in
-    let filled = c .before .before .before .before .before .before .before .before .before .before .before .before .before .before .before .before .before .before .fill in
+    let filled = c .before .before .before .before .before .before .before .before .before .before .before .before .before .before .before .before .before .before .fill-relations in
     let ran = c .before .before .before .before .before .before .before .before .before .before .before .before .before .rounds in
     rw (c .before .before .clear3 .ensures, c .before .before .before .before .before .before .clear2 .ensures)
     (kept-run _ _ _ _ _ a (ran .last .1 .0) _ _ (ran .kept .1 .0 ∙ filled .kept .1 .0 ∙ first .kept .0) (ran .kept .1 .1 .0)
@@ -48,7 +48,7 @@ run-accepted-spec =
     tie.close
     (tie.spec
     clear-requires
-    fill-requires
+    fill-relations-requires
     rounds-requires
     cast-used
     clear-requires-2

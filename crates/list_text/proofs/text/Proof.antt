@@ -8,6 +8,7 @@ use Rattle.list_text.proofs.ListLaws.{file-text}
 use Rattle.list_text.proofs.PartLaws.{zeros-lent}
 use Rattle.list_text.proofs.WordLaws.{read-program}
 use borrow.Author.Needs.{needs}
+use Rattle.rules.specs.Settings.{scratch-words}
 use Rattle.list_text.proofs.text.Statement.{statement}
 use Rattle.list_text.proofs.text.Tie as tie
 
@@ -42,7 +43,7 @@ same-length : tie.Need-same-length
 same-length c = search needs
 
 returns : tie.Need-returns
-returns c = file-text (c .before .before .before .before .before .before .before .before .before .before .before .before .before .before .args .bytes .now) (c .before .before .before .before .before .before .before .before .before .before .before .before .before .before .args .rounds) (c .before .before .before .before .before .before .before .before .before .before .before .before .before .before .args .steps) (min (c .before .before .before .before .before .before .before .before .before .before .before .before .before .before .args .room) 4096) (replicate 16384 0) (read-program (c .before .before .before .before .before .before .before .before .before .before .before .before .before .before .args .bytes .now) (c .before .before .before .before .before .before .before .before .before .read-words .last .1 .0) (c .before .before .before .before .before .before .before .before .before .before .before .word-count .ensures .0) (c .before .before .before .before .before .before .before .before .before .read-words .ensures)) (zeros-lent (c .before .before .before .before .before .before .before .before .before .before .before .before .before .before .args .room) 4096 (c .before .before .before .before .before .before .before .at-most .ensures) .are) (c .before .before .before .list .ensures .0) (c .before .before .before .list .ensures .1)
+returns c = file-text (c .before .before .before .before .before .before .before .before .before .before .before .before .before .before .args .bytes .now) (c .before .before .before .before .before .before .before .before .before .before .before .before .before .before .args .rounds) (c .before .before .before .before .before .before .before .before .before .before .before .before .before .before .args .steps) (min (c .before .before .before .before .before .before .before .before .before .before .before .before .before .before .args .room) 4096) (replicate scratch-words 0) (read-program (c .before .before .before .before .before .before .before .before .before .before .before .before .before .before .args .bytes .now) (c .before .before .before .before .before .before .before .before .before .read-words .last .1 .0) (c .before .before .before .before .before .before .before .before .before .before .before .word-count .ensures .0) (c .before .before .before .before .before .before .before .before .before .read-words .ensures)) (zeros-lent (c .before .before .before .before .before .before .before .before .before .before .before .before .before .before .args .room) 4096 (c .before .before .before .before .before .before .before .at-most .ensures) .are) (c .before .before .before .list .ensures .0) (c .before .before .before .list .ensures .1)
 
 pub text-spec : {M : Type 1} → statement M
 text-spec =

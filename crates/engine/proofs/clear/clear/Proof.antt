@@ -3,7 +3,7 @@ use Prim.Native.Nat.{_-_, min}
 use mathlib.Core.Path.{_≡_, refl, sym, _∙_}
 use native.Mathlib.Omega.{arith}
 use lib.ListN.{length, length-set}
-use Rattle.engine.specs.Running.{cleared}
+use Rattle.engine.specs.Run.{cleared}
 use Rattle.engine.proofs.ClearLaws.{clear-step, clear-done}
 use borrow.Author.Needs.{needs}
 use Rattle.engine.proofs.clear.clear.Statement.{statement}

@@ -8,7 +8,7 @@ use Rattle.engine.proofs.round.completed.Statement.{statement}
 use Rattle.engine.proofs.round.completed.Tie as tie
 use Rattle.engine.proofs.round.completed.Reads as reads
 use Rattle.engine.proofs.round.completed.Lts as lts
-use Rattle.engine.proofs.trail.undo.Reads as undo-reads
+use Rattle.engine.proofs.terms.trail.undo.Reads as undo-reads
 
 undo-requires : tie.Need-undo-requires
 undo-requires c κs = let q = c .before .before .pre in (q .1, q .2 .bindings, [], marked-whole (q .4))

@@ -7,9 +7,9 @@ use Rattle.engine.proofs.round.give.Statement.{statement}
 use Rattle.engine.proofs.round.give.Tie as tie
 use Rattle.engine.proofs.round.give.Reads as reads
 use Rattle.engine.proofs.round.give.Lts as lts
-use Rattle.engine.proofs.answer.write_answer.Reads as write-answer-reads
-use Rattle.engine.proofs.choice.back.Reads as back-reads
-use Rattle.engine.proofs.narrow.narrowed.Reads as narrowed-reads
+use Rattle.engine.proofs.writer.answer.write_answer.Reads as write-answer-reads
+use Rattle.engine.proofs.search.choice.backtrack.Reads as backtrack-reads
+use Rattle.engine.proofs.search.constrain.with_counts.Reads as with-counts-reads
 use Rattle.engine.proofs.round.broken.Reads as broken-reads
 use Rattle.engine.proofs.round.completed.Reads as completed-reads
 
@@ -37,16 +37,16 @@ broken-requires-3 c κs = search needs
 enum-known-words : tie.Need-enum-known-words
 enum-known-words c = search needs
 
-narrowed-requires : tie.Need-narrowed-requires
-narrowed-requires c κs = search needs
+with-counts-requires : tie.Need-with-counts-requires
+with-counts-requires c κs = search needs
 
-back-requires : tie.Need-back-requires
-back-requires c κs =
+backtrack-requires : tie.Need-backtrack-requires
+backtrack-requires c κs =
     let q = c .before .before .before .before .before .before .before .before .before .before .before .before .before .before .before .pre in
     let writer = c .before .before .before .before .before .before .before .before .before in
     let said = writer .write-answer .ensures (q .0) (q .1) (q .2) (q .4 .answering) in
     let y = wrote (q .4) 0 (writer .write-answer .kept .1 .1 .0) said (c .before .before .before .words .given .1) in
-    (q .0, q .1, q .2, wrote-held (q .4) 0 (writer .write-answer .kept .1 .1 .0) said y _ (c .before .narrowed .ensures))
+    (q .0, q .1, q .2, wrote-held (q .4) 0 (writer .write-answer .kept .1 .1 .0) said y _ (c .before .with-counts .ensures))
 
 enum-told-2 : tie.Need-enum-told-2
 enum-told-2 c = search needs
@@ -60,8 +60,8 @@ completed-requires c κs =
     let writer = c .before .before .before .before .before .before .before .before .before .before .before .before .before .before .before in
     let said = writer .write-answer .ensures (q .0) (q .1) (q .2) (q .4 .answering) in
     let y = wrote (q .4) 0 (writer .write-answer .kept .1 .1 .0) said (c .before .before .before .before .before .before .before .before .before .words .given .1) in
-    let is = c .before .before .before .before .before .before .before .narrowed .ensures in
-    let led = c .before .before .before .before .before .back .ensures (q .0) (q .1) (q .2) (y .tally) (wrote-held (q .4) 0 (writer .write-answer .kept .1 .1 .0) said y _ is) in
+    let is = c .before .before .before .before .before .before .before .with-counts .ensures in
+    let led = c .before .before .before .before .before .backtrack .ensures (q .0) (q .1) (q .2) (y .tally) (wrote-held (q .4) 0 (writer .write-answer .kept .1 .1 .0) said y _ is) in
     let o = none-left (q .4) 0 (writer .write-answer .kept .1 .1 .0) said y _ is _ _ led (c .before .enum-told2 .given .1) in
     (q .0, _, o .path, [], o .held)
 
@@ -115,8 +115,8 @@ returns-4 c = λ P k p cs a g.
     let writer = c .before .before .before .before .before .before .before .before .before .before .before .before .before .before .before .before .before .before in
     let said = writer .write-answer .ensures P p cs (g .answering) in
     let y = wrote g k (writer .write-answer .kept .1 .1 .0) said (c .before .before .before .before .before .before .before .before .before .before .before .before .words .given .1) in
-    let is = c .before .before .before .before .before .before .before .before .before .before .narrowed .ensures in
-    let led = c .before .before .before .before .before .before .before .before .back .ensures P p cs (y .tally) (wrote-held g k (writer .write-answer .kept .1 .1 .0) said y _ is) in
+    let is = c .before .before .before .before .before .before .before .before .before .before .with-counts .ensures in
+    let led = c .before .before .before .before .before .before .before .before .backtrack .ensures P p cs (y .tally) (wrote-held g k (writer .write-answer .kept .1 .1 .0) said y _ is) in
     let over = c .before .before .before .before .enum-told2 .given .1 in
     let o = none-left g k (writer .write-answer .kept .1 .1 .0) said y _ is _ _ led over in
     rw (c .before .before .completed .ensures .0) (gives-last g k (writer .write-answer .kept .1 .1 .0) said y _ is _ _ led over (c .before .before .completed .ensures .1 P _ (o .path) [] (o .held)))
@@ -132,8 +132,8 @@ returns-5 c = λ P k p cs a g.
     let writer = c .before .before .before .before .before .before .before .before .before .before .before .before .before .before .before in
     let said = writer .write-answer .ensures P p cs (g .answering) in
     let y = wrote g k (writer .write-answer .kept .1 .1 .0) said (c .before .before .before .before .before .before .before .before .before .words .given .1) in
-    let is = c .before .before .before .before .before .before .before .narrowed .ensures in
-    let led = c .before .before .before .before .before .back .ensures P p cs (y .tally) (wrote-held g k (writer .write-answer .kept .1 .1 .0) said y _ is) in
+    let is = c .before .before .before .before .before .before .before .with-counts .ensures in
+    let led = c .before .before .before .before .before .backtrack .ensures P p cs (y .tally) (wrote-held g k (writer .write-answer .kept .1 .1 .0) said y _ is) in
     gives-next g k (writer .write-answer .kept .1 .1 .0) said y _ is _ _ led (c .before .next .given .1)
 
 pub give-spec : {M : Type 1} → statement M
@@ -148,8 +148,8 @@ give-spec =
     enum-known-left-2
     broken-requires-3
     enum-known-words
-    narrowed-requires
-    back-requires
+    with-counts-requires
+    backtrack-requires
     enum-told-2
     add-completed
     completed-requires

@@ -16,17 +16,17 @@ use Rattle.engine.proofs.round.broken.Reads as broken-reads
 use Rattle.engine.proofs.round.completed.Reads as completed-reads
 use Rattle.engine.proofs.round.end_of.Reads as end-of-reads
 use Rattle.engine.proofs.round.give.Reads as give-reads
-use Rattle.engine.proofs.search.search.Reads as search-reads
-use Rattle.engine.proofs.table.relation.Reads as relation-reads
+use Rattle.engine.proofs.search.search.search.Reads as search-reads
+use Rattle.engine.proofs.search.table.relation.Reads as relation-reads
 
 abbrev Inv-loop : tie.InvT-loop
 Inv-loop program scratch₀ output₀ query number params state₀ goal₀ used₀ answers₀ cuts₀ scratch output state goal used answers cuts =
     (length scratch ≡ length scratch₀) × (length output ≡ length output₀)
-    × ((P : Program) (R : Relation) (a : definition.Tally) → Starting program scratch₀ output₀ P query R number (record { left = state₀ .left; used = used₀; answers = answers₀ }) a
+    × ((P : Program) (R : Relation) (a : definition.Tally) → Starting program scratch₀ output₀ P query R number (record { left = state₀ .steps; used = used₀; answers = answers₀ }) a
     → Rounding program P R number params a scratch output state goal used answers cuts)
 
 abbrev μ-loop : tie.MeasureT-loop
-μ-loop program scratch₀ output₀ query number params state₀ goal₀ used₀ answers₀ cuts₀ scratch output state goal used answers cuts = state .left
+μ-loop program scratch₀ output₀ query number params state₀ goal₀ used₀ answers₀ cuts₀ scratch output state goal used answers cuts = state .steps
 
 relation-requires : tie.Need-relation-requires Inv-loop μ-loop
 relation-requires c κs = let x = c .before .before .before .before .pre in (x .0, x .1, x .3 .ready .clean .table, x .3 .ready .query-is, x .3 .ready .clean .long)

@@ -3,7 +3,7 @@ use mathlib.Core.List.{List}
 use Prim.Native.Nat.{_<_, _≤_, _+_, _*_, _-_}
 use native.Mathlib.Omega.{arith}
 use borrow.Author.Needs.{needs}
-use Rattle.rules.specs.Inner.{Outcome}
+use Rattle.rules.specs.Inner.{ReadOutcome}
 use Rattle.rules.proofs.Readers.{goal-missing, goal-low, goal-high, goal-overrun, goal-two, goal-one, goal-absento, goal-call, goal-nested, goal-ahead, GoalsTold, goals-stop, goals-last, goals-next}
 use Prim.Native.Nat.{ℕ}
 use borrow.Fn.Kinds.{In}
@@ -25,7 +25,7 @@ use Rattle.rules.proofs.structure.+read_goal+read_goals.Tie.{close}
 -- what the goals from `at` on tell is what all of them tell
 record Going (ws : List ℕ) (vars start end at : ℕ) : Type 0 where
   pub forward : start ≤ at
-  pub whole : (o : Outcome) → GoalsTold ws vars at end o → GoalsTold ws vars start end o
+  pub whole : (o : ReadOutcome) → GoalsTold ws vars at end o → GoalsTold ws vars start end o
 
 abbrev μ-read-goal : Measures 1 read-goal-kinds.ps ℕ
 μ-read-goal κs a = 2 * (a .1 .1 .1 .0 - a .1 .1 .0)

@@ -3,7 +3,7 @@ use mathlib.Core.List.{List}
 use Prim.Native.Nat.{_<_, _≤_, _-_}
 use native.Mathlib.Omega.{arith}
 use borrow.Author.Needs.{needs}
-use Rattle.rules.specs.Inner.{Outcome}
+use Rattle.rules.specs.Inner.{ReadOutcome}
 use Rattle.rules.proofs.Readers.{TermTold, term-missing, term-kind, term-leaf, term-overrun, term-first-stops, term-second}
 use Prim.Native.Nat.{ℕ}
 use borrow.Fn.Kinds.{In}
@@ -20,7 +20,7 @@ use Rattle.rules.proofs.structure.+read_term.Tie.{close}
 -- what the rest tells from `at` on is what the whole tells
 record Going (ws : List ℕ) (vars start end at : ℕ) : Type 0 where
   pub forward : start ≤ at
-  pub whole : (o : Outcome) → TermTold ws vars at end o → TermTold ws vars start end o
+  pub whole : (o : ReadOutcome) → TermTold ws vars at end o → TermTold ws vars start end o
 
 abbrev μ-read-term : Measures 1 read-term-kinds.ps ℕ
 μ-read-term κs a = a .1 .1 .1 .0 - a .1 .1 .0

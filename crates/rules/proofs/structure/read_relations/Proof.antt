@@ -3,13 +3,13 @@ use Prim.Native.Nat.{_-_}
 use native.Mathlib.Omega.{arith}
 use borrow.Author.Needs.{needs}
 use lib.ListN.{length}
-use Rattle.rules.specs.Inner.{Outcome}
+use Rattle.rules.specs.Inner.{ReadOutcome}
 use Rattle.rules.proofs.Readers.{RelationsTold, relations-end, relations-stop, relations-next, relation-ahead}
 use Rattle.rules.proofs.structure.read_relations.Statement.{statement}
 use Rattle.rules.proofs.structure.read_relations.Tie as tie
 
 abbrev Inv-loop : tie.InvT-loop
-Inv-loop program at₀ before₀ at before = (o : Outcome) → RelationsTold program before at o → RelationsTold program 0 0 o
+Inv-loop program at₀ before₀ at before = (o : ReadOutcome) → RelationsTold program before at o → RelationsTold program 0 0 o
 
 abbrev μ-loop : tie.MeasureT-loop
 μ-loop program at₀ before₀ at before = length program - at

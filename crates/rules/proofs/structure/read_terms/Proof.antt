@@ -2,13 +2,13 @@
 use Prim.Native.Nat.{_-_}
 use native.Mathlib.Omega.{arith}
 use borrow.Author.Needs.{needs}
-use Rattle.rules.specs.Inner.{Outcome}
+use Rattle.rules.specs.Inner.{ReadOutcome}
 use Rattle.rules.proofs.Readers.{TermsTold, terms-end, terms-stop, terms-next, term-ahead}
 use Rattle.rules.proofs.structure.read_terms.Statement.{statement}
 use Rattle.rules.proofs.structure.read_terms.Tie as tie
 
 abbrev Inv-loop : tie.InvT-loop
-Inv-loop program vars start end at₀ at = (o : Outcome) → TermsTold program vars at end o → TermsTold program vars start end o
+Inv-loop program vars start end at₀ at = (o : ReadOutcome) → TermsTold program vars at end o → TermsTold program vars start end o
 
 abbrev μ-loop : tie.MeasureT-loop
 μ-loop program vars start end at₀ at = end - at

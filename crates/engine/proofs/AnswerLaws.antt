@@ -28,10 +28,10 @@ use Rattle.engine.specs.Memory.{BindingsIn, Nameless, Stored}
 use Rattle.engine.specs.Walk.{Binds}
 use Rattle.engine.specs.Trail.{Apart}
 use Rattle.engine.specs.Review.{ConstraintsHeld}
-use Rattle.engine.specs.Names.{top-from, word-from, Distinct, Names, Given, Named}
+use Rattle.engine.specs.Names.{top-from, word-from, Distinct, Names, NamesGiven, Named}
 use Rattle.engine.specs.Term.{Room, Touched, Laid, Placed, all-laid, some-missing}
 use Rattle.engine.specs.Lines.{joined, add-lines, Wholes, AnswerSoFar, Writing}
-use Rattle.engine.specs.Query.{Known, query-words, Query, Ends, end-says, EndedAs}
+use Rattle.engine.specs.Query.{Known, query-words, Query, Ends, answer-end, EndedAs}
 use Rattle.engine.specs.Look.{ThroughAs}
 use Rattle.engine.specs.Constraint.{added-says, AddedAs}
 use Rattle.engine.specs.Take.{PathHeld, registers}
@@ -49,8 +49,8 @@ use Rattle.engine.proofs.TrailLaws.{fresh-few}
 use Rattle.engine.proofs.FrameLaws.{bindings-same, kept-same}
 use Rattle.engine.proofs.StoredLaws.{trailed, rebound, stored-binds}
 use Rattle.engine.proofs.NameLaws.{names-apart}
-use Rattle.engine.proofs.PutLaws.{room-same, untouched, touched-then, laid-of, missing-of}
-use Rattle.engine.proofs.PageLaws.{page-over, lines-listed}
+use Rattle.engine.proofs.TermLaws.{room-same, untouched, touched-then, laid-of, missing-of}
+use Rattle.engine.proofs.AddLineLaws.{page-over, lines-listed}
 use Rattle.engine.proofs.QueryLaws.{binds-named}
 
 -- the first words of a list, by what stands at each place
@@ -136,7 +136,7 @@ record Overrun (end : ℕ) (r : Added) (left : ℕ) : Type 0 where
   pub is : r ≡ added.Done place left
   pub beyond : end < place
 
-overrun : (end : ℕ) (r : Added) (l : ℕ) → answered.Full l ≡ end-says end r → Overrun end r l
+overrun : (end : ℕ) (r : Added) (l : ℕ) → answered.Full l ≡ answer-end end r → Overrun end r l
 overrun end (added.Done place left) l e = go (ltb end place) refl e
   where
     go : (b : Bool) → ltb end place ≡ b → answered.Full l ≡ choose b (λ _. answered.Full left) (λ _. answered.Written place left) → Overrun end (added.Done place left) l
@@ -178,7 +178,7 @@ unfolding joined
 words-are bs n ls = ap (λ v. part 15 (query-words bs (names-of bs n) 0 n ++ v)) (lines-listed (names-of bs n) [] [] ls (λ v. refl))
 
 -- the end of the lines says what the answer does
-ends-said : (bs : Substitution) (n end : ℕ) (ls : List Line) (r : Added) → and-then (added-says ls r) (λ ls k. done (answer-words bs n ls) k) ≡ answer-says (answer-words bs n ls) (end-says end r)
+ends-said : (bs : Substitution) (n end : ℕ) (ls : List Line) (r : Added) → and-then (added-says ls r) (λ ls k. done (answer-words bs n ls) k) ≡ answer-says (answer-words bs n ls) (answer-end end r)
 ends-said bs n end ls (added.Done place left) = by-choose (λ q. done (answer-words bs n ls) left ≡ answer-says (answer-words bs n ls) q) (ltb end place) (λ _. answered.Full left) (λ _. answered.Written place left) (λ _. refl) (λ _. refl)
 ends-said bs n end ls added.StepsOut = refl
 ends-said bs n end ls (added.PathOut left) = refl
@@ -222,7 +222,7 @@ module _ {P : Program} {ws s output : List ℕ} {st : State} {p : Path} {cs : Li
 
   -- with names
   module _ {s₁ : List ℕ} {top : ℕ} (m : Named s s₁ top names) where
-    pub answer-given : Given s₁ names
+    pub answer-given : NamesGiven s₁ names
     answer-given = record { long = binds-named m answer-binds .long; top = top; named = m .given }
 
     pub answer-query : Query ws s₁ params bs names

@@ -35,7 +35,7 @@ back-none {P} {ws} {s} {p} {cs} st t h e = go cs (h .choices-are)
     go (d ∷ ds) q = absurd (omega (arith, q))
 
 -- The newest choice point, s′ being the scratch when the trail is taken backtrack.
-pub record Came (P : Program) (ws s s′ : List ℕ) (st : State) (cs : List ChoicePoint) : Type 0 where
+pub record Backtracking (P : Program) (ws s s′ : List ℕ) (st : State) (cs : List ChoicePoint) : Type 0 where
   pub point : ChoicePoint
   pub others : List ChoicePoint
   pub are : cs ≡ point ∷ others
@@ -57,8 +57,8 @@ module _ {P : Program} {ws s : List ℕ} (st : State) {p : Path} {cs : List Choi
   back-undoes = some-point (λ _. (us : List ℕ) × (new : Substitution) × (bs : Substitution) × Trailed us s new bs (at s (point-at (st .choices - 1) + 3)) (st .trail))
       (λ c ds e k. let q = marked (st .choices - 1) k in (ws, q .0, c .path .bindings, q .1))
 
-  pub back-came : {s′ : List ℕ} → ((us : List ℕ) (new bs : Substitution) → Trailed us s new bs (at s (point-at (st .choices - 1) + 3)) (st .trail) → Undone us s s′ bs) → Came P ws s s′ st cs
-  back-came {s′} undone = some-point (λ ds. Came P ws s s′ st ds) (λ c ds e k. record {
+  pub back-came : {s′ : List ℕ} → ((us : List ℕ) (new bs : Substitution) → Trailed us s new bs (at s (point-at (st .choices - 1) + 3)) (st .trail) → Undone us s s′ bs) → Backtracking P ws s s′ st cs
+  back-came {s′} undone = some-point (λ ds. Backtracking P ws s s′ st ds) (λ c ds e k. record {
     point = c;
     others = ds;
     are = refl;
@@ -66,7 +66,7 @@ module _ {P : Program} {ws s : List ℕ} (st : State) {p : Path} {cs : List Choi
     restored = restore (st .choices - 1) s′ k (undone ws (marked (st .choices - 1) k .0) (c .path .bindings) (marked (st .choices - 1) k .1));
   })
 
-module _ {P : Program} {ws s s′ : List ℕ} {st : State} {cs : List ChoicePoint} (k : Came P ws s s′ st cs) where
+module _ {P : Program} {ws s s′ : List ℕ} {st : State} {cs : List ChoicePoint} (k : Backtracking P ws s s′ st cs) where
   -- the next alternative's word is there
   pub back-next : Next ws (at s (point-at (st .choices - 1))) (at s (point-at (st .choices - 1) + 1))
   back-next = next-goal ws (at s (point-at (st .choices - 1))) (at s (point-at (st .choices - 1) + 1)) (k .point .base) (k .point .rest) (k .restored .rest-at)

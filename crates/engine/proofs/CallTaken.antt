@@ -19,7 +19,7 @@ use Rattle.engine.specs.Reference.{pos-of, base-of, TaskAt, positions}
 use Rattle.engine.specs.Memory.{Registers, TableIn, Stored, cell, layout-words}
 use Rattle.engine.specs.Walk.{NodeAt}
 use Rattle.engine.specs.Take.{registers, GoalReady, TookAs, one-goal-more, RelationIs}
-use Rattle.engine.specs.Call.{Passing, Passed}
+use Rattle.engine.specs.Call.{BindingParameters, ParametersBound}
 use Rattle.engine.specs.declared.search.state.State.{State}
 use Rattle.engine.specs.declared.report.Bound.the-variants.{Variables, Goals as GoalsBound}
 use Rattle.engine.specs.declared.search.state.Stop.the-variants.{Path as PathLimit}
@@ -115,13 +115,13 @@ module _ {P : Program} {ws s : List ℕ} {st : State} {w : ℕ} {p : Path} {cs :
         took-bound p (rw (e, is-callee, f, g) refl)
 
     -- its arguments are passed
-    pub call-passes : st .variables + v ≤ 2048 → Passing ws s s base (after ws (pos-of w)) (bind-params (p .made) base ts (p .bindings)) (st .variables) (st .trail) (w + 2) a
+    pub call-passes : st .variables + v ≤ 2048 → BindingParameters ws s s base (after ws (pos-of w)) (bind-params (p .made) base ts (p .bindings)) (st .variables) (st .trail) (w + 2) a
     call-passes fits =
         let made-is : st .variables ≡ p .made = stored .path-in .made in
         let base-is : base-of w ≡ base = task .base in
         let few = callee-few in
         let many : length ts ≡ a = k .task-in .2 .fits ∙ sym (is .params-is) in
-        subst (λ x. Passing ws s s base (after ws (pos-of w)) (bind-params (p .made) base ts (p .bindings)) x (st .trail) (w + 2) a) (sym made-is) (record {
+        subst (λ x. BindingParameters ws s s base (after ws (pos-of w)) (bind-params (p .made) base ts (p .bindings)) x (st .trail) (w + 2) a) (sym made-is) (record {
           from = pos-of w + 2;
           is-w = omega (arith, base-is);
           args = ts;
@@ -147,7 +147,7 @@ module _ {P : Program} {ws s : List ℕ} {st : State} {w : ℕ} {p : Path} {cs :
     call-body fits = (omega (arith, is .small), omega arith)
 
     pub call-goes : {round : ℕ} {s′ s″ : List ℕ} {trail : ℕ} {r : State} → st .calls < round → st .variables + v ≤ 2048 → st .goals < 1024
-        → Passed ws s s′ (bind-params (p .made) base ts (p .bindings)) trail
+        → ParametersBound ws s s′ (bind-params (p .made) base ts (p .bindings)) trail
         → r ≡ one-goal-more (record { head = st .head; trail = trail; variables = st .variables + v; goals = st .goals; constraints = st .constraints; calls = st .calls + 1; choices = st .choices; steps = st .steps })
         → s″ ≡ cell s′ (st .goals + 1) (c + positions * st .variables) (st .head)
         → TookAs P ws s″ cs (take-call round P p cs base n ts (st .steps)) Goes r

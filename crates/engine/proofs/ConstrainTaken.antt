@@ -19,7 +19,7 @@ use Rattle.semantics.specs.Invariant.{TermIn, ConstraintIn}
 use Rattle.semantics.proofs.TermLaws.{shift-in, shift-constraint-in}
 use Rattle.engine.specs.Reference.{pos-of, Stands, TaskAt, VarsC, KeepsAt}
 use Rattle.engine.specs.Memory.{kept-at, Stored}
-use Rattle.engine.specs.Unify.{Meets, Went, UnifiedAs}
+use Rattle.engine.specs.Unify.{TwoTerms, Went, UnifiedAs}
 use Rattle.engine.specs.Review.{ConstraintsHeld, Reviews, review-says, ReviewedAs}
 use Rattle.engine.specs.Take.{registers, PathHeld, GoalReady, TookAs, with-counts, took-as, review-took}
 use Rattle.engine.specs.declared.search.state.State.{State}
@@ -83,7 +83,7 @@ module _ {P : Program} {ws s : List ℕ} {st : State} {w : ℕ} {p : Path} {cs :
   pub equal-first : Stands ws (w + 1) (shift base u)
   equal-first = equal-terms .first
 
-  pub equal-meets : {q : ℕ} → ((t : Term) (h : Stands ws (w + 1) t) → q + pos-of (w + 1) ≡ w + 1 + h .to) → Meets ws s (p .bindings) (w + 1) (shift base u) q (shift base v) (st .trail)
+  pub equal-meets : {q : ℕ} → ((t : Term) (h : Stands ws (w + 1) t) → q + pos-of (w + 1) ≡ w + 1 + h .to) → TwoTerms ws s (p .bindings) (w + 1) (shift base u) q (shift base v) (st .trail)
   equal-meets {q} skips = stored-meets stored (k .short) (k .sound .good) (equal-terms .first) (equal-terms .second q (skips (shift base u) (equal-terms .first)))
 
   abbrev pub says : List ℕ → Way → State → Type 0

@@ -12,7 +12,7 @@ use Rattle.rules.specs.Written.{part, term-words, goal-words, goals-words, sort
 use Rattle.semantics.specs.Answer.{member, index, reify, vars-in, reify-bindings, differ-goals, bindings-in, line-in, line-words, Line, is-sort, lacks, not-all}
 use Rattle.semantics.proofs.Basics.{clash, and-true}
 use Rattle.engine.specs.Reference.{at}
-use Rattle.engine.specs.Names.{Given}
+use Rattle.engine.specs.Names.{NamesGiven}
 use Rattle.engine.specs.Term.{Puts, Laid, Placed, all-laid, some-missing}
 use Rattle.engine.specs.Line.{half, Equation, Equations, EquationsIn, equation-in, equation-words, equations-words, LineAs, as-sort, as-lacks, as-differ}
 use Rattle.engine.specs.declared.writer.line.Listed.{Listed}
@@ -20,7 +20,7 @@ use Rattle.engine.specs.declared.writer.line.Listed.the-variants.{Typed,
 use Rattle.engine.specs.declared.writer.term.Put.{Put}
 use Rattle.engine.specs.declared.writer.term.Put.the-variants.{End, Missed}
 use Rattle.engine.proofs.NameLaws.{has-name, no-name}
-use Rattle.engine.proofs.PutLaws.{laid-of, missing-of, missing-inner, laid-none, laid-then, missing-then, placed-then, missed-part, missing-end, missing-more, puts-at}
+use Rattle.engine.proofs.TermLaws.{laid-of, missing-of, missing-inner, laid-none, laid-then, missing-then, placed-then, missed-part, missing-end, missing-more, puts-at}
 
 pub half-low : (s : List ℕ) (i : ℕ) → i % 2 ≡ 0 → at s (10752 + i / 2) % 65536 ≡ half s i
 unfolding half
@@ -273,7 +273,7 @@ pub differ-in : {ws s : List ℕ} {mark count : ℕ} {l : Line} (names : List �
 differ-in names h e = subst (λ l. line-in names l ≡ true) (h .is) e
 
 -- names of a line's variables
-module _ {s : List ℕ} {x : ℕ} {names : List ℕ} (low : x < 2048) (g : Given s names) where
+module _ {s : List ℕ} {x : ℕ} {names : List ℕ} (low : x < 2048) (g : NamesGiven s names) where
   pub name-missing : at s (4096 + x) ≡ 0 → false ≡ member x names
   name-missing z = sym (no-name (g .named) x low z)
 

@@ -12,15 +12,15 @@ use Rattle.engine.specs.declared.terms.walk.Shape.{Shape}
 use Rattle.engine.specs.declared.terms.walk.Shape.the-variants.{Open, Atom as Leaf, Pair}
 use Rattle.engine.specs.declared.writer.line.Listed.{Listed}
 use Rattle.engine.specs.declared.writer.line.Listed.the-variants.{Typed, Lacks}
-use Rattle.engine.proofs.PutLaws.{room-same}
-use Rattle.engine.proofs.NamingLaws.{Told, told-open, told-leaf, told-pair, Halves, halved}
+use Rattle.engine.proofs.TermLaws.{room-same}
+use Rattle.engine.proofs.NamingLaws.{FollowedAs, told-open, told-leaf, told-pair, Halves, halved}
 
 -- what `add_line` tells
 abbrev pub Adds : List ℕ → List ℕ → List ℕ → List ℕ → Listed → ℕ → ℕ → ℕ → ℕ → Type 0
 Adds ws s out out′ line first end place place′ = (g : Writing s out first end place) (l : Line) → LineAs ws s line l → Extended g out′ place′ (l ∷ [])
 
 -- a type
-module _ {ws s out : List ℕ} {kind w first end place : ℕ} (g : AddsTyped ws s out kind w first end place) {r : Shape} (f : Told ws s w r) where
+module _ {ws s out : List ℕ} {kind w first end place : ℕ} (g : AddsTyped ws s out kind w first end place) {r : Shape} (f : FollowedAs ws s w r) where
   pub typed-as : {x : ℕ} → r ≡ Open x → LineAs ws s (Typed kind x) (is-sort (g .sort) x)
   typed-as e = as-sort (g .sort) (g .is-kind) (told-open (g .term) f e (g .here) .1)
 
@@ -66,7 +66,7 @@ pub absent-start : {ws s out : List ℕ} {tag w first end place : ℕ} (g : Adds
 absent-start g = record { rest = g; is-before = refl; is-begin = refl; is-head = refl; is-goal = refl }
 
 module _ {ws s before out : List ℕ} {begin tag w first end place : ℕ} {head : List ℕ} {goal : List (List ℕ)} (h : Absent ws s before out begin tag w first end place head goal) where
-  pub absent-as : {r : Shape} → Told ws s w r → {x : ℕ} → r ≡ Open x → LineAs ws s (Lacks tag x) (lacks (h .rest .tag-of) x)
+  pub absent-as : {r : Shape} → FollowedAs ws s w r → {x : ℕ} → r ≡ Open x → LineAs ws s (Lacks tag x) (lacks (h .rest .tag-of) x)
   absent-as f e = as-lacks (h .rest .tag-of) (h .rest .is-tag) (told-open (h .rest .term) f e (h .rest .here) .1)
 
   close : {out′ : List ℕ} {place′ : ℕ} → Extended (h .rest .writing) out′ place′ (lacks-each (h .rest .tag-of) (occurrences (h .rest .term))) → AnswerSoFar before out′ begin first end place′ head goal
@@ -77,16 +77,16 @@ module _ {ws s before out : List ℕ} {begin tag w first end place : ℕ} {head 
       (subst (λ z. AnswerSoFar (k .before) out′ (k .begin) first end place′ z goal) (h .is-head)
       (subst (λ z. AnswerSoFar (k .before) out′ (k .begin) first end place′ (k .head) z) (h .is-goal) p)))
 
-  pub absent-add : {r : Shape} → Told ws s w r → {out′ : List ℕ} {x place′ : ℕ} → r ≡ Open x → Adds ws s out out′ (Lacks tag x) first end place place′ → AnswerSoFar before out′ begin first end place′ head goal
+  pub absent-add : {r : Shape} → FollowedAs ws s w r → {out′ : List ℕ} {x place′ : ℕ} → r ≡ Open x → Adds ws s out out′ (Lacks tag x) first end place place′ → AnswerSoFar before out′ begin first end place′ head goal
   unfolding occurrences
   absent-add {r} f {out′} {x} {place′} e a =
       close (subst (λ t. Extended (h .rest .writing) out′ place′ (lacks-each (h .rest .tag-of) (occurrences t))) (sym (told-open (h .rest .term) f e (h .rest .here) .0)) (a (h .rest .writing) (lacks (h .rest .tag-of) x) (absent-as f e)))
 
-  pub absent-leaf : {r : Shape} → Told ws s w r → {v : ℕ} → r ≡ Leaf v → AnswerSoFar before out begin first end place head goal
+  pub absent-leaf : {r : Shape} → FollowedAs ws s w r → {v : ℕ} → r ≡ Leaf v → AnswerSoFar before out begin first end place head goal
   unfolding add-lines occurrences Shaped
   absent-leaf f e = close (subst (λ t. Extended (h .rest .writing) out place (lacks-each (h .rest .tag-of) (occurrences t))) (sym (told-leaf (h .rest .term) f e (h .rest .here) .1)) (h .rest .writing .page))
 
-  pub absent-pair : {r : Shape} → Told ws s w r → {a b : ℕ} → r ≡ Pair a b → Halves ws s w a b (h .rest .term)
+  pub absent-pair : {r : Shape} → FollowedAs ws s w r → {a b : ℕ} → r ≡ Pair a b → Halves ws s w a b (h .rest .term)
   absent-pair f e = halved (h .rest .term) f e (h .rest .here)
 
   pub absent-first : {a b : ℕ} → Halves ws s w a b (h .rest .term) → AddsAbsent ws s out tag a first end place

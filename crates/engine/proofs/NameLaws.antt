@@ -18,7 +18,7 @@ use Rattle.semantics.proofs.SubstitutionLaws.{lookup-other}
 use Rattle.engine.specs.Reference.{at}
 use Rattle.engine.specs.Memory.{Fresh, layout-words}
 use Rattle.engine.specs.Trail.{Apart}
-use Rattle.engine.specs.Names.{next-top, top-from, word-from, Distinct, Names, Given, Named}
+use Rattle.engine.specs.Names.{next-top, top-from, word-from, Distinct, Names, NamesGiven, Named}
 use Rattle.engine.proofs.TrailLaws.{fresh-few}
 
 -- the word of a variable with no name is 0, that of one with a name is not
@@ -193,5 +193,5 @@ named-trans h i = record { given = i .given; below = λ k l. i .below k l ∙ h 
 pub names-apart : {s s′ : List ℕ} {top : ℕ} {names : List ℕ} → Apart s s′ → Names s top names → Names s′ top names
 names-apart a h = record { top-is = h .top-is; words = λ y l. a .middle (4096 + y) (omega arith) (omega arith) ∙ h .words y l; distinct = h .distinct }
 
-pub given-apart : {s s′ : List ℕ} {names : List ℕ} → Apart s s′ → Given s names → Given s′ names
+pub given-apart : {s s′ : List ℕ} {names : List ℕ} → Apart s s′ → NamesGiven s names → NamesGiven s′ names
 given-apart a g = record { long = omega (arith, g .long, a .long); top = g .top; named = names-apart a (g .named) }

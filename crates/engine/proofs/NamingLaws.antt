@@ -11,7 +11,7 @@ use Rattle.semantics.specs.Answer.{appear, vars-in}
 use Rattle.semantics.proofs.Basics.{compared, same, other}
 use Rattle.engine.specs.Reference.{at}
 use Rattle.engine.specs.Walk.{Resolves, Shaped}
-use Rattle.engine.specs.Names.{next-top, top-from, Names, Given, Named}
+use Rattle.engine.specs.Names.{next-top, top-from, Names, NamesGiven, Named}
 use Rattle.engine.specs.Memory.{layout-words}
 use Rattle.engine.specs.declared.terms.walk.Shape.{Shape}
 use Rattle.engine.specs.declared.terms.walk.Shape.the-variants.{Open, Atom as Leaf, Pair}
@@ -20,18 +20,18 @@ use Rattle.engine.proofs.SizeLaws.{followed-size, first-reach, second-r
 use Rattle.engine.proofs.NameLaws.{top-snoc, word-none, word-snoc-same, word-snoc-other, distinct-init, names-few, has-name, no-name, named-still, named-trans}
 
 -- what `follow` tells
-abbrev pub Told : List ℕ → List ℕ → ℕ → Shape → Type 0
-Told ws s w r = (t : Term) → Resolves ws s w t → Shaped ws s r t
+abbrev pub FollowedAs : List ℕ → List ℕ → ℕ → Shape → Type 0
+FollowedAs ws s w r = (t : Term) → Resolves ws s w t → Shaped ws s r t
 
 -- by cases, where the answer is known
-pub told-open : {ws s : List ℕ} {w x : ℕ} {r : Shape} (t : Term) → Told ws s w r → r ≡ Open x → Resolves ws s w t → (t ≡ var x) × (x < 2048)
+pub told-open : {ws s : List ℕ} {w x : ℕ} {r : Shape} (t : Term) → FollowedAs ws s w r → r ≡ Open x → Resolves ws s w t → (t ≡ var x) × (x < 2048)
 unfolding Shaped
 told-open {ws} {s} t f e h = rw e at (f t h)
 
-pub told-leaf : {ws s : List ℕ} {w v : ℕ} {r : Shape} (t : Term) → Told ws s w r → r ≡ Leaf v → Resolves ws s w t → Shaped ws s (Leaf v) t
+pub told-leaf : {ws s : List ℕ} {w v : ℕ} {r : Shape} (t : Term) → FollowedAs ws s w r → r ≡ Leaf v → Resolves ws s w t → Shaped ws s (Leaf v) t
 told-leaf t f e h = rw e at (f t h)
 
-pub told-pair : {ws s : List ℕ} {w a b : ℕ} {r : Shape} (t : Term) → Told ws s w r → r ≡ Pair a b → Resolves ws s w t → Shaped ws s (Pair a b) t
+pub told-pair : {ws s : List ℕ} {w a b : ℕ} {r : Shape} (t : Term) → FollowedAs ws s w r → r ≡ Pair a b → Resolves ws s w t → Shaped ws s (Pair a b) t
 told-pair t f e h = rw e at (f t h)
 
 -- a pair and its parts
@@ -44,7 +44,7 @@ pub record Halves (ws s : List ℕ) (w a b : ℕ) (t : Term) : Type 0 where
   pub first-falls : followed-size ws s a < followed-size ws s w
   pub second-falls : {s′ : List ℕ} → Resolves ws s′ b second → followed-size ws s′ b < followed-size ws s w
 
-pub halved : {ws s : List ℕ} {w a b : ℕ} {r : Shape} (t : Term) → Told ws s w r → r ≡ Pair a b → Resolves ws s w t → Halves ws s w a b t
+pub halved : {ws s : List ℕ} {w a b : ℕ} {r : Shape} (t : Term) → FollowedAs ws s w r → r ≡ Pair a b → Resolves ws s w t → Halves ws s w a b t
 unfolding Shaped
 halved {ws} {s} {w} t f e h =
     let p = told-pair t f e h in
@@ -62,7 +62,7 @@ pub record Naming (ws s₀ s : List ℕ) (w top : ℕ) (goal : List ℕ) : Type 
 pub naming-start : {ws s : List ℕ} {w top : ℕ} (t : Term) (names : List ℕ) → Resolves ws s w t → Names s top names → Naming ws s s w top (appear names t)
 naming-start t names h g = record { term = t; names = names; here = h; named = named-still g; same = refl }
 
-module _ {ws s₀ s : List ℕ} {w top : ℕ} {goal : List ℕ} {r : Shape} (g : Naming ws s₀ s w top goal) (f : Told ws s w r) where
+module _ {ws s₀ s : List ℕ} {w top : ℕ} {goal : List ℕ} {r : Shape} (g : Naming ws s₀ s w top goal) (f : FollowedAs ws s w r) where
   pub naming-low : {x : ℕ} → r ≡ Open x → x < 2048
   naming-low e = told-open (g .term) f e (g .here) .1
 
@@ -103,7 +103,7 @@ pub record Asking (ws s : List ℕ) (w : ℕ) (names : List ℕ) (goal : Bool) :
   pub here : Resolves ws s w term
   pub same : vars-in names term ≡ goal
 
-module _ {ws s : List ℕ} {w : ℕ} {names : List ℕ} {goal : Bool} {r : Shape} (given : Given s names) (g : Asking ws s w names goal) (f : Told ws s w r) where
+module _ {ws s : List ℕ} {w : ℕ} {names : List ℕ} {goal : Bool} {r : Shape} (given : NamesGiven s names) (g : Asking ws s w names goal) (f : FollowedAs ws s w r) where
   pub asking-low : {x : ℕ} → r ≡ Open x → x < 2048
   asking-low e = told-open (g .term) f e (g .here) .1
 
@@ -120,7 +120,7 @@ module _ {ws s : List ℕ} {w : ℕ} {names : List ℕ} {goal : Bool} {r : Shape
   pub asking-pair : {a b : ℕ} → r ≡ Pair a b → Halves ws s w a b (g .term)
   asking-pair e = halved (g .term) f e (g .here)
 
-  module _ {a b : ℕ} {q : Bool} (e : r ≡ Pair a b) (n : (t : Term) (names : List ℕ) → Resolves ws s a t → Given s names → q ≡ vars-in names t) where
+  module _ {a b : ℕ} {q : Bool} (e : r ≡ Pair a b) (n : (t : Term) (names : List ℕ) → Resolves ws s a t → NamesGiven s names → q ≡ vars-in names t) where
     both : (q && vars-in names (asking-pair e .second)) ≡ goal
     both = let p = asking-pair e in ap (λ k. k && vars-in names (p .second)) (n (p .first) names (p .first-here) given) ∙ ap (vars-in names) (sym (p .is)) ∙ g .same
 

@@ -21,7 +21,7 @@ use Rattle.engine.proofs.TrailLaws.{fresh-few}
 use Rattle.engine.proofs.FrameLaws.{bindings-same}
 use Rattle.engine.proofs.LookLaws.{Looking, looking-start, looking-end, looking-steps, looking-path, looking-on}
 use Rattle.engine.proofs.NameLaws.{named-still, named-trans}
-use Rattle.engine.proofs.PutLaws.{room-same, laid-none, laid-then, missing-then, missing-more, laid-of, missing-of}
+use Rattle.engine.proofs.TermLaws.{room-same, laid-none, laid-then, missing-then, missing-more, laid-of, missing-of}
 
 -- the parameters that are left
 parameters-next : (x n : ℕ) → x < n → parameters x (n - x) ≡ var x ∷ parameters (x + 1) (n - (x + 1))

@@ -20,7 +20,7 @@ use Rattle.engine.specs.Memory.{BindingsIn, KeptIn}
 use Rattle.engine.specs.Walk.{NodeAt, Binds, Follows}
 use Rattle.engine.specs.Trail.{Trailed, Undone, Apart}
 use Rattle.engine.specs.Scan.{ScanAs, scan-says}
-use Rattle.engine.specs.Unify.{Meets, Went, UnifiedAs}
+use Rattle.engine.specs.Unify.{TwoTerms, Went, UnifiedAs}
 use Rattle.engine.specs.Review.{atom-kind, other-kind, ConstraintsHeld, review-says, ReviewedAs}
 use Rattle.engine.specs.declared.terms.scan.Scanned.{Scanned}
 use Rattle.engine.specs.declared.terms.scan.Scanned.the-variants as scanned
@@ -277,7 +277,7 @@ pub record Trial (ws s₁ : List ℕ) (bs : Substitution) (trail n : ℕ) : Type
 went-trial : {ws s : List ℕ} {bs : Substitution} {s₁ : List ℕ} {trail n : ℕ} → trail ≡ length bs → Went ws s bs s₁ n → Trial ws s₁ bs trail n
 went-trial {ws} {s} {bs} {s₁} e w = record { new = w .new; trailed = record { long = w .held .long; bindings-in = subst (BindingsIn ws s₁) (w .grows) (w .held .bindings-in); mark-is = e; trail-is = w .trail-is ∙ ap length (w .grows) } }
 
-module _ {ws s : List ℕ} {bs : Substitution} {a : ℕ} {u : Term} {b : ℕ} {v : Term} {trail : ℕ} (left : ℕ) (m : Meets ws s bs a u b v trail) (s₁ : List ℕ) (r : Unified) (told : UnifiedAs ws s s₁ bs (unify-terms bs u v left) r) where
+module _ {ws s : List ℕ} {bs : Substitution} {a : ℕ} {u : Term} {b : ℕ} {v : Term} {trail : ℕ} (left : ℕ) (m : TwoTerms ws s bs a u b v trail) (s₁ : List ℕ) (r : Unified) (told : UnifiedAs ws s s₁ bs (unify-terms bs u v left) r) where
   pub trial-joined : {n rest : ℕ} → r ≡ unified.Joined n rest → Trial ws s₁ bs trail n
   unfolding UnifiedAs
   trial-joined e = went-trial (m .trail-is) ((rw e at told) .0)

@@ -30,7 +30,7 @@ use Rattle.engine.specs.Report.{ran, end-says}
 use Rattle.engine.specs.Take.{PathHeld, RelationIs, OverAs, ResumedAs, BacktrackAs, with-counts, stop-of}
 use Rattle.engine.specs.Search.{Searching, counted-to, Answers, SearchedAs}
 use Rattle.engine.specs.Answer.{answer-says, AnswerStands, AnsweredAs}
-use Rattle.engine.specs.Rounds.{Clean, TallyAs, Starting, RoundedAs, Giving, GoesAs, GivenAs}
+use Rattle.engine.specs.Rounds.{Clean, TallyAs, Starting, RoundedAs, Giving, GoesAs, AnswerGivenAs}
 use Rattle.engine.specs.declared.report.End.{End}
 use Rattle.engine.specs.declared.report.End.the-variants as ends
 use Rattle.engine.specs.declared.report.Bound.the-variants.{Waiting}
@@ -40,8 +40,8 @@ use Rattle.engine.specs.declared.search.state.Searched.{Searched}
 use Rattle.engine.specs.declared.search.state.Searched.the-variants.{Answer, Over, Stops}
 use Rattle.engine.specs.declared.search.state.Resumed.{Resumed}
 use Rattle.engine.specs.declared.search.state.Resumed.the-variants as resumed
-use Rattle.engine.specs.declared.round.Given.{Given}
-use Rattle.engine.specs.declared.round.Given.the-variants.{Ends, Goes}
+use Rattle.engine.specs.declared.round.AnswerGiven.{AnswerGiven}
+use Rattle.engine.specs.declared.round.AnswerGiven.the-variants.{Ends, Goes}
 use Rattle.engine.specs.declared.writer.answer.Answered.{Answered}
 use Rattle.engine.specs.declared.writer.answer.Answered.the-variants.{Written, Full, StepsOut, PathOut}
 use Rattle.engine.specs.declared.round.Tally as code
@@ -173,15 +173,15 @@ module _ {ws : List ℕ} {P : Program} {R : Relation} {k n : ℕ} {a : Tally} {s
   goes-on : {y : Next} → given-then ≡ y → one-round P R k (a .room) (a .left) (a .written) ≡ onward P n k y (λ next. search P n k (x .rest) next)
   goes-on e = h .same ∙ x .same ∙ ap (λ y. onward P n k y (λ next. search P n k (x .rest) next)) e
 
-  module _ (s″ output′ : List ℕ) (g : Given) (told : GivenAs P ws s″ output′ last answers c given-then g) where
+  module _ (s″ output′ : List ℕ) (g : AnswerGiven) (told : AnswerGivenAs P ws s″ output′ last answers c given-then g) where
     pub round-ends : {r : code-rounded.Rounded} → g ≡ Ends r → RoundAs ws P R k a s″ output′ r
-    unfolding GivenAs
+    unfolding AnswerGivenAs
     round-ends {r} e =
         let q : (y : Rounded) × (given-then ≡ over y) × RoundedAs ws s″ output′ P y r = rw e at told in
         subst (λ y. RoundedAs ws s″ output′ P y r) (sym (goes-on (q .1))) (q .2)
 
     pub round-goes : {next : State} {v words : ℕ} → g ≡ Goes next v words → Rounding ws P R k n a s″ output′ next v words (answers + 1) c × (next .steps < st .steps)
-    unfolding GivenAs
+    unfolding AnswerGivenAs
     round-goes {next} {v} {words} e =
         let q : GoesAs P ws s″ output′ last answers c given-then next v words = rw e at told in
         let left-is : q .state .tally .left ≡ next .steps = sym (q .tally .left) in (
@@ -221,8 +221,8 @@ module _ {P : Program} {ws s output : List ℕ} {st : State} {p : Path} {cs : Li
   abbrev given : Next
   given = give P n k cs a (answer p n (st .steps))
 
-  abbrev pub Gave : List ℕ → Given → Type 0
-  Gave s″ x = GivenAs P ws s″ output′ st answers cuts given x
+  abbrev pub Gave : List ℕ → AnswerGiven → Type 0
+  Gave s″ x = AnswerGivenAs P ws s″ output′ st answers cuts given x
 
   spent : {o : Outcome (List ℕ)} → answer p n (st .steps) ≡ o → Spent (st .steps) (st .steps) o
   spent e = subst (Spent (st .steps) (st .steps)) e (answer-spent p n (st .steps))
@@ -232,7 +232,7 @@ module _ {P : Program} {ws s output : List ℕ} {st : State} {p : Path} {cs : Li
 
   -- the round is broken off
   breaks : (e : round.End) (d : End) (l : ℕ) → l ≤ st .steps → given ≡ over (broken e (spend a l)) → end-says d ≡ ran e → Gave s′ (Ends (Broken d (record { left = l; used = used; answers = answers })))
-  unfolding GivenAs RoundedAs
+  unfolding AnswerGivenAs RoundedAs
   breaks e d l few q is = (broken e (spend a l), q, record { end = e; last = spend a l; is-round = refl; tally = fewer-left (a .cuts) (g .tally) few same (said .leaves-lent .before); is-end = is })
 
   pub gives-full : {l : ℕ} → w ≡ Full l → Gave s′ (Ends (Broken ends.Output (record { left = l; used = used; answers = answers })))
@@ -299,11 +299,11 @@ module _ {P : Program} {ws s output : List ℕ} {st : State} {p : Path} {cs : Li
       none-left e = rw e at told
 
       pub gives-last : {s‴ : List ℕ} → r ≡ resumed.Over → Clean ws s‴ P → Gave s‴ (Ends (Completed (record { left = after .steps; used = words; answers = answers + 1 }) cuts))
-      unfolding GivenAs RoundedAs
+      unfolding AnswerGivenAs RoundedAs
       gives-last e clean = (completed (y .tally), y .is-back ∙ none-left e .says, record { last = y .tally; is-round = refl; clean = clean; tally = tally-of left-is; cuts-are = sym (y .cuts-are) })
 
       pub gives-next : {next : State} {v : ℕ} → r ≡ resumed.Goal next v → Gave s″ (Goes next v words)
-      unfolding BacktrackAs GivenAs
+      unfolding BacktrackAs AnswerGivenAs
       gives-next {next} {v} e =
           let b : ResumedAs P ws s″ after (y .tally) (backtrack cs (y .tally)) next v = rw e at told in
           let same-left : next .steps ≡ l = b .left-is ∙ left-is in

@@ -15,7 +15,7 @@ use Rattle.semantics.specs.Invariant.{Without, Open, Good, term-size}
 use Rattle.semantics.proofs.Basics.{compared, same, other}
 use Rattle.semantics.proofs.SubstitutionLaws.{lookup-same, lookup-other, resolve-atom, resolve-pair, resolve-open, resolve-lookup, size}
 use Rattle.engine.specs.Reference.{at, pos-of, beyond, Stands, positions}
-use Rattle.engine.specs.Memory.{Bound, Entry, BindingsIn}
+use Rattle.engine.specs.Memory.{BoundTo, Entry, BindingsIn}
 use Rattle.engine.specs.Walk.{Follows, Resolves}
 use Rattle.engine.proofs.ReferenceLaws.{atom-low, parts, stands-short}
 use Rattle.engine.proofs.TrailLaws.{fresh-few, unbind-in}
@@ -114,7 +114,7 @@ fine-all (b ∷ bs) g es t lt =
 shorts : (ws s : List ℕ) (bs : Substitution) → 4096 ≤ length s → BindingsIn ws s bs → Each (λ (b : ℕ × Term). Short (b .1)) bs
 shorts ws s [] long h = tt
 shorts ws s (b ∷ bs) long h =
-    let i : Bound ws (at s (b .0)) (b .1) = subst (Entry ws (at s (b .0))) (lookup-same (b .0) (b .1) bs (b .0) (eq-eqb (b .0) (b .0) refl)) (h .words (b .0) (h .fresh .0)) in
+    let i : BoundTo ws (at s (b .0)) (b .1) = subst (Entry ws (at s (b .0))) (lookup-same (b .0) (b .1) bs (b .0) (eq-eqb (b .0) (b .0) refl)) (h .words (b .0) (h .fresh .0)) in
     (stands-short (i .stands), shorts ws (set s (b .0) 0) bs (rw length-set long) (unbind-in ws s b bs long h))
 
 -- the size of the resolved term, read off the words
@@ -148,7 +148,7 @@ nodes-size ws s bs g b (suc n) w (var x) f h = go (lookup bs x) refl (b .words x
         let z : at s x ≡ 0 = subst (Entry ws (at s x)) q i in
         rw (eq-eqb (kind-at ws (pos-of w)) 0 k, e, eq-eqb (at s x) 0 z, resolve-open bs x q)
     go (some u) q i f ih =
-        let y : Bound ws (at s x) u = subst (Entry ws (at s x)) q i in
+        let y : BoundTo ws (at s x) u = subst (Entry ws (at s x)) q i in
         rw (eq-eqb (kind-at ws (pos-of w)) 0 k, e, ne-eqb (at s x) 0 (omega (arith, y .some-word)), resolve-lookup bs g x u q) (ih (at s x - 1) u f (y .stands))
 
 -- the measure

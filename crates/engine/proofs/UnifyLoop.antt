@@ -15,7 +15,7 @@ use Rattle.semantics.specs.Unify.{Pairs, unify-next, unify, unify-terms}
 use Rattle.engine.specs.Reference.{at, Stands}
 use Rattle.engine.specs.Memory.{BindingsIn, layout-words}
 use Rattle.engine.specs.Trail.{Same}
-use Rattle.engine.specs.Unify.{Meets, PairGoes, PairParts, PairEnds, PairUnifiedAs, Went, UnifiedAs}
+use Rattle.engine.specs.Unify.{TwoTerms, PairGoes, PairParts, PairEnds, PairUnifiedAs, Went, UnifiedAs}
 use Rattle.engine.specs.declared.terms.unify.PairUnified.{PairUnified}
 use Rattle.engine.specs.declared.terms.unify.PairUnified.the-variants as met
 use Rattle.engine.specs.declared.terms.unify.Unified.the-variants as unified
@@ -49,7 +49,7 @@ pub record Unifying (ws s₀ : List ℕ) (bs₀ : Substitution) (u₀ v₀ : Ter
   pub enough : rest ≤ fuel
   pub same : unify-terms bs₀ u₀ v₀ steps ≡ unify fuel (went .next) pairs left right rest
 
-pub unifying-start : {ws s : List ℕ} {bs : Substitution} {a : ℕ} {u : Term} {b : ℕ} {v : Term} {mark steps : ℕ} → Meets ws s bs a u b v mark → Unifying ws s bs u v steps s a b 0 mark steps
+pub unifying-start : {ws s : List ℕ} {bs : Substitution} {a : ℕ} {u : Term} {b : ℕ} {v : Term} {mark steps : ℕ} → TwoTerms ws s bs a u b v mark → Unifying ws s bs u v steps s a b 0 mark steps
 unifying-start {s = s} {bs = bs} {u = u} {v = v} {steps = steps} m = record {
   went = record { next = bs; new = []; grows = refl; held = m .held; trail-is = m .trail-is; apart = apart-same s };
   pairs = [];
@@ -58,16 +58,16 @@ unifying-start {s = s} {bs = bs} {u = u} {v = v} {steps = steps} m = record {
   few = omega arith;
   left = u;
   right = v;
-  stands-left = m .left;
-  stands-right = m .right;
+  stands-left = m .first;
+  stands-right = m .second;
   fuel = steps;
   enough = omega arith;
   same = refl;
 }
 
 module _ {ws s₀ : List ℕ} {bs₀ : Substitution} {u₀ v₀ : Term} {steps : ℕ} {s : List ℕ} {a b top trail rest : ℕ} (g : Unifying ws s₀ bs₀ u₀ v₀ steps s a b top trail rest) where
-  pub unifying-meets : Meets ws s (g .went .next) a (g .left) b (g .right) trail
-  unifying-meets = record { held = g .went .held; left = g .stands-left; right = g .stands-right; trail-is = g .went .trail-is }
+  pub unifying-meets : TwoTerms ws s (g .went .next) a (g .left) b (g .right) trail
+  unifying-meets = record { held = g .went .held; first = g .stands-left; second = g .stands-right; trail-is = g .went .trail-is }
 
   pub unify-out : rest ≡ 0 → UnifiedAs ws s₀ s bs₀ (unify-terms bs₀ u₀ v₀ steps) (unified.StepsOut trail)
   unfolding UnifiedAs

@@ -23,7 +23,7 @@ use Rattle.engine.specs.Reference.{at, AtomIs, base-of, Stands}
 use Rattle.engine.specs.Memory.{trail-at, BindingsIn, bound}
 use Rattle.engine.specs.Walk.{NodeAt, Binds, Follows}
 use Rattle.engine.specs.Scan.{ScanAs, scan-says}
-use Rattle.engine.specs.Unify.{BindsTo, PartsTo, ComparedAs, Meets, PairGoes, PairUnifiedAs}
+use Rattle.engine.specs.Unify.{BindsTo, PartsTo, ComparedAs, TwoTerms, PairGoes, PairUnifiedAs}
 use Rattle.engine.specs.declared.terms.scan.Scanned.{Scanned}
 use Rattle.engine.specs.declared.terms.scan.Scanned.the-variants as scanned
 use Rattle.engine.specs.declared.terms.unify.Compared.{Compared}
@@ -118,12 +118,12 @@ module _ {ws : List ℕ} {a bits k p b bits′ k′ p′ : ℕ} (left : NodeAt w
 
 -- One pair met
 
-module _ {ws s : List ℕ} {bs : Substitution} {a : ℕ} {u : Term} {b : ℕ} {v : Term} {trail steps : ℕ} (some-left : 0 < steps) (m : Meets ws s bs a u b v trail) where
-  pub meets-left : Follows ws s bs a u
-  meets-left = record { binds = m .held; stands = m .left }
+module _ {ws s : List ℕ} {bs : Substitution} {a : ℕ} {u : Term} {b : ℕ} {v : Term} {trail steps : ℕ} (some-left : 0 < steps) (m : TwoTerms ws s bs a u b v trail) where
+  pub meets-first : Follows ws s bs a u
+  meets-first = record { binds = m .held; stands = m .first }
 
-  pub meets-right : Follows ws s bs b v
-  meets-right = record { binds = m .held; stands = m .right }
+  pub meets-second : Follows ws s bs b v
+  meets-second = record { binds = m .held; stands = m .second }
 
   one-more : steps ≡ suc (steps - 1)
   one-more = omega arith

@@ -32,7 +32,7 @@ use Rattle.engine.specs.declared.writer.look.Looked.the-variants as look
 use Rattle.engine.specs.Line.{Equations}
 use Rattle.engine.specs.Trial.{EquationsKept}
 use Rattle.engine.specs.Lines.{add-line, add-lines, occurrences}
-use Rattle.engine.proofs.PageLaws.{same-self, any-snoc}
+use Rattle.engine.proofs.AddLineLaws.{same-self, any-snoc}
 use Rattle.engine.proofs.LinesLaws.{lacks-append, add-append}
 
 -- a line that would not be added

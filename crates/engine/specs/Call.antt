@@ -14,7 +14,7 @@ use Rattle.engine.specs.Trail.{Apart}
 use Rattle.rules.specs.Settings.{most-words}
 
 -- Parameters under way: `count` arguments from the reference w on are left for the variables from x on, the trail has n entries, and what is left leads to the substitution `whole`.
-pub record Passing (ws s₀ s : List ℕ) (base to : ℕ) (whole : Substitution) (x n w count : ℕ) : Type 0 where
+pub record BindingParameters (ws s₀ s : List ℕ) (base to : ℕ) (whole : Substitution) (x n w count : ℕ) : Type 0 where
   pub from : ℕ
   pub is-w : w ≡ refer from base
   pub args : List Term
@@ -35,7 +35,7 @@ pub record Passing (ws s₀ s : List ℕ) (base to : ℕ) (whole : Substitution)
   pub apart : Apart s₀ s
 
 -- all are passed
-pub record Passed (ws s₀ s : List ℕ) (whole : Substitution) (n : ℕ) : Type 0 where
+pub record ParametersBound (ws s₀ s : List ℕ) (whole : Substitution) (n : ℕ) : Type 0 where
   pub bindings-in : BindingsIn ws s whole
   pub apart : Apart s₀ s
   pub is-n : n ≡ length whole

@@ -11,7 +11,7 @@ use Rattle.semantics.specs.Invariant.{Unforced, Passes}
 use Rattle.engine.specs.Reference.{KeepsAt}
 use Rattle.engine.specs.Memory.{BindingsIn}
 use Rattle.engine.specs.Walk.{Binds}
-use Rattle.engine.specs.Unify.{Meets}
+use Rattle.engine.specs.Unify.{TwoTerms}
 use Rattle.engine.specs.Trail.{Apart}
 use Rattle.engine.specs.Term.{Touched}
 use Rattle.engine.specs.Lines.{Writing, Extended}
@@ -35,7 +35,7 @@ pub record AddedAs (ws s s′ : List ℕ) {out : List ℕ} {first end place : �
 
 -- A disequality whose line is to be added: not every assignment of the path makes the two equal, so a trial that succeeds binds something.
 pub record Differs (ws s : List ℕ) (bs : Substitution) (a : ℕ) (u : Term) (b : ℕ) (v : Term) (trail : ℕ) : Type 0 where
-  pub meets : Meets ws s bs a u b v trail
+  pub meets : TwoTerms ws s bs a u b v trail
   pub unforced : Unforced bs u v
 
 -- a constraint of those kept, whose lines are to be added; its review has passed

@@ -10,7 +10,7 @@ use Rattle.rules.specs.Written.{part, atom-word, sort-kind}
 use Rattle.rules.specs.Inner.{Spells}
 use Rattle.semantics.specs.Answer.{Line, line-words, stays}
 use Rattle.engine.specs.Walk.{Resolves}
-use Rattle.engine.specs.Names.{Given}
+use Rattle.engine.specs.Names.{NamesGiven}
 use Rattle.engine.specs.Term.{Room, Touched, Laid}
 
 -- words one after the other
@@ -64,7 +64,7 @@ pub record Writing (s out : List ℕ) (first end place : ℕ) : Type 0 where
   pub lines : List (List ℕ)
   pub names : List ℕ
   pub page : AnswerSoFar before out begin first end place head lines
-  pub given : Given s names
+  pub given : NamesGiven s names
   pub room : Room out end
 
 -- and with these lines more

@@ -47,13 +47,13 @@ abbrev pub saved : List ℕ → ℕ → Registers
 saved s n = record { head = at s (point-at n + 2); trail = at s (point-at n + 3); variables = at s (point-at n + 4); goals = at s (point-at n + 5); constraints = at s (point-at n + 6); calls = at s (point-at n + 7) }
 
 -- Bindings. The word of a variable says what it is bound to; every word below 2048 is right, of variables not made too.
-pub record Bound (ws : List ℕ) (w : ℕ) (t : Term) : Type 0 where
+pub record BoundTo (ws : List ℕ) (w : ℕ) (t : Term) : Type 0 where
   pub some-word : 0 < w
   pub stands : Stands ws (w - 1) t
 
 abbrev pub Entry : List ℕ → ℕ → Option Term → Type 0
 Entry ws w none = w ≡ 0
-Entry ws w (some t) = Bound ws w t
+Entry ws w (some t) = BoundTo ws w t
 
 -- the trail names the variables in order
 abbrev pub TrailIn : List ℕ → Substitution → Type 0
@@ -70,7 +70,7 @@ pub record BindingsIn (ws s : List ℕ) (bs : Substitution) : Type 0 where
   pub trail : TrailIn s bs
   pub fresh : Fresh bs
 
--- Waiting goals: linked cells, all of them below `put`.
+-- Waiting goals: linked cells, as many as goals were put to wait.
 pub record CellIn (ws s : List ℕ) (put h : ℕ) (task : Task) : Type 0 where
   pub is-cell : 0 < h
   pub low : h ≤ put

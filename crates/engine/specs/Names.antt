@@ -36,7 +36,7 @@ pub record Names (s : List ℕ) (top : ℕ) (names : List ℕ) : Type 0 where
   pub distinct : Distinct names
 
 -- names are given, in a scratch that is long enough
-pub record Given (s : List ℕ) (names : List ℕ) : Type 0 where
+pub record NamesGiven (s : List ℕ) (names : List ℕ) : Type 0 where
   pub long : layout-words ≤ length s
   pub top : ℕ
   pub named : Names s top names

@@ -17,8 +17,8 @@ use Rattle.engine.specs.Answer.{Answering}
 use Rattle.engine.specs.declared.report.End.{End}
 use Rattle.engine.specs.declared.report.Report.{Report}
 use Rattle.engine.specs.declared.search.state.State.{State}
-use Rattle.engine.specs.declared.round.Given.{Given}
-use Rattle.engine.specs.declared.round.Given.the-variants.{Ends, Goes}
+use Rattle.engine.specs.declared.round.AnswerGiven.{AnswerGiven}
+use Rattle.engine.specs.declared.round.AnswerGiven.the-variants.{Ends, Goes}
 use Rattle.engine.specs.declared.round.Tally.{Tally}
 use Rattle.engine.specs.declared.round.Rounded.{Rounded}
 use Rattle.engine.specs.declared.round.Rounded.the-variants.{Completed, Broken}
@@ -87,9 +87,9 @@ pub record GoesAs (P : Program) (ws s′ output′ : List ℕ) (st : State) (ans
   pub cuts-are : state .tally .cuts ≡ cuts
   pub fewer : next .steps ≤ st .steps
 
-unfoldable pub GivenAs : Program → List ℕ → List ℕ → List ℕ → State → ℕ → ℕ → definition.Next → Given → Type 0
-GivenAs P ws s′ output′ st answers cuts x (Ends r) = (y : definition.Rounded) × (x ≡ definition.over y) × RoundedAs ws s′ output′ P y r
-GivenAs P ws s′ output′ st answers cuts x (Goes next goal words) = GoesAs P ws s′ output′ st answers cuts x next goal words
+unfoldable pub AnswerGivenAs : Program → List ℕ → List ℕ → List ℕ → State → ℕ → ℕ → definition.Next → AnswerGiven → Type 0
+AnswerGivenAs P ws s′ output′ st answers cuts x (Ends r) = (y : definition.Rounded) × (x ≡ definition.over y) × RoundedAs ws s′ output′ P y r
+AnswerGivenAs P ws s′ output′ st answers cuts x (Goes next goal words) = GoesAs P ws s′ output′ st answers cuts x next goal words
 
 -- a report is that of a result, and the output begins with its answers
 pub record ResultAs (output′ : List ℕ) (x : definition.Result) (r : Report) : Type 0 where

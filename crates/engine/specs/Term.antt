@@ -6,7 +6,7 @@ use mathlib.Core.List.{List}
 use lib.ListN.{length}
 use Rattle.rules.specs.Inner.{Spells}
 use Rattle.engine.specs.Reference.{at}
-use Rattle.engine.specs.Names.{Given}
+use Rattle.engine.specs.Names.{NamesGiven}
 use Rattle.engine.specs.declared.writer.term.Put.{Put}
 use Rattle.engine.specs.declared.writer.term.Put.the-variants.{End, Missed}
 
@@ -19,7 +19,7 @@ pub record Room (o : List ℕ) (end : ℕ) : Type 0 where
 pub record Puts (s o : List ℕ) (start end : ℕ) (names : List ℕ) (all-named : Bool) : Type 0 where
   pub from : start ≤ end
   pub room : Room o end
-  pub given : Given s names
+  pub given : NamesGiven s names
   pub known : all-named ≡ true
 
 -- only words from `from` up to `to` were touched

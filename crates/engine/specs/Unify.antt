@@ -16,7 +16,7 @@ use Rattle.engine.specs.Trail.{Apart}
 use Rattle.engine.specs.declared.terms.unify.Compared.{Compared}
 use Rattle.engine.specs.declared.terms.unify.Compared.the-variants as compared
 use Rattle.engine.specs.declared.terms.unify.PairUnified.{PairUnified}
-use Rattle.engine.specs.declared.terms.unify.PairUnified.the-variants as met
+use Rattle.engine.specs.declared.terms.unify.PairUnified.the-variants as pair
 use Rattle.engine.specs.declared.terms.unify.Unified.{Unified}
 use Rattle.engine.specs.declared.terms.unify.Unified.the-variants as unified
 
@@ -45,13 +45,13 @@ ComparedAs ws o compared.Agrees = o ≡ agrees
 ComparedAs ws o (compared.Binds x w) = BindsTo ws o x w
 ComparedAs ws o (compared.Parts a b c d) = PartsTo ws o a b c d
 
--- `meet`: one pair looked at, with its occurs check and binding
+-- `unify_pair`: one pair looked at, with its occurs check and binding
 
 -- two terms by reference, with a path's bindings and as many entries on the trail
-pub record Meets (ws s : List ℕ) (bs : Substitution) (a : ℕ) (u : Term) (b : ℕ) (v : Term) (trail : ℕ) : Type 0 where
+pub record TwoTerms (ws s : List ℕ) (bs : Substitution) (a : ℕ) (u : Term) (b : ℕ) (v : Term) (trail : ℕ) : Type 0 where
   pub held : Binds ws s bs
-  pub left : Stands ws a u
-  pub right : Stands ws b v
+  pub first : Stands ws a u
+  pub second : Stands ws b v
   pub trail-is : trail ≡ length bs
 
 pub record PairGoes (ws s s′ : List ℕ) (bs : Substitution) (u v : Term) (steps n left : ℕ) : Type 0 where
@@ -82,11 +82,11 @@ pub record PairEnds (s s′ : List ℕ) (bs : Substitution) (u v : Term) (steps 
   pub same : (fuel : ℕ) (vs : Pairs) → unify (suc fuel) bs vs u v steps ≡ o
 
 unfoldable pub PairUnifiedAs : List ℕ → List ℕ → List ℕ → Substitution → Term → Term → ℕ → PairUnified → Type 0
-PairUnifiedAs ws s s′ bs u v steps (met.Fails left) = PairEnds s s′ bs u v steps (done none left)
-PairUnifiedAs ws s s′ bs u v steps (met.Goes n left) = PairGoes ws s s′ bs u v steps n left
-PairUnifiedAs ws s s′ bs u v steps (met.Parts a b c d) = PairParts ws s s′ bs u v steps a b c d
-PairUnifiedAs ws s s′ bs u v steps met.StepsOut = PairEnds s s′ bs u v steps (stop no-steps 0)
-PairUnifiedAs ws s s′ bs u v steps (met.PathOut left) = PairEnds s s′ bs u v steps (stop (at-bound waiting) left)
+PairUnifiedAs ws s s′ bs u v steps (pair.Fails left) = PairEnds s s′ bs u v steps (done none left)
+PairUnifiedAs ws s s′ bs u v steps (pair.Goes n left) = PairGoes ws s s′ bs u v steps n left
+PairUnifiedAs ws s s′ bs u v steps (pair.Parts a b c d) = PairParts ws s s′ bs u v steps a b c d
+PairUnifiedAs ws s s′ bs u v steps pair.StepsOut = PairEnds s s′ bs u v steps (stop no-steps 0)
+PairUnifiedAs ws s s′ bs u v steps (pair.PathOut left) = PairEnds s s′ bs u v steps (stop (at-bound waiting) left)
 
 -- `unify`
 

@@ -9,6 +9,7 @@ mod terms;
 mod writer;
 
 use crate::clear::clear;
+pub use crate::layout::SCRATCH_WORDS;
 pub use crate::report::Bound;
 pub use crate::report::End;
 pub use crate::report::Report;
@@ -45,7 +46,7 @@ pub fn run(
     if 255 < rounds {
         return refuse(9, 0);
     }
-    if scratch.len() < 16384 {
+    if scratch.len() < SCRATCH_WORDS {
         return refuse(9, 0);
     }
     match rules::check(program) {

@@ -21,7 +21,7 @@ ghost use Rattle.semantics.specs.Answer.{answer};
 ghost use Rattle.semantics.specs.Round as definition;
 ghost use Rattle.engine.specs.Report.{ran, end-says};
 ghost use Rattle.engine.specs.Take.{PathHeld, stop-of};
-ghost use Rattle.engine.specs.Rounds.{Clean, Starting, RoundedAs, Giving, GivenAs};
+ghost use Rattle.engine.specs.Rounds.{Clean, Starting, RoundedAs, Giving, AnswerGivenAs};
 ghost use Rattle.engine.specs.declared.round.Rounded.the-variants.{Completed, Broken};
 
 pub struct Tally {
@@ -39,7 +39,7 @@ pub enum Rounded {
 }
 
 // What comes of an answer: the round's end, or a goal to be taken next, by its reference, and the output words used then.
-enum Given {
+enum AnswerGiven {
     Ends(Rounded),
     Goes(State, u32, u32),
 }
@@ -93,16 +93,16 @@ fn give(
     used: u32,
     answers: u32,
     cuts: u32,
-) -> Given
+) -> AnswerGiven
     requires { ⌜ ((P : Program) × (p : Path) × (cs : List ChoicePoint) × (a : definition.Tally) × Giving P (now program) (now scratch) (now output) st p cs params used answers cuts a) ⌝ }
     ensures { λ r. ⌜ ((P : Program) (k : ℕ) (p : Path) (cs : List ChoicePoint) (a : definition.Tally)
         → Giving P (now (program .entry)) (now (scratch .entry)) (now (output .entry)) st p cs params used answers cuts a
-        → GivenAs P (now (program .entry)) (now (scratch .exit)) (now (output .exit)) st answers cuts (definition.give P params k cs a (answer p params (st .steps))) r) ⌝ }
+        → AnswerGivenAs P (now (program .entry)) (now (scratch .exit)) (now (output .exit)) st answers cuts (definition.give P params k cs a (answer p params (st .steps))) r) ⌝ }
 {
     match write_answer(program, scratch, output, st, params, used) {
-        Answered::Full(left) => Given::Ends(broken(End::Output, left, used, answers)),
-        Answered::StepsOut => Given::Ends(broken(End::Steps, 0, used, answers)),
-        Answered::PathOut(left) => Given::Ends(broken(
+        Answered::Full(left) => AnswerGiven::Ends(broken(End::Output, left, used, answers)),
+        Answered::StepsOut => AnswerGiven::Ends(broken(End::Steps, 0, used, answers)),
+        Answered::PathOut(left) => AnswerGiven::Ends(broken(
             End::Path(Bound::Waiting),
             left,
             used,
@@ -111,8 +111,14 @@ fn give(
         Answered::Written(words, left) => {
             let after = with_counts(st, st.trail, st.constraints, left);
             match backtrack(program, scratch, after) {
-                Resumed::Over => Given::Ends(completed(scratch, after, words, answers + 1, cuts)),
-                Resumed::Goal(next, goal) => Given::Goes(next, goal, words),
+                Resumed::Over => AnswerGiven::Ends(completed(
+                    scratch,
+                    after,
+                    words,
+                    answers + 1,
+                    cuts,
+                )),
+                Resumed::Goal(next, goal) => AnswerGiven::Goes(next, goal, words),
             }
         }
     }
@@ -157,10 +163,10 @@ pub(crate) fn round(
             }
             Searched::Answer(last, cut) => {
                 match give(program, scratch, output, last, params, used, answers, cut) {
-                    Given::Ends(rounded) => {
+                    AnswerGiven::Ends(rounded) => {
                         return rounded;
                     }
-                    Given::Goes(next, found, words) => {
+                    AnswerGiven::Goes(next, found, words) => {
                         state = next;
                         goal = found;
                         used = words;

@@ -19,7 +19,7 @@ use Rattle.semantics.proofs.Basics.{clash}
 use Rattle.engine.specs.Report.{end-says, report-ended, RunPromise}
 use Rattle.engine.specs.declared.report.End.{End}
 use Rattle.engine.specs.declared.report.Report.{Report}
-use Rattle.exports.specs.Numbers.{end-numbers, numbers, call, Called}
+use Rattle.exports.specs.Numbers.{end-numbers, numbers, call, CallPromise}
 use Rattle.exports.specs.declared.EndNumbers.{EndNumbers}
 
 -- an end in numbers, case by case
@@ -66,12 +66,12 @@ module _ (words : List ℕ) (round-limit step-limit : ℕ) (output scratch lent 
       omega (arith, z, place-of (returns-by as-written words round-limit step-limit (length output) (length scratch)) refl)
 
   -- too few words are lent
-  pub called-short : length lent < 7 → Called words round-limit step-limit output scratch lent 0 output scratch lent
+  pub called-short : length lent < 7 → CallPromise words round-limit step-limit output scratch lent 0 output scratch lent
   called-short h = record { is-call = simp (lt-leb 7 (length lent) h); demands = λ e. absurd (omega arith) }
 
   pub called-run : (r : Report) (output′ scratch′ : List ℕ) (n : EndNumbers) → 7 ≤ length lent → RunPromise words round-limit step-limit output scratch r output′ scratch′
       → end-numbers (end-says (r .end)) ≡ n .end ∷ n .which ∷ n .place ∷ []
-      → Called words round-limit step-limit output scratch lent 7 output′ scratch′ (set (set (set (set (set (set (set lent 0 (n .end)) 1 (n .which)) 2 (n .place)) 3 (r .round)) 4 (r .steps)) 5 (r .answers)) 6 (r .words))
+      → CallPromise words round-limit step-limit output scratch lent 7 output′ scratch′ (set (set (set (set (set (set (set lent 0 (n .end)) 1 (n .which)) 2 (n .place)) 3 (r .round)) 4 (r .steps)) 5 (r .answers)) 6 (r .words))
   called-run r output′ scratch′ n h k e =
       record {
         is-call = answered (run-as-written words round-limit step-limit output scratch) output′ scratch′ _ (k .says .is-output) (k .says .is-scratch) (seven lent (n .end) (n .which) (n .place) (r .round) (r .steps) (r .answers) (r .words) h ∙ told);

@@ -44,6 +44,6 @@ call x output scratch lent =
     (λ _. record { result = 0; output = output; scratch = scratch; numbers = lent })
 
 -- The promise of `kindcanvas_run`, with the demands of what was run.
-pub record Called (words : List ℕ) (round-limit step-limit : ℕ) (output scratch lent : List ℕ) (result : ℕ) (output-after scratch-after lent-after : List ℕ) : Type 0 where
+pub record CallPromise (words : List ℕ) (round-limit step-limit : ℕ) (output scratch lent : List ℕ) (result : ℕ) (output-after scratch-after lent-after : List ℕ) : Type 0 where
   pub is-call : call (run.run-as-written words round-limit step-limit output scratch) output scratch lent ≡ record { result = result; output = output-after; scratch = scratch-after; numbers = lent-after }
   pub demands : result ≡ 7 → Demands words round-limit step-limit output scratch output-after scratch-after (run.run-as-written words round-limit step-limit output scratch .report)

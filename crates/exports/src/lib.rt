@@ -6,7 +6,7 @@ ghost use mathlib.Core.List.{[], _∷_};
 ghost use Rattle.rules.specs.Accept.{read};
 ghost use Rattle.rules.specs.Verdict.{said};
 ghost use Rattle.engine.specs.Report.{end-says};
-ghost use Rattle.exports.specs.Numbers.{Called, end-numbers, packed};
+ghost use Rattle.exports.specs.Numbers.{CallPromise, end-numbers, packed};
 
 // 0 if the program is accepted, else the number times 2^32 plus the place.
 #[no_mangle]
@@ -55,7 +55,7 @@ pub extern "C" fn kindcanvas_run(
     scratch: &mut [u32],
     numbers: &mut [u32],
 ) -> u32
-    ensures { λ r. ⌜ Called (now (program .entry)) rounds steps (now (output .entry)) (now (scratch .entry)) (now (numbers .entry)) r (now (output .exit)) (now (scratch .exit)) (now (numbers .exit)) ⌝ }
+    ensures { λ r. ⌜ CallPromise (now (program .entry)) rounds steps (now (output .entry)) (now (scratch .entry)) (now (numbers .entry)) r (now (output .exit)) (now (scratch .exit)) (now (numbers .exit)) ⌝ }
 {
     if numbers.len() < 7 {
         return 0;

@@ -22,7 +22,7 @@ ghost use Rattle.semantics.specs.Path.{Path, ChoicePoint, take-call};
 ghost use Rattle.engine.specs.Reference.{Stands};
 ghost use Rattle.engine.specs.Walk.{Follows};
 ghost use Rattle.engine.specs.Take.{GoalReady, TookAs};
-ghost use Rattle.engine.specs.Call.{Passing, Passed};
+ghost use Rattle.engine.specs.Call.{BindingParameters, ParametersBound};
 
 // What a parameter is bound to: its argument, but of a variable the last variable on its way.
 fn last_variable(program: &[u32], scratch: &[u32], term: u32) -> u32
@@ -55,9 +55,9 @@ fn bind_parameters(
     count: u32,
     trail: u32,
 ) -> u32
-    requires { ⌜ ((base : ℕ) × (to : ℕ) × (whole : Substitution) × Passing (now program) (now scratch) (now scratch) base to whole first trail arguments count) ⌝ }
-    ensures { λ r. ⌜ ((base to : ℕ) (whole : Substitution) → Passing (now (program .entry)) (now (scratch .entry)) (now (scratch .entry)) base to whole first trail arguments count
-        → Passed (now (program .entry)) (now (scratch .entry)) (now (scratch .exit)) whole r) ⌝ }
+    requires { ⌜ ((base : ℕ) × (to : ℕ) × (whole : Substitution) × BindingParameters (now program) (now scratch) (now scratch) base to whole first trail arguments count) ⌝ }
+    ensures { λ r. ⌜ ((base to : ℕ) (whole : Substitution) → BindingParameters (now (program .entry)) (now (scratch .entry)) (now (scratch .entry)) base to whole first trail arguments count
+        → ParametersBound (now (program .entry)) (now (scratch .entry)) (now (scratch .exit)) whole r) ⌝ }
 {
     let mut at = arguments;
     let mut variable = first;

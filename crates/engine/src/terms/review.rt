@@ -17,7 +17,7 @@ ghost use Rattle.semantics.specs.Substitution.{Substitution, walk};
 ghost use Rattle.semantics.specs.Steps.{and-then, done};
 ghost use Rattle.semantics.specs.Unify as unification;
 ghost use Rattle.semantics.specs.Review as definition;
-ghost use Rattle.engine.specs.Unify.{Meets};
+ghost use Rattle.engine.specs.Unify.{TwoTerms};
 ghost use Rattle.engine.specs.Review.{other-kind, ConstraintsHeld, Constrains, Reviews, Typing, review-says, ReviewedAs};
 
 // A number is the steps left.
@@ -136,8 +136,8 @@ fn review_differ(
     trail: u32,
     left: u32,
 ) -> Reviewed
-    requires { ⌜ ((bs : Substitution) × (u : Term) × (v : Term) × Meets (now program) (now scratch) bs first u second v trail) ⌝ }
-    ensures { λ r. ⌜ ((bs : Substitution) (u v : Term) → Meets (now (program .entry)) (now (scratch .entry)) bs first u second v trail
+    requires { ⌜ ((bs : Substitution) × (u : Term) × (v : Term) × TwoTerms (now program) (now scratch) bs first u second v trail) ⌝ }
+    ensures { λ r. ⌜ ((bs : Substitution) (u v : Term) → TwoTerms (now (program .entry)) (now (scratch .entry)) bs first u second v trail
         → ReviewedAs (now (program .entry)) (now (scratch .entry)) (now (scratch .exit)) bs (and-then (unification.unify-terms bs u v left) (λ o l. done (definition.trial-fails bs o) l)) r) ⌝ }
 {
     match unify(&*program, scratch, first, second, trail, left) {

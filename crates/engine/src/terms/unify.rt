@@ -15,9 +15,9 @@ ghost use Rattle.semantics.specs.Substitution.{Substitution};
 ghost use Rattle.semantics.specs.Unify.{look, unify-terms};
 ghost use Rattle.engine.specs.Reference.{Stands};
 ghost use Rattle.engine.specs.Walk.{IsNode};
-ghost use Rattle.engine.specs.Unify.{ComparedAs, Meets, PairUnifiedAs, UnifiedAs};
+ghost use Rattle.engine.specs.Unify.{ComparedAs, TwoTerms, PairUnifiedAs, UnifiedAs};
 
-// What two followed terms come to: a variable is to be bound to a term, or the parts (first and second of the left, then of the right) are to be equal.
+// What two followed terms come to: a variable is to be bound to a term, or the parts (first and second of the one, then of the other) are to be equal.
 pub enum Compared {
     Fails,
     Agrees,
@@ -47,34 +47,34 @@ fn compare(a: Walked, b: Walked) -> Compared
     requires { ⌜ ((ws : List ℕ) × (u : Term) × (v : Term) × IsNode ws a × IsNode ws b × Stands ws (a .at) u × Stands ws (b .at) v) ⌝ }
     ensures { λ r. ⌜ ((ws : List ℕ) (u v : Term) → IsNode ws a → IsNode ws b → Stands ws (a .at) u → Stands ws (b .at) v → ComparedAs ws (look u v) r) ⌝ }
 {
-    let left = a.at;
-    let right = b.at;
+    let a_at = a.at;
+    let b_at = b.at;
     let a_kind = a.kind;
     let b_kind = b.kind;
     let a_payload = a.payload;
     let b_payload = b.payload;
     if a_kind == Word::VARIABLE {
-        let x = variable_at(left, a_payload);
+        let x = variable_at(a_at, a_payload);
         if b_kind != Word::VARIABLE {
-            return Compared::Binds(x, right);
+            return Compared::Binds(x, b_at);
         }
-        if variable_at(right, b_payload) == x {
+        if variable_at(b_at, b_payload) == x {
             return Compared::Agrees;
         }
-        return Compared::Binds(x, right);
+        return Compared::Binds(x, b_at);
     }
     if b_kind == Word::VARIABLE {
-        return Compared::Binds(variable_at(right, b_payload), left);
+        return Compared::Binds(variable_at(b_at, b_payload), a_at);
     }
     if a_kind == Word::PAIR {
         if b_kind != Word::PAIR {
             return Compared::Fails;
         }
         return Compared::Parts(
-            left + 1,
-            left + 1 + a_payload,
-            right + 1,
-            right + 1 + b_payload,
+            a_at + 1,
+            a_at + 1 + a_payload,
+            b_at + 1,
+            b_at + 1 + b_payload,
         );
     }
     if a.bits != b.bits {
@@ -87,17 +87,17 @@ fn compare(a: Walked, b: Walked) -> Compared
 fn unify_pair(
     program: &[u32],
     scratch: &mut [u32],
-    left: u32,
-    right: u32,
+    first: u32,
+    second: u32,
     trail: u32,
     steps: u32,
 ) -> PairUnified
-    requires { ⌜ (0 < steps) × ((bs : Substitution) × (u : Term) × (v : Term) × Meets (now program) (now scratch) bs left u right v trail) ⌝ }
-    ensures { λ r. ⌜ ((bs : Substitution) (u v : Term) → Meets (now (program .entry)) (now (scratch .entry)) bs left u right v trail
+    requires { ⌜ (0 < steps) × ((bs : Substitution) × (u : Term) × (v : Term) × TwoTerms (now program) (now scratch) bs first u second v trail) ⌝ }
+    ensures { λ r. ⌜ ((bs : Substitution) (u v : Term) → TwoTerms (now (program .entry)) (now (scratch .entry)) bs first u second v trail
         → PairUnifiedAs (now (program .entry)) (now (scratch .entry)) (now (scratch .exit)) bs u v steps r) ⌝ }
 {
-    let a = walk(program, scratch, left);
-    let b = walk(program, scratch, right);
+    let a = walk(program, scratch, first);
+    let b = walk(program, scratch, second);
     match compare(a, b) {
         Compared::Fails => PairUnified::Fails(steps - 1),
         Compared::Agrees => PairUnified::Goes(trail, steps - 1),
@@ -125,17 +125,17 @@ fn unify_pair(
 pub(crate) fn unify(
     program: &[u32],
     scratch: &mut [u32],
-    left: u32,
-    right: u32,
+    first: u32,
+    second: u32,
     mark: u32,
     steps: u32,
 ) -> Unified
-    requires { ⌜ ((bs : Substitution) × (u : Term) × (v : Term) × Meets (now program) (now scratch) bs left u right v mark) ⌝ }
-    ensures { λ r. ⌜ ((bs : Substitution) (u v : Term) → Meets (now (program .entry)) (now (scratch .entry)) bs left u right v mark
+    requires { ⌜ ((bs : Substitution) × (u : Term) × (v : Term) × TwoTerms (now program) (now scratch) bs first u second v mark) ⌝ }
+    ensures { λ r. ⌜ ((bs : Substitution) (u v : Term) → TwoTerms (now (program .entry)) (now (scratch .entry)) bs first u second v mark
         → UnifiedAs (now (program .entry)) (now (scratch .entry)) (now (scratch .exit)) bs (unify-terms bs u v steps) r) ⌝ }
 {
-    let mut a = left;
-    let mut b = right;
+    let mut a = first;
+    let mut b = second;
     let mut waiting = 0;
     let mut trail = mark;
     let mut rest = steps;

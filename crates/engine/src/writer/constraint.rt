@@ -40,8 +40,8 @@ fn differ_lines(
     program: &[u32],
     scratch: &mut [u32],
     output: &mut [u32],
-    left: u32,
-    right: u32,
+    one: u32,
+    other: u32,
     trail: u32,
     first: usize,
     end: usize,
@@ -49,12 +49,12 @@ fn differ_lines(
     steps: u32,
 ) -> Added
     requires { ⌜ Writing (now scratch) (now output) first end at
-        × ((bs : Substitution) × (u : Term) × (v : Term) × Differs (now program) (now scratch) bs left u right v trail) ⌝ }
+        × ((bs : Substitution) × (u : Term) × (v : Term) × Differs (now program) (now scratch) bs one u other v trail) ⌝ }
     ensures { λ r. ⌜ ((g : Writing (now (scratch .entry)) (now (output .entry)) first end at) (bs : Substitution) (u v : Term)
-        → Differs (now (program .entry)) (now (scratch .entry)) bs left u right v trail
+        → Differs (now (program .entry)) (now (scratch .entry)) bs one u other v trail
         → AddedAs (now (program .entry)) (now (scratch .entry)) (now (scratch .exit)) g (now (output .exit)) bs (lines-of bs (differ u v) steps) r) ⌝ }
 {
-    match unify(&*program, scratch, left, right, trail, steps) {
+    match unify(&*program, scratch, one, other, trail, steps) {
         Unified::Failed(top, rest) => {
             undo(scratch, trail, top);
             return Added::Done(at, rest);

@@ -16,7 +16,7 @@ ghost use lib.ListN.{length};
 ghost use Rattle.rules.specs.Syntax.{Term, var};
 ghost use Rattle.rules.specs.Written.{part, term-words};
 ghost use Rattle.semantics.specs.Answer.{member, index, bindings-in, line-in, line-words, Line, not-all};
-ghost use Rattle.engine.specs.Names.{Given};
+ghost use Rattle.engine.specs.Names.{NamesGiven};
 ghost use Rattle.engine.specs.Term.{Puts, Placed};
 ghost use Rattle.engine.specs.Line.{half, Equation, EquationsIn, equation-in, equation-words, equations-words, LineAs};
 ghost use Rattle.engine.specs.Memory.{layout-words};
@@ -228,7 +228,7 @@ pub(crate) fn put_line(
 
 pub(crate) fn has_name(scratch: &[u32], x: u32) -> bool
     requires { ⌜ (layout-words ≤ length (now scratch)) × (x < 2048) ⌝ }
-    ensures { λ r. ⌜ ((names : List ℕ) → Given (now (scratch .entry)) names → r ≡ member x names) ⌝ }
+    ensures { λ r. ⌜ ((names : List ℕ) → NamesGiven (now (scratch .entry)) names → r ≡ member x names) ⌝ }
 {
     if scratch[NAMES + x as usize] == 0 {
         return false;
@@ -238,8 +238,8 @@ pub(crate) fn has_name(scratch: &[u32], x: u32) -> bool
 
 // Whether every variable of equation `i` has a name.
 pub(crate) fn equation_named(program: &[u32], scratch: &[u32], mark: usize, i: usize) -> bool
-    requires { ⌜ (mark + i < 2048) × ((b : ℕ × Term) × (names : List ℕ) × Equation (now program) (now scratch) mark i b × Given (now scratch) names) ⌝ }
-    ensures { λ r. ⌜ ((b : ℕ × Term) (names : List ℕ) → Equation (now (program .entry)) (now (scratch .entry)) mark i b → Given (now (scratch .entry)) names
+    requires { ⌜ (mark + i < 2048) × ((b : ℕ × Term) × (names : List ℕ) × Equation (now program) (now scratch) mark i b × NamesGiven (now scratch) names) ⌝ }
+    ensures { λ r. ⌜ ((b : ℕ × Term) (names : List ℕ) → Equation (now (program .entry)) (now (scratch .entry)) mark i b → NamesGiven (now (scratch .entry)) names
         → r ≡ equation-in names b) ⌝ }
 {
     let x = equation_variable(scratch, i);
@@ -252,8 +252,8 @@ pub(crate) fn equation_named(program: &[u32], scratch: &[u32], mark: usize, i: u
 
 // Of the first `count` equations.
 pub(crate) fn equations_named(program: &[u32], scratch: &[u32], mark: usize, count: usize) -> bool
-    requires { ⌜ ((cs : List (ℕ × Term)) × (names : List ℕ) × EquationsIn (now program) (now scratch) mark count cs × Given (now scratch) names) ⌝ }
-    ensures { λ r. ⌜ ((cs : List (ℕ × Term)) (names : List ℕ) → EquationsIn (now (program .entry)) (now (scratch .entry)) mark count cs → Given (now (scratch .entry)) names
+    requires { ⌜ ((cs : List (ℕ × Term)) × (names : List ℕ) × EquationsIn (now program) (now scratch) mark count cs × NamesGiven (now scratch) names) ⌝ }
+    ensures { λ r. ⌜ ((cs : List (ℕ × Term)) (names : List ℕ) → EquationsIn (now (program .entry)) (now (scratch .entry)) mark count cs → NamesGiven (now (scratch .entry)) names
         → r ≡ bindings-in names cs) ⌝ }
 {
     let mut i = 0;
@@ -269,8 +269,8 @@ pub(crate) fn equations_named(program: &[u32], scratch: &[u32], mark: usize, cou
 
 // Of a line. One that mentions a variable with no name is dropped.
 pub(crate) fn line_named(program: &[u32], scratch: &[u32], line: Listed) -> bool
-    requires { ⌜ ((l : Line) × (names : List ℕ) × LineAs (now program) (now scratch) line l × Given (now scratch) names) ⌝ }
-    ensures { λ r. ⌜ ((l : Line) (names : List ℕ) → LineAs (now (program .entry)) (now (scratch .entry)) line l → Given (now (scratch .entry)) names
+    requires { ⌜ ((l : Line) × (names : List ℕ) × LineAs (now program) (now scratch) line l × NamesGiven (now scratch) names) ⌝ }
+    ensures { λ r. ⌜ ((l : Line) (names : List ℕ) → LineAs (now (program .entry)) (now (scratch .entry)) line l → NamesGiven (now (scratch .entry)) names
         → r ≡ line-in names l) ⌝ }
 {
     match line {

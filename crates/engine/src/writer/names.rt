@@ -12,7 +12,7 @@ ghost use lib.ListN.{length};
 ghost use Rattle.rules.specs.Syntax.{Term, var};
 ghost use Rattle.semantics.specs.Answer.{appear, vars-in};
 ghost use Rattle.engine.specs.Walk.{Resolves};
-ghost use Rattle.engine.specs.Names.{Names, Given, Named};
+ghost use Rattle.engine.specs.Names.{Names, NamesGiven, Named};
 ghost use Rattle.engine.specs.Memory.{layout-words};
 
 // Names variable `x`, unless it has a name.
@@ -67,8 +67,8 @@ pub(crate) fn clear_names(scratch: &mut [u32], top: u32)
 
 // Whether every open variable of a term has a name.
 pub(crate) fn all_named(program: &[u32], scratch: &[u32], term: u32) -> bool
-    requires { ⌜ ((t : Term) × (names : List ℕ) × Resolves (now program) (now scratch) term t × Given (now scratch) names) ⌝ }
-    ensures { λ r. ⌜ ((t : Term) (names : List ℕ) → Resolves (now (program .entry)) (now (scratch .entry)) term t → Given (now (scratch .entry)) names → r ≡ vars-in names t) ⌝ }
+    requires { ⌜ ((t : Term) × (names : List ℕ) × Resolves (now program) (now scratch) term t × NamesGiven (now scratch) names) ⌝ }
+    ensures { λ r. ⌜ ((t : Term) (names : List ℕ) → Resolves (now (program .entry)) (now (scratch .entry)) term t → NamesGiven (now (scratch .entry)) names → r ≡ vars-in names t) ⌝ }
 {
     let mut at = term;
     loop {

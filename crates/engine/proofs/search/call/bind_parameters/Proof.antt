@@ -4,7 +4,7 @@ use Prim.Native.Nat.{ℕ}
 use native.Mathlib.Omega.{arith}
 use lib.ListN.{length, length-set}
 use Rattle.semantics.specs.Substitution.{Substitution}
-use Rattle.engine.specs.Call.{Passing}
+use Rattle.engine.specs.Call.{BindingParameters}
 use Rattle.engine.proofs.ArgumentLaws.{pass-first, pass-step, pass-end}
 use Rattle.engine.proofs.search.call.bind_parameters.Statement.{statement}
 use Rattle.engine.proofs.search.call.bind_parameters.Tie as tie
@@ -16,7 +16,7 @@ use Rattle.engine.proofs.terms.walk.skip.Reads as skip-reads
 
 abbrev Inv-loop : tie.InvT-loop
 Inv-loop program scratch₀ arguments first count trail at₀ variable₀ left₀ bound₀ scratch at variable left bound =
-    (length scratch ≡ length scratch₀) × ((base to : ℕ) (whole : Substitution) → Passing program scratch₀ scratch₀ base to whole first trail arguments count → Passing program scratch₀ scratch base to whole variable bound at left)
+    (length scratch ≡ length scratch₀) × ((base to : ℕ) (whole : Substitution) → BindingParameters program scratch₀ scratch₀ base to whole first trail arguments count → BindingParameters program scratch₀ scratch base to whole variable bound at left)
 
 abbrev μ-loop : tie.MeasureT-loop
 μ-loop program scratch₀ arguments first count trail at₀ variable₀ left₀ bound₀ scratch at variable left bound =

@@ -34,14 +34,14 @@ add-review-differ c = search needs
 
 review-differ-requires : tie.Need-review-differ-requires
 review-differ-requires c κs = let p = c .before .before .before .before .before .before .before .pre in let q = differ-at (c .before .before .before .node-at .ensures) (p .2) (p .3 .keeps) (c .before .before .if2 .taken) in
-    (p .0, q .left, q .right, record { held = p .3 .whole .held; left = q .first; right = q .second _ (c .before .skip .ensures (q .left) (q .first)); trail-is = p .3 .whole .trail-is })
+    (p .0, q .left, q .right, record { held = p .3 .whole .held; first = q .first; second = q .second _ (c .before .skip .ensures (q .left) (q .first)); trail-is = p .3 .whole .trail-is })
 
 same-length : tie.Need-same-length
 same-length c = search needs
 
 returns-2 : tie.Need-returns-2
 returns-2 c = λ bs cs d h. let q = differ-at (c .before .before .before .before .before .before .node-at .ensures) d (h .keeps) (c .before .before .before .before .before .if2 .taken) in
-    review-differ (h .whole) d (c .before .before .before .before .before .before .before .before .before .before .args .steps) (c .before .before .before .before .before .before .before .if1 .left) (q .left) (q .right) (q .is) _ _ (c .before .before .review-differ .ensures bs (q .left) (q .right) (record { held = h .whole .held; left = q .first; right = q .second _ (c .before .before .before .before .skip .ensures (q .left) (q .first)); trail-is = h .whole .trail-is }))
+    review-differ (h .whole) d (c .before .before .before .before .before .before .before .before .before .before .args .steps) (c .before .before .before .before .before .before .before .if1 .left) (q .left) (q .right) (q .is) _ _ (c .before .before .review-differ .ensures bs (q .left) (q .right) (record { held = h .whole .held; first = q .first; second = q .second _ (c .before .before .before .before .skip .ensures (q .left) (q .first)); trail-is = h .whole .trail-is }))
 
 review-absento-requires : tie.Need-review-absento-requires
 review-absento-requires c κs = let p = c .before .before .before .before .before .before .before .pre in let q = absento-at (c .before .before .before .node-at .ensures) (p .2) (p .3 .keeps) (c .before .if3 .taken) in (p .0, q .tag, q .term, record { held = p .3 .whole .held; keeps = q .keeps })

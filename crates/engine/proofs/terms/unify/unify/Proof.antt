@@ -4,19 +4,19 @@ use borrow.Author.Needs.{needs}
 use lib.ListN.{length-set}
 use Rattle.rules.specs.Syntax.{Term}
 use Rattle.semantics.specs.Substitution.{Substitution}
-use Rattle.engine.specs.Unify.{Meets, PairUnifiedAs}
+use Rattle.engine.specs.Unify.{TwoTerms, PairUnifiedAs}
 use Rattle.engine.proofs.UnifyLoop.{Unifying, unifying-start, unifying-meets, unify-out, met-long, unify-failed, unify-stepped, unify-pathed, unify-joined, unify-fewer, unify-pop, unify-full, unify-push}
 use Rattle.engine.proofs.terms.unify.unify.Statement.{statement}
 use Rattle.engine.proofs.terms.unify.unify.Tie as tie
 
 abbrev Inv-loop : tie.InvT-loop
-Inv-loop program scratch₀ left right mark steps a₀ b₀ waiting₀ trail₀ rest₀ scratch a b waiting trail rest = (bs : Substitution) (u v : Term) → Meets program scratch₀ bs left u right v mark → Unifying program scratch₀ bs u v steps scratch a b waiting trail rest
+Inv-loop program scratch₀ left right mark steps a₀ b₀ waiting₀ trail₀ rest₀ scratch a b waiting trail rest = (bs : Substitution) (u v : Term) → TwoTerms program scratch₀ bs left u right v mark → Unifying program scratch₀ bs u v steps scratch a b waiting trail rest
 
 abbrev μ-loop : tie.MeasureT-loop
 μ-loop program scratch₀ left right mark steps a₀ b₀ waiting₀ trail₀ rest₀ scratch a b waiting trail rest = rest
 
 -- what the pair that was met says, for each related state
-abbrev said : (c : tie.After-unify-pair Inv-loop μ-loop) (bs : Substitution) (u v : Term) (m : Meets (c .before .before .before .before .before .before .args .program .now) (c .before .before .before .before .before .before .args .scratch .now) bs (c .before .before .before .before .before .before .args .left) u (c .before .before .before .before .before .before .args .right) v (c .before .before .before .before .before .before .args .mark)) → (let g = c .before .before .before .loop .inv bs u v m in PairUnifiedAs (c .before .before .before .before .before .before .args .program .now) (c .before .before .before .loop .scratch) (c .unify-pair .last .1 .0) (g .went .next) (g .left) (g .right) (c .before .before .before .loop .rest) (c .unify-pair .result))
+abbrev said : (c : tie.After-unify-pair Inv-loop μ-loop) (bs : Substitution) (u v : Term) (m : TwoTerms (c .before .before .before .before .before .before .args .program .now) (c .before .before .before .before .before .before .args .scratch .now) bs (c .before .before .before .before .before .before .args .first) u (c .before .before .before .before .before .before .args .second) v (c .before .before .before .before .before .before .args .mark)) → (let g = c .before .before .before .loop .inv bs u v m in PairUnifiedAs (c .before .before .before .before .before .before .args .program .now) (c .before .before .before .loop .scratch) (c .unify-pair .last .1 .0) (g .went .next) (g .left) (g .right) (c .before .before .before .loop .rest) (c .unify-pair .result))
 said c bs u v m = let g = c .before .before .before .loop .inv bs u v m in c .unify-pair .ensures (g .went .next) (g .left) (g .right) (unifying-meets g)
 
 loop-holds : tie.Need-loop-holds Inv-loop μ-loop

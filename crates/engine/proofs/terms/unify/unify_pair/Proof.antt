@@ -2,24 +2,24 @@
 use Rattle.rules.specs.Syntax.{Term}
 use Rattle.semantics.specs.Substitution.{Substitution, walk}
 use Rattle.semantics.specs.Unify.{look}
-use Rattle.engine.specs.Unify.{Meets, ComparedAs}
-use Rattle.engine.proofs.UnifySteps.{meets-left, meets-right, meet-fails, meet-agrees, meet-parts, bound-room, bound-follows, meet-occurs, meet-binds, meet-steps, meet-path}
+use Rattle.engine.specs.Unify.{TwoTerms, ComparedAs}
+use Rattle.engine.proofs.UnifySteps.{meets-first, meets-second, meet-fails, meet-agrees, meet-parts, bound-room, bound-follows, meet-occurs, meet-binds, meet-steps, meet-path}
 use borrow.Author.Needs.{needs}
 use Rattle.engine.proofs.terms.unify.unify_pair.Statement.{statement}
 use Rattle.engine.proofs.terms.unify.unify_pair.Tie as tie
 
 -- what comparing said
-abbrev told : (c : tie.After-compare) (bs : Substitution) (u v : Term) → Meets (c .before .before .before .before .before .before .before .args .program .now) (c .before .before .before .before .before .before .before .args .scratch .now) bs (c .before .before .before .before .before .before .before .args .left) u (c .before .before .before .before .before .before .before .args .right) v (c .before .before .before .before .before .before .before .args .trail) → ComparedAs (c .before .before .before .before .before .before .before .args .program .now) (look (walk bs u) (walk bs v)) (c .compare .result)
-told c bs u v m = c .compare .ensures _ (walk bs u) (walk bs v) (c .before .before .before .walk .ensures .node) (c .before .walk2 .ensures .node) (c .before .before .before .walk .ensures .stands bs u (meets-left (c .before .before .before .before .before .before .before .pre .0) m)) (c .before .walk2 .ensures .stands bs v (meets-right (c .before .before .before .before .before .before .before .pre .0) m))
+abbrev told : (c : tie.After-compare) (bs : Substitution) (u v : Term) → TwoTerms (c .before .before .before .before .before .before .before .args .program .now) (c .before .before .before .before .before .before .before .args .scratch .now) bs (c .before .before .before .before .before .before .before .args .first) u (c .before .before .before .before .before .before .before .args .second) v (c .before .before .before .before .before .before .before .args .trail) → ComparedAs (c .before .before .before .before .before .before .before .args .program .now) (look (walk bs u) (walk bs v)) (c .compare .result)
+told c bs u v m = c .compare .ensures _ (walk bs u) (walk bs v) (c .before .before .before .walk .ensures .node) (c .before .walk2 .ensures .node) (c .before .before .before .walk .ensures .stands bs u (meets-first (c .before .before .before .before .before .before .before .pre .0) m)) (c .before .walk2 .ensures .stands bs v (meets-second (c .before .before .before .before .before .before .before .pre .0) m))
 
 walk-requires : tie.Need-walk-requires
-walk-requires c κs = let p = c .before .before .before .pre in (p .1 .0, p .1 .1, meets-left (p .0) (p .1 .3))
+walk-requires c κs = let p = c .before .before .before .pre in (p .1 .0, p .1 .1, meets-first (p .0) (p .1 .3))
 
 walk-requires-2 : tie.Need-walk-requires-2
-walk-requires-2 c κs = let p = c .before .before .before .before .before .pre in (p .1 .0, p .1 .2, meets-right (p .0) (p .1 .3))
+walk-requires-2 c κs = let p = c .before .before .before .before .before .pre in (p .1 .0, p .1 .2, meets-second (p .0) (p .1 .3))
 
 compare-requires : tie.Need-compare-requires
-compare-requires c κs = let p = c .before .before .before .before .before .before .pre in (c .before .before .before .before .before .before .args .program .now, walk (p .1 .0) (p .1 .1), walk (p .1 .0) (p .1 .2), c .before .before .walk .ensures .node, c .walk2 .ensures .node, c .before .before .walk .ensures .stands (p .1 .0) (p .1 .1) (meets-left (p .0) (p .1 .3)), c .walk2 .ensures .stands (p .1 .0) (p .1 .2) (meets-right (p .0) (p .1 .3)))
+compare-requires c κs = let p = c .before .before .before .before .before .before .pre in (c .before .before .before .before .before .before .args .program .now, walk (p .1 .0) (p .1 .1), walk (p .1 .0) (p .1 .2), c .before .before .walk .ensures .node, c .walk2 .ensures .node, c .before .before .walk .ensures .stands (p .1 .0) (p .1 .1) (meets-first (p .0) (p .1 .3)), c .walk2 .ensures .stands (p .1 .0) (p .1 .2) (meets-second (p .0) (p .1 .3)))
 
 enum-told : tie.Need-enum-told
 enum-told c = search needs

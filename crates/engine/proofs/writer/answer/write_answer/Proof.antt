@@ -2,7 +2,7 @@
 use native.Mathlib.Omega.{arith}
 use Rattle.engine.proofs.AnswerLaws.{answer-low, answer-binds, answer-kept, unnamed, steps-out-now, path-out-now, named-now, query-now, writing-now, apart-now, touched-now, names-now, ends-now, answered-now}
 use Rattle.engine.specs.Term.{Room}
-use Rattle.engine.proofs.PutLaws.{room-same}
+use Rattle.engine.proofs.TermLaws.{room-same}
 use borrow.Author.Needs.{needs}
 use Rattle.engine.proofs.writer.answer.write_answer.Statement.{statement}
 use Rattle.engine.proofs.writer.answer.write_answer.Tie as tie

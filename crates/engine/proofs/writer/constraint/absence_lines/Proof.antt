@@ -5,7 +5,7 @@ use borrow.Author.Needs.{needs}
 use Rattle.semantics.specs.Substitution.{resolve}
 use Rattle.semantics.specs.Answer.{appear, lacks-each}
 use Rattle.engine.proofs.ReviewSteps.{absento-inside}
-use Rattle.engine.proofs.AddingLaws.{term-steps, term-path, term-done, absento-follows, absento-adds, absento-page}
+use Rattle.engine.proofs.ConstraintLaws.{term-steps, term-path, term-done, absento-follows, absento-adds, absento-page}
 use Rattle.engine.proofs.writer.constraint.absence_lines.Statement.{statement}
 use Rattle.engine.proofs.writer.constraint.absence_lines.Tie as tie
 

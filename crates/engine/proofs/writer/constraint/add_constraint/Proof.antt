@@ -2,7 +2,7 @@
 use borrow.Author.Needs.{needs}
 use Rattle.rules.specs.Syntax.{differ, typed, absento}
 use Rattle.engine.proofs.ReviewSteps.{differ-at, absento-at, typed-at}
-use Rattle.engine.proofs.AddingLaws.{lists-differ, added-one}
+use Rattle.engine.proofs.ConstraintLaws.{lists-differ, added-one}
 use Rattle.engine.proofs.writer.constraint.add_constraint.Statement.{statement}
 use Rattle.engine.proofs.writer.constraint.add_constraint.Tie as tie
 

@@ -8,7 +8,7 @@ use Rattle.semantics.specs.Substitution.{Substitution}
 use Rattle.semantics.specs.Invariant.{Sound}
 use Rattle.engine.specs.Review.{ConstraintsHeld}
 use Rattle.engine.specs.Lines.{Writing}
-use Rattle.engine.proofs.AddingLaws.{Adding, adding-start, adding-long, adding-writing, adding-next, adding-end, adding-still, adding-room, adding-stops, adding-bound, adding-on}
+use Rattle.engine.proofs.ConstraintLaws.{Adding, adding-start, adding-long, adding-writing, adding-next, adding-end, adding-still, adding-room, adding-stops, adding-bound, adding-on}
 use Rattle.engine.proofs.writer.constraint.add_constraints.Statement.{statement}
 use Rattle.engine.proofs.writer.constraint.add_constraints.Tie as tie
 

@@ -2,7 +2,7 @@
 use mathlib.Core.List.{reverse}
 use borrow.Author.Needs.{needs}
 use Rattle.engine.proofs.ReviewSteps.{trial-joined, trial-failed, trial-stepped, trial-pathed}
-use Rattle.engine.proofs.AddingLaws.{writing-apart, trial-grown, differ-failed, differ-stepped, differ-pathed, tried, tried-line-is, tried-line, tried-steps, tried-path, tried-done}
+use Rattle.engine.proofs.ConstraintLaws.{writing-apart, trial-grown, differ-failed, differ-stepped, differ-pathed, tried, tried-line-is, tried-line, tried-steps, tried-path, tried-done}
 use Rattle.engine.proofs.writer.constraint.differ_lines.Statement.{statement}
 use Rattle.engine.proofs.writer.constraint.differ_lines.Tie as tie
 

@@ -2,7 +2,7 @@
 use borrow.Author.Needs.{needs}
 use Rattle.semantics.specs.Substitution.{walk}
 use Rattle.semantics.specs.Answer.{typed-lines}
-use Rattle.engine.proofs.AddingLaws.{term-steps, term-path, term-done, typed-adds, typed-page}
+use Rattle.engine.proofs.ConstraintLaws.{term-steps, term-path, term-done, typed-adds, typed-page}
 use Rattle.engine.proofs.writer.constraint.type_lines.Statement.{statement}
 use Rattle.engine.proofs.writer.constraint.type_lines.Tie as tie
 

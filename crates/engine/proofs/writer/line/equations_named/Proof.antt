@@ -4,14 +4,14 @@ use mathlib.Core.Path.{refl}
 use native.Mathlib.Omega.{arith}
 use Rattle.rules.specs.Syntax.{Term}
 use Rattle.semantics.specs.Answer.{bindings-in}
-use Rattle.engine.specs.Names.{Given}
+use Rattle.engine.specs.Names.{NamesGiven}
 use Rattle.engine.specs.Line.{EquationsIn}
 use Rattle.engine.proofs.LineLaws.{Checking, check-next, check-end, check-fails, check-on}
 use Rattle.engine.proofs.writer.line.equations_named.Statement.{statement}
 use Rattle.engine.proofs.writer.line.equations_named.Tie as tie
 
 abbrev Inv-loop : tie.InvT-loop
-Inv-loop program scratch mark count i₀ i = (cs : List (ℕ × Term)) (names : List ℕ) → EquationsIn program scratch mark count cs → Given scratch names → Checking program scratch mark count i names (bindings-in names cs)
+Inv-loop program scratch mark count i₀ i = (cs : List (ℕ × Term)) (names : List ℕ) → EquationsIn program scratch mark count cs → NamesGiven scratch names → Checking program scratch mark count i names (bindings-in names cs)
 
 abbrev μ-loop : tie.MeasureT-loop
 μ-loop program scratch mark count i₀ i = count - i

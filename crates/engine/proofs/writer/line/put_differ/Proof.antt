@@ -1,7 +1,7 @@
 use native.Mathlib.Omega.{arith}
 use mathlib.Core.List.{_∷_}
 use mathlib.Core.Path.{refl}
-use Rattle.engine.proofs.PutLaws.{puts-at, laid-of, laid-room}
+use Rattle.engine.proofs.TermLaws.{puts-at, laid-of, laid-room}
 use Rattle.engine.proofs.LineLaws.{differ-one, differ-full, differ-missed, differ-put}
 use borrow.Author.Needs.{needs}
 use Rattle.engine.proofs.writer.line.put_differ.Statement.{statement}

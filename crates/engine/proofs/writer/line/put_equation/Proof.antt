@@ -1,5 +1,5 @@
 use native.Mathlib.Omega.{arith}
-use Rattle.engine.proofs.PutLaws.{laid-of, laid-room}
+use Rattle.engine.proofs.TermLaws.{laid-of, laid-room}
 use Rattle.engine.proofs.LineLaws.{equation-full, equation-low, equation-puts, equation-variable, right-puts, equation-no-variable, equation-no-right, equation-inner, equation-put}
 use borrow.Author.Needs.{needs}
 use Rattle.engine.proofs.writer.line.put_equation.Statement.{statement}

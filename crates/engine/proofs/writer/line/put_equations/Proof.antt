@@ -6,7 +6,7 @@ use Rattle.rules.specs.Syntax.{Term}
 use Rattle.semantics.specs.Answer.{bindings-in}
 use Rattle.engine.specs.Term.{Puts}
 use Rattle.engine.specs.Line.{EquationsIn, equations-words}
-use Rattle.engine.proofs.PutLaws.{puts-behind, placed-long}
+use Rattle.engine.proofs.TermLaws.{puts-behind, placed-long}
 use Rattle.engine.proofs.LineLaws.{Going, going-start, going-next, going-end, next-missed, next-put}
 use Rattle.engine.proofs.writer.line.put_equations.Statement.{statement}
 use Rattle.engine.proofs.writer.line.put_equations.Tie as tie

@@ -1,4 +1,4 @@
-use Rattle.engine.proofs.PutLaws.{puts-behind, laid-of}
+use Rattle.engine.proofs.TermLaws.{puts-behind, laid-of}
 use Rattle.engine.proofs.LineLaws.{lacks-missed, lacks-no-tag, lacks-put}
 use borrow.Author.Needs.{needs}
 use Rattle.engine.proofs.writer.line.put_lacks.Statement.{statement}

@@ -1,6 +1,6 @@
 use Rattle.engine.proofs.LineLaws.{typed-line, typed-words, typed-member, lacks-line, lacks-words, lacks-member, differ-line, differ-line-words, differ-in}
 use mathlib.Core.Path.{refl}
-use Rattle.engine.proofs.PutLaws.{puts-at}
+use Rattle.engine.proofs.TermLaws.{puts-at}
 use borrow.Author.Needs.{needs}
 use Rattle.engine.proofs.writer.line.put_line.Statement.{statement}
 use Rattle.engine.proofs.writer.line.put_line.Tie as tie

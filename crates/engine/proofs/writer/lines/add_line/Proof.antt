@@ -1,5 +1,5 @@
 use mathlib.Core.Path.{sym, _∙_}
-use Rattle.engine.proofs.PageLaws.{page-rows, earlier-puts, behind-puts, page-full, page-dropped, page-repeated, page-missed, page-put}
+use Rattle.engine.proofs.AddLineLaws.{page-rows, earlier-puts, behind-puts, page-full, page-dropped, page-repeated, page-missed, page-put}
 use borrow.Author.Needs.{needs}
 use Rattle.engine.proofs.writer.lines.add_line.Statement.{statement}
 use Rattle.engine.proofs.writer.lines.add_line.Tie as tie

@@ -8,7 +8,7 @@ use Rattle.semantics.specs.Answer.{Line, line-in, line-words, any-same}
 use Rattle.engine.specs.Term.{Puts}
 use Rattle.engine.specs.Line.{LineAs}
 use Rattle.engine.specs.Lines.{Rows}
-use Rattle.engine.proofs.PageLaws.{puts-between, Row, row-next, row-end, row-found, row-on, row-moved}
+use Rattle.engine.proofs.AddLineLaws.{puts-between, Row, row-next, row-end, row-found, row-on, row-moved}
 use Rattle.engine.proofs.writer.lines.repeated.Statement.{statement}
 use Rattle.engine.proofs.writer.lines.repeated.Tie as tie
 

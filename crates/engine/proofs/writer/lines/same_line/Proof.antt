@@ -1,4 +1,4 @@
-use Rattle.engine.proofs.PageLaws.{same-missed, same-found, same-short, read-back}
+use Rattle.engine.proofs.AddLineLaws.{same-missed, same-found, same-short, read-back}
 use borrow.Author.Needs.{needs}
 use Rattle.engine.proofs.writer.lines.same_line.Statement.{statement}
 use Rattle.engine.proofs.writer.lines.same_line.Tie as tie

@@ -6,7 +6,7 @@ use mathlib.Core.Path.{refl}
 use Rattle.rules.specs.Syntax.{Term}
 use Rattle.semantics.specs.Answer.{vars-in}
 use Rattle.engine.specs.Walk.{Resolves}
-use Rattle.engine.specs.Names.{Given}
+use Rattle.engine.specs.Names.{NamesGiven}
 use Rattle.engine.proofs.SizeLaws.{followed-size}
 use Rattle.engine.proofs.NamingLaws.{Asking, asking-low, asking-yes, asking-no, asking-leaf, asking-pair, asking-not-first, asking-next}
 use Prim.Native.Nat.{ℕ, _<_}
@@ -34,7 +34,7 @@ abbrev all-named-claims : ℕ → all-named-lts.Claims
 all-named-claims t = (follow-reads.Asked, follow-reads.Learnt, all-named-below t, all-named.Post)
 
 abbrev all-named-Inv-loop : all-named-lts.InvT-loop
-all-named-Inv-loop program scratch term at₀ at = (followed-size program scratch at ≤ followed-size program scratch term) × ((t : Term) (names : List ℕ) → Resolves program scratch term t → Given scratch names → Asking program scratch at names (vars-in names t))
+all-named-Inv-loop program scratch term at₀ at = (followed-size program scratch at ≤ followed-size program scratch term) × ((t : Term) (names : List ℕ) → Resolves program scratch term t → NamesGiven scratch names → Asking program scratch at names (vars-in names t))
 
 abbrev all-named-μ-loop : all-named-lts.MeasureT-loop
 all-named-μ-loop program scratch term at₀ at = followed-size program scratch at

@@ -4,7 +4,7 @@ use mathlib.Core.List.{List}
 use native.Mathlib.Omega.{arith}
 use Rattle.semantics.specs.Substitution.{Substitution}
 use Rattle.engine.specs.Query.{Query}
-use Rattle.engine.proofs.PutLaws.{placed-long}
+use Rattle.engine.proofs.TermLaws.{placed-long}
 use Rattle.engine.proofs.QueryLaws.{query-puts, PuttingAll, putting-all-start, putting-all-next, putting-all-missed, putting-all-end}
 use borrow.Author.Needs.{needs}
 use Rattle.engine.proofs.writer.query.put_parameters.Statement.{statement}

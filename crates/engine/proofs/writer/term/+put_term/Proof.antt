@@ -8,7 +8,7 @@ use Rattle.semantics.specs.Answer.{reify, vars-in}
 use Rattle.engine.specs.Walk.{Resolves}
 use Rattle.engine.specs.Term.{Puts}
 use Rattle.engine.proofs.SizeLaws.{followed-size}
-use Rattle.engine.proofs.PutLaws.{laid-of, placed-long, Putting, putting-start, putting-full, putting-low, putting-named, putting-open, putting-leaf, putting-pair, puts-first, putting-missed, putting-no, putting-next}
+use Rattle.engine.proofs.TermLaws.{laid-of, placed-long, Putting, putting-start, putting-full, putting-low, putting-named, putting-open, putting-leaf, putting-pair, puts-first, putting-missed, putting-no, putting-next}
 use Prim.Native.Nat.{ℕ, _<_}
 use borrow.Fn.Kinds.{In}
 use borrow.Fn.PlainCycle.{Measures, is, falls, and}

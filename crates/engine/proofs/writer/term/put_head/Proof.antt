@@ -1,4 +1,4 @@
-use Rattle.engine.proofs.PutLaws.{head-put, head-missed}
+use Rattle.engine.proofs.TermLaws.{head-put, head-missed}
 use borrow.Author.Needs.{needs}
 use Rattle.engine.proofs.writer.term.put_head.Statement.{statement}
 use Rattle.engine.proofs.writer.term.put_head.Tie as tie

@@ -1,4 +1,4 @@
-use Rattle.engine.proofs.PutLaws.{placed-last, missed-last}
+use Rattle.engine.proofs.TermLaws.{placed-last, missed-last}
 use borrow.Author.Needs.{needs}
 use Rattle.engine.proofs.writer.term.put_last.Statement.{statement}
 use Rattle.engine.proofs.writer.term.put_last.Tie as tie

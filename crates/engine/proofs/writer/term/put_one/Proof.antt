@@ -1,4 +1,4 @@
-use Rattle.engine.proofs.PutLaws.{one-full}
+use Rattle.engine.proofs.TermLaws.{one-full}
 use borrow.Author.Needs.{needs}
 use Rattle.engine.proofs.writer.term.put_one.Statement.{statement}
 use Rattle.engine.proofs.writer.term.put_one.Tie as tie

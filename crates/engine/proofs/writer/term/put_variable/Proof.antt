@@ -1,5 +1,5 @@
 use native.Mathlib.Omega.{arith}
-use Rattle.engine.proofs.PutLaws.{variable-number, variable-put}
+use Rattle.engine.proofs.TermLaws.{variable-number, variable-put}
 use borrow.Author.Needs.{needs}
 use Rattle.engine.proofs.writer.term.put_variable.Statement.{statement}
 use Rattle.engine.proofs.writer.term.put_variable.Tie as tie

@@ -1,4 +1,4 @@
-use Rattle.engine.proofs.PutLaws.{word-written, word-there, word-differs}
+use Rattle.engine.proofs.TermLaws.{word-written, word-there, word-differs}
 use borrow.Author.Needs.{needs}
 use Rattle.engine.proofs.writer.term.put_word.Statement.{statement}
 use Rattle.engine.proofs.writer.term.put_word.Tie as tie

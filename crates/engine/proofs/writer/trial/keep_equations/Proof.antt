@@ -4,7 +4,7 @@ use native.Mathlib.Omega.{arith}
 use lib.ListN.{length-set}
 use Rattle.semantics.specs.Substitution.{Substitution}
 use Rattle.engine.specs.Trail.{Trailed}
-use Rattle.engine.proofs.KeepLaws.{Keeping, keeping-start, keeping-end, Newest, newest, newest-low, newest-some, newest-taken}
+use Rattle.engine.proofs.TrialLaws.{Keeping, keeping-start, keeping-end, Newest, newest, newest-low, newest-some, newest-taken}
 use Rattle.engine.proofs.writer.trial.keep_equations.Statement.{statement}
 use Rattle.engine.proofs.writer.trial.keep_equations.Tie as tie
 

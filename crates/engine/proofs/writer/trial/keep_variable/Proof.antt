@@ -1,6 +1,6 @@
 use Prim.Native.Nat.{_+_, _/_}
 use native.Mathlib.Omega.{arith}
-use Rattle.engine.proofs.KeepLaws.{half-even, half-odd}
+use Rattle.engine.proofs.TrialLaws.{half-even, half-odd}
 use borrow.Author.Needs.{needs}
 use Rattle.engine.proofs.writer.trial.keep_variable.Statement.{statement}
 use Rattle.engine.proofs.writer.trial.keep_variable.Tie as tie

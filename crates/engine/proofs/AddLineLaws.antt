@@ -20,7 +20,7 @@ use Rattle.engine.specs.Term.{Puts, Touched, Laid, Placed, all-laid, som
 use Rattle.engine.specs.Lines.{joined, add-line, add-lines, Whole, Wholes, Stretch, Rows, AnswerSoFar, Writing, Extended}
 use Rattle.engine.specs.declared.writer.term.Put.{Put}
 use Rattle.engine.specs.declared.writer.term.Put.the-variants.{End, Missed}
-use Rattle.engine.proofs.PutLaws.{room-same, laid-of, missing-of, laid-then, touched-then}
+use Rattle.engine.proofs.TermLaws.{room-same, laid-of, missing-of, laid-then, touched-then}
 
 -- the same words
 pub same-self : (v : List ℕ) → same-words v v ≡ true

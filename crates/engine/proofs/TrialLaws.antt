@@ -12,7 +12,7 @@ use Rattle.semantics.specs.Substitution.{Substitution}
 use Rattle.semantics.proofs.Basics.{compared, same, other}
 use Rattle.semantics.proofs.SubstitutionLaws.{lookup-same}
 use Rattle.engine.specs.Reference.{at, Stands}
-use Rattle.engine.specs.Memory.{Bound, Entry, BindingsIn, layout-words}
+use Rattle.engine.specs.Memory.{BoundTo, Entry, BindingsIn, layout-words}
 use Rattle.engine.specs.Trail.{Trailed, Apart}
 use Rattle.engine.specs.Line.{half}
 use Rattle.engine.specs.Trial.{HalfSet, EquationsKept, AllKept}
@@ -137,7 +137,7 @@ newest {ws} {s₀} {s} {new} {bs} {mark} {top} g l = go (g .rest) (g .whole) (g 
     go [] w h t = absurd (omega (arith, g .mark-is))
     go (b ∷ rest) w h t =
         let n : top - 1 ≡ length (rest ++ bs) = omega arith in
-        let e : Bound ws (at s (b .0)) (b .1) = subst (Entry ws (at s (b .0))) (lookup-same (b .0) (b .1) (rest ++ bs) (b .0) (eq-eqb (b .0) (b .0) refl)) (h .words (b .0) (h .fresh .0)) in
+        let e : BoundTo ws (at s (b .0)) (b .1) = subst (Entry ws (at s (b .0))) (lookup-same (b .0) (b .1) (rest ++ bs) (b .0) (eq-eqb (b .0) (b .0) refl)) (h .words (b .0) (h .fresh .0)) in
         record {
           one = b;
           rest = rest;

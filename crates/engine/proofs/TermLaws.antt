@@ -23,7 +23,7 @@ use Rattle.engine.specs.declared.terms.walk.Shape.the-variants.{Open, At
 use Rattle.engine.specs.declared.writer.term.Put.{Put}
 use Rattle.engine.specs.declared.writer.term.Put.the-variants.{End, Missed}
 use Rattle.engine.proofs.NameLaws.{name-member, name-number, names-few}
-use Rattle.engine.proofs.NamingLaws.{Told, told-open, told-leaf, Halves, halved}
+use Rattle.engine.proofs.NamingLaws.{FollowedAs, told-open, told-leaf, Halves, halved}
 
 -- touched parts
 pub untouched : (o : List ℕ) (from to : ℕ) → Touched o o from to
@@ -201,7 +201,7 @@ module _ {ws s o₀ o : List ℕ} {w start place end : ℕ} {write : Bool} {name
   pub putting-full : end ≤ place → Placed o₀ o start end write goal Missed
   putting-full l = finish (some-missing (missing-end o place end write (term-words (reify names (g .term))) l (term-some (reify names (g .term)))))
 
-  module _ {r : Shape} (f : Told ws s w r) where
+  module _ {r : Shape} (f : FollowedAs ws s w r) where
     pub putting-low : {x : ℕ} → r ≡ Open x → x < 2048
     putting-low e = told-open (g .term) f e (g .here) .1
 

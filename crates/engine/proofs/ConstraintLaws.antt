@@ -40,7 +40,7 @@ use Rattle.engine.proofs.ReferenceLaws.{atom-word-is}
 use Rattle.engine.proofs.FrameLaws.{kept-same}
 use Rattle.engine.proofs.TrailLaws.{fresh-few, apart-same, apart-trans, undone-apart}
 use Rattle.engine.proofs.NameLaws.{given-apart}
-use Rattle.engine.proofs.PutLaws.{room-same}
+use Rattle.engine.proofs.TermLaws.{room-same}
 use Rattle.engine.proofs.LinesLaws.{add-append}
 use Rattle.engine.proofs.WriterLaws.{absent-once, trial-new, equations-kept}
 use Rattle.engine.proofs.ReviewSteps.{absento-term, absento-tag, DifferAt, Trial, trial-failed, trial-stepped, trial-pathed, kept-again}
@@ -227,7 +227,7 @@ module _ {ws s : List ℕ} {bs : Substitution} {w : ℕ} {t : Term} {kind : ℕ}
 module _ {ws s : List ℕ} {bs : Substitution} {cs : List Constraint} {w : ℕ} {c : Constraint} {trail : ℕ} (h : Lists ws s bs cs w c trail) where
   pub lists-differ : (q : DifferAt ws w c) {second : ℕ} → second + pos-of (w + 1) ≡ w + 1 + q .first .to → Differs ws s bs (w + 1) (q .left) second (q .right) trail
   lists-differ q {second} e = record {
-    meets = record { held = h .held; left = q .first; right = q .second second e; trail-is = h .trail-is };
+    meets = record { held = h .held; first = q .first; second = q .second second e; trail-is = h .trail-is };
     unforced = subst (Passes bs cs) (q .is) (h .passes);
   }
 

@@ -8,6 +8,7 @@ use crate::answers::put_answers;
 use crate::report::put_report;
 use crate::words::read_words;
 use crate::words::word_count;
+use engine::SCRATCH_WORDS;
 ghost use mathlib.Core.Path.{_≡_};
 ghost use Prim.Native.Nat.{_≤_, min};
 ghost use lib.ListN.{length, replicate};
@@ -40,7 +41,7 @@ fn list(program: &[u32], rounds: u32, steps: u32, output: &mut [u32], out: &mut 
     requires { ⌜ (length (now output) ≤ 4096) × (now output ≡ replicate (length (now output)) 0) ⌝ }
     ensures { λ r. ⌜ Wrote (report-text (run-as-written (now (program .entry)) rounds steps (now (output .entry)) (replicate scratch-words 0) .report)) 0 (now (out .entry)) r (now (out .exit)) × (r ≤ 65536) ⌝ }
 {
-    let mut scratch = [0u32; 16384];
+    let mut scratch = [0u32; SCRATCH_WORDS];
     let report = engine::run(program, rounds, steps, output, &mut scratch);
     let next = put_report(report, out);
     put_answers(output, next, out)

@@ -7,6 +7,9 @@ ghost use mathlib.Core.Path.{_≡_};
 ghost use Rattle.rules.specs.Accept.{read};
 ghost use Rattle.rules.specs.Verdict.{number-of, said, meaning};
 
+// The longest program, in words.
+const MOST_WORDS: usize = 16384;
+
 // The conditions 1 to 8 by which document 01 turns a program away.
 pub enum Condition {
     WordCount,
@@ -56,7 +59,7 @@ pub fn check(program: &[u32]) -> Verdict
     if program.len() < 1 {
         return Verdict::Refused(Condition::WordCount, 0);
     }
-    if 16384 < program.len() {
+    if MOST_WORDS < program.len() {
         return Verdict::Refused(Condition::WordCount, 0);
     }
     match structure::read_relations(program) {

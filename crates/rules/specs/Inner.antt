@@ -12,8 +12,8 @@ use Rattle.rules.specs.Calls.{Fault, sound, fault, or-else, goal-fault}
 use Rattle.rules.specs.Reading.{Reading, found, refuse, choose, kind-at, payload-at}
 use Rattle.rules.specs.Verdict.{number-of}
 use Rattle.rules.specs.Settings.{most-words}
-use Rattle.rules.specs.declared.Read.{Read}
-use Rattle.rules.specs.declared.Read.the-variants.{Done, Refused}
+use Rattle.rules.specs.declared.part.Read.{Read}
+use Rattle.rules.specs.declared.part.Read.the-variants.{Done, Refused}
 use Rattle.rules.specs.declared.calls.Found.{Found}
 use Rattle.rules.specs.declared.calls.Found.the-variants.{Params, Missing}
 

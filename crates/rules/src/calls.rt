@@ -1,7 +1,7 @@
 // Conditions 7 and 8: one pass over the calls of a program whose structure is read already.
 use crate::Condition;
-use crate::Read;
 use crate::Verdict;
+use crate::part::Read;
 use crate::part::part_at;
 use word::Word;
 ghost use mathlib.Core.Path.{_≡_};

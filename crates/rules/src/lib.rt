@@ -3,6 +3,7 @@ mod calls;
 mod part;
 mod structure;
 
+use crate::part::Read;
 ghost use mathlib.Core.Path.{_≡_};
 ghost use Rattle.rules.specs.Accept.{read};
 ghost use Rattle.rules.specs.Verdict.{number-of, said, meaning};
@@ -43,12 +44,6 @@ impl Condition {
 // What is said of a program: accepted, or the condition that it fails and the place.
 pub enum Verdict {
     Accepted,
-    Refused(Condition, usize),
-}
-
-// What a reader of one part found: the place after the part, or a refusal.
-pub enum Read {
-    Done(usize),
     Refused(Condition, usize),
 }
 

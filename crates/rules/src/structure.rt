@@ -1,6 +1,6 @@
 // Conditions 2 to 6: one reading of the words from word 0 up, to the first fault.
 use crate::Condition;
-use crate::Read;
+use crate::part::Read;
 use crate::part::part_at;
 use word::Word;
 ghost use mathlib.Core.Path.{_≡_};

@@ -9,7 +9,7 @@ use native.Mathlib.Omega.{arith}
 use lib.Dec.{eqb}
 use borrow.Author.Tests.{eq-eqb, eqb-false, eqb-true, ne-eqb}
 use Rattle.rules.specs.Syntax.{Atom, Constraint, Term, absento, atom, differ, empty, number, pair, symbol, typed, var}
--- the bound of the writer's contracts
+-- how many pairs a term has; it stands in specs/ because the writer's contracts name it
 pub use Rattle.semantics.specs.Invariant.{term-size}
 use Rattle.semantics.specs.Invariant.{ConstraintIn, TermIn, TermsIn, Vars, Without, some-node}
 use Rattle.semantics.specs.Logic.{Assignment, Lacks, Meets, OfSort, Tree, firsts, leaf, node, value}

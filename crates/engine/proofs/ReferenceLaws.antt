@@ -12,8 +12,7 @@ use Rattle.rules.specs.Reading.{kind-at, payload-at, after}
 use Rattle.rules.specs.Written.{sort-kind}
 use Rattle.rules.specs.Syntax.{Atom, symbol, number, empty, Term, var, atom, pair, Sort, symbols, numbers}
 use Rattle.semantics.specs.Substitution.{same-atom}
-use Rattle.semantics.specs.Invariant.{term-size}
-use Rattle.semantics.proofs.TermLaws.{same-atom-true, same-atom-refl}
+use Rattle.semantics.proofs.TermLaws.{same-atom-true, same-atom-refl, term-size}
 use Rattle.engine.specs.Walk.{NodeAt}
 use Rattle.engine.specs.Reference.{at, AtomIs, TermAt, TermsAt, refer, pos-of, base-of, beyond, Vars, Stands, positions}
 use Rattle.rules.specs.Settings.{most-words}

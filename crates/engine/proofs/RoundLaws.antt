@@ -9,7 +9,7 @@ use borrow.Author.Tests.{le-leb, lt-leb}
 use Rattle.rules.specs.Syntax.{Program, Relation}
 use Rattle.rules.proofs.Accepted.{read-is-written}
 use Rattle.semantics.specs.Steps as steps
-use Rattle.semantics.specs.Steps.{Outcome, done, stop}
+use Rattle.semantics.specs.Steps.{Outcome, stop}
 use Rattle.semantics.specs.Path.{Path, ChoicePoint}
 use Rattle.semantics.specs.Answer.{answer}
 use Rattle.semantics.specs.Run.{usable, page}

@@ -11,9 +11,10 @@ use Rattle.rules.specs.Reading.{choose, kind-at}
 use Rattle.rules.specs.Syntax.{Term, var, atom, pair}
 use Rattle.rules.specs.Lists.{Each}
 use Rattle.semantics.specs.Substitution.{Substitution, lookup, resolve}
-use Rattle.semantics.specs.Invariant.{Without, Open, Good, term-size}
+use Rattle.semantics.specs.Invariant.{Without, Open, Good}
 use Rattle.semantics.proofs.Basics.{compared, same, other}
 use Rattle.semantics.proofs.SubstitutionLaws.{lookup-same, lookup-other, resolve-atom, resolve-pair, resolve-open, resolve-lookup, size}
+use Rattle.semantics.proofs.TermLaws.{term-size}
 use Rattle.engine.specs.Reference.{at, pos-of, beyond, Stands, positions}
 use Rattle.engine.specs.Memory.{BoundTo, Entry, BindingsIn}
 use Rattle.engine.specs.Walk.{Follows, Resolves}

@@ -16,8 +16,7 @@ pub use crate::report::Report;
 use crate::rounds::rounds;
 use crate::search::table::fill_relations;
 use rules::Verdict;
-ghost use mathlib.Core.Path.{_≡_};
-ghost use Rattle.engine.specs.Report.{RunPromise, bound-of};
+ghost use Rattle.engine.specs.Report.{RunPromise};
 ghost use Rattle.engine.specs.Run.{Admitted, RefusalReport};
 
 // The report of a refused call: number and place, all counts 0.

@@ -1,7 +1,7 @@
 -- Programs whose goals are the same but for the numbers of variables and of called relations run in lockstep: each turn of the one is a turn of the other, with the same steps, cuts and answers.
 use Prim.Native.Nat.{_+_, _-_, _<_, _≤_, suc, ℕ}
 use mathlib.Core.Bool.{Bool, false, true}
-use mathlib.Core.List.{List, [], _∷_}
+use mathlib.Core.List.{List, _∷_}
 use mathlib.Core.Option.{Option, none, some}
 use mathlib.Core.Path.{_≡_, ap, ap₂, refl, subst, sym}
 use native.Mathlib.Omega.{arith}

@@ -9,12 +9,12 @@ use lib.Dec.{eqb, ltb}
 use lib.ListN.{length}
 use borrow.Author.Tests.{eq-eqb, le-ltb, lt-ltb, ltb-true, ne-eqb}
 use Rattle.rules.specs.Syntax.{Atom, Term, atom, pair, var}
-use Rattle.semantics.specs.Invariant.{Fits, Good, In, Open, Sat, TermIn, Throughout, Vars, Without, term-size}
+use Rattle.semantics.specs.Invariant.{Fits, Good, In, Open, Sat, TermIn, Throughout, Vars, Without}
 use Rattle.semantics.specs.Logic.{Assignment, node, value}
 use Rattle.semantics.specs.Substitution.{Substitution, hop-variable, last-variable, lookup, resolve, walk, walk-for}
 use Rattle.semantics.specs.Unify.{is-var}
 use Rattle.semantics.proofs.Basics.{clash, compared, each-map, other, same}
-use Rattle.semantics.proofs.TermLaws.{Agree, replace, replace-in, replace-other, replace-same, replace-without, term-more, value-local, value-replace, vars-both, vars-map, vars-replace}
+use Rattle.semantics.proofs.TermLaws.{Agree, replace, replace-in, replace-other, replace-same, replace-without, term-more, value-local, value-replace, vars-both, vars-map, vars-replace, term-size}
 
 -- a term that following does not change
 abbrev pub Followed : Substitution → Term → Type 0

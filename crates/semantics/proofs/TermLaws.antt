@@ -10,12 +10,17 @@ use lib.Dec.{eqb}
 use borrow.Author.Tests.{eq-eqb, eqb-false, eqb-true, ne-eqb}
 use Rattle.rules.specs.Syntax.{Atom, Constraint, Term, absento, atom, differ, empty, number, pair, symbol, typed, var}
 -- how many pairs a term has; it stands in specs/ because the writer's contracts name it
-pub use Rattle.semantics.specs.Invariant.{term-size}
 use Rattle.semantics.specs.Invariant.{ConstraintIn, TermIn, TermsIn, Vars, Without, some-node}
 use Rattle.semantics.specs.Logic.{Assignment, Lacks, Meets, OfSort, Tree, firsts, leaf, node, value}
 use Rattle.semantics.specs.Substitution.{put, same-atom, shift, shift-constraint}
 use Rattle.semantics.specs.Unify.{is-atom, is-var}
 use Rattle.semantics.proofs.Basics.{clash, compared, none-of, one-of, other, same}
+
+-- how many pairs a term has
+abbrev pub term-size : Term → ℕ
+term-size (var x) = 0
+term-size (atom a) = 0
+term-size (pair s t) = suc (term-size s + term-size t)
 
 pub same-atom-true : (a b : Atom) → same-atom a b ≡ true → a ≡ b
 same-atom-true (symbol p) (symbol q) e = ap symbol (eqb-true p q e)

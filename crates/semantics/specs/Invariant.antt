@@ -1,5 +1,5 @@
 -- What holds of terms, bindings, programs and states throughout a run. No public promise needs it: the contracts of the engine's private functions ask for it, and proofs/ shows that every turn keeps it.
-use Prim.Native.Nat.{_+_, _<_, _≤_, suc, ℕ}
+use Prim.Native.Nat.{_+_, _<_, _≤_, ℕ}
 use mathlib.Core.Bool.{Bool, _||_, false, true}
 use mathlib.Core.List.{List, [], _∷_}
 use mathlib.Core.Option.{none, some}
@@ -32,12 +32,6 @@ abbrev pub some-node : (Term → Bool) → Term → Bool
 some-node p (var x) = p (var x)
 some-node p (atom a) = p (atom a)
 some-node p (pair s t) = p (pair s t) || (some-node p s || some-node p t)
-
--- how many pairs a term has: the writer's bound on what it goes through
-abbrev pub term-size : Term → ℕ
-term-size (var x) = 0
-term-size (atom a) = 0
-term-size (pair s t) = suc (term-size s + term-size t)
 
 -- the term is over the variables below v, and its payloads fit a word
 abbrev pub TermIn : ℕ → Term → Type 0

@@ -5,13 +5,6 @@ use Rattle.engine.proofs.RoundLaws.{gives-full, gives-steps-out, gives-
 use borrow.Author.Needs.{needs}
 use Rattle.engine.proofs.round.give.Statement.{statement}
 use Rattle.engine.proofs.round.give.Tie as tie
-use Rattle.engine.proofs.round.give.Reads as reads
-use Rattle.engine.proofs.round.give.Lts as lts
-use Rattle.engine.proofs.writer.answer.write_answer.Reads as write-answer-reads
-use Rattle.engine.proofs.search.choice.backtrack.Reads as backtrack-reads
-use Rattle.engine.proofs.search.constrain.with_counts.Reads as with-counts-reads
-use Rattle.engine.proofs.round.broken.Reads as broken-reads
-use Rattle.engine.proofs.round.completed.Reads as completed-reads
 
 write-answer-requires : tie.Need-write-answer-requires
 write-answer-requires c κs = search needs

@@ -10,14 +10,6 @@ use Rattle.engine.proofs.RoundLaws.{Rounding, round-starts, round-stops
 use borrow.Author.Needs.{needs}
 use Rattle.engine.proofs.round.round.Statement.{statement}
 use Rattle.engine.proofs.round.round.Tie as tie
-use Rattle.engine.proofs.round.round.Reads as reads
-use Rattle.engine.proofs.round.round.Lts as lts
-use Rattle.engine.proofs.round.broken.Reads as broken-reads
-use Rattle.engine.proofs.round.completed.Reads as completed-reads
-use Rattle.engine.proofs.round.end_of.Reads as end-of-reads
-use Rattle.engine.proofs.round.give.Reads as give-reads
-use Rattle.engine.proofs.search.search.search.Reads as search-reads
-use Rattle.engine.proofs.search.table.relation.Reads as relation-reads
 
 abbrev Inv-loop : tie.InvT-loop
 Inv-loop program scratch₀ output₀ query number params state₀ goal₀ used₀ answers₀ cuts₀ scratch output state goal used answers cuts =

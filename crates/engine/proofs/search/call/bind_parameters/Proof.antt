@@ -8,11 +8,6 @@ use Rattle.engine.specs.Call.{BindingParameters}
 use Rattle.engine.proofs.ArgumentLaws.{pass-first, pass-step, pass-end}
 use Rattle.engine.proofs.search.call.bind_parameters.Statement.{statement}
 use Rattle.engine.proofs.search.call.bind_parameters.Tie as tie
-use Rattle.engine.proofs.search.call.bind_parameters.Reads as reads
-use Rattle.engine.proofs.search.call.bind_parameters.Lts as lts
-use Rattle.engine.proofs.search.call.last_variable.Reads as last-variable-reads
-use Rattle.engine.proofs.terms.trail.bind.Reads as bind-reads
-use Rattle.engine.proofs.terms.walk.skip.Reads as skip-reads
 
 abbrev Inv-loop : tie.InvT-loop
 Inv-loop program scratch₀ arguments first count trail at₀ variable₀ left₀ bound₀ scratch at variable left bound =

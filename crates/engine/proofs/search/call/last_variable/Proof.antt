@@ -10,10 +10,6 @@ use Rattle.engine.proofs.WalkLaws.{hops, walk-variable, walk-hop}
 use Rattle.engine.proofs.ArgumentLaws.{last-other, last-open, last-stop, last-onward}
 use Rattle.engine.proofs.search.call.last_variable.Statement.{statement}
 use Rattle.engine.proofs.search.call.last_variable.Tie as tie
-use Rattle.engine.proofs.search.call.last_variable.Reads as reads
-use Rattle.engine.proofs.search.call.last_variable.Lts as lts
-use Rattle.engine.proofs.terms.walk.node_at.Reads as node-at-reads
-use Rattle.engine.proofs.terms.walk.variable_at.Reads as variable-at-reads
 
 abbrev Inv-loop : tie.InvT-loop
 Inv-loop program scratch term at₀ at = (bs : Substitution) (t : Term) → Follows program scratch bs term t → (u : Term) × Follows program scratch bs at u × (argument bs u ≡ argument bs t)

@@ -4,12 +4,6 @@ use Rattle.engine.proofs.CallTaken.{callee-few, call-inside, call-liste
 use borrow.Author.Needs.{needs}
 use Rattle.engine.proofs.search.call.take_call.Statement.{statement}
 use Rattle.engine.proofs.search.call.take_call.Tie as tie
-use Rattle.engine.proofs.search.call.take_call.Reads as reads
-use Rattle.engine.proofs.search.call.take_call.Lts as lts
-use Rattle.engine.proofs.search.call.bind_parameters.Reads as bind-parameters-reads
-use Rattle.engine.proofs.search.goal.push_goal.Reads as push-goal-reads
-use Rattle.engine.proofs.search.table.relation.Reads as relation-reads
-use Rattle.engine.proofs.terms.walk.node_at.Reads as node-at-reads
 
 returns : tie.Need-returns
 returns c = λ P p cs base n ts k. call-cut k (c .if1 .taken)

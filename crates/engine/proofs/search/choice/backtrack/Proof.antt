@@ -4,12 +4,6 @@ use Rattle.engine.proofs.BacktrackTaken.{back-none, back-undoes, back-c
 use borrow.Author.Needs.{needs}
 use Rattle.engine.proofs.search.choice.backtrack.Statement.{statement}
 use Rattle.engine.proofs.search.choice.backtrack.Tie as tie
-use Rattle.engine.proofs.search.choice.backtrack.Reads as reads
-use Rattle.engine.proofs.search.choice.backtrack.Lts as lts
-use Rattle.engine.proofs.search.choice.saved_state.Reads as saved-state-reads
-use Rattle.engine.proofs.terms.trail.undo.Reads as undo-reads
-use Rattle.engine.proofs.terms.walk.node_at.Reads as node-at-reads
-use Rattle.engine.proofs.terms.walk.part_end.Reads as part-end-reads
 
 returns : tie.Need-returns
 returns c = λ P p cs t h. back-none _ t h (c .if1 .taken)

@@ -7,8 +7,6 @@ use Rattle.engine.proofs.DisjTaken.{point-stores}
 use borrow.Author.Needs.{needs}
 use Rattle.engine.proofs.search.choice.push_choice.Statement.{statement}
 use Rattle.engine.proofs.search.choice.push_choice.Tie as tie
-use Rattle.engine.proofs.search.choice.push_choice.Reads as reads
-use Rattle.engine.proofs.search.choice.push_choice.Lts as lts
 
 mul-at : tie.Need-mul-at
 mul-at c = search needs

@@ -3,9 +3,6 @@ use Rattle.engine.proofs.ConstrainTaken.{review-fails, review-holds, re
 use borrow.Author.Needs.{needs}
 use Rattle.engine.proofs.search.constrain.after_review.Statement.{statement}
 use Rattle.engine.proofs.search.constrain.after_review.Tie as tie
-use Rattle.engine.proofs.search.constrain.after_review.Reads as reads
-use Rattle.engine.proofs.search.constrain.after_review.Lts as lts
-use Rattle.engine.proofs.search.constrain.with_counts.Reads as with-counts-reads
 
 enum-known-reviewed : tie.Need-enum-known-reviewed
 enum-known-reviewed c = search needs

@@ -3,11 +3,6 @@ use Rattle.engine.proofs.ConstrainTaken.{constraint-full, constraint-re
 use borrow.Author.Needs.{needs}
 use Rattle.engine.proofs.search.constrain.take_constraint.Statement.{statement}
 use Rattle.engine.proofs.search.constrain.take_constraint.Tie as tie
-use Rattle.engine.proofs.search.constrain.take_constraint.Reads as reads
-use Rattle.engine.proofs.search.constrain.take_constraint.Lts as lts
-use Rattle.engine.proofs.search.constrain.after_review.Reads as after-review-reads
-use Rattle.engine.proofs.search.constrain.with_counts.Reads as with-counts-reads
-use Rattle.engine.proofs.terms.review.review.Reads as review-reads
 
 add-t9 : tie.Need-add-t9
 add-t9 c = search needs

@@ -3,13 +3,6 @@ use Rattle.engine.proofs.ConstrainTaken.{equal-first, equal-meets, equa
 use borrow.Author.Needs.{needs}
 use Rattle.engine.proofs.search.constrain.take_equal.Statement.{statement}
 use Rattle.engine.proofs.search.constrain.take_equal.Tie as tie
-use Rattle.engine.proofs.search.constrain.take_equal.Reads as reads
-use Rattle.engine.proofs.search.constrain.take_equal.Lts as lts
-use Rattle.engine.proofs.search.constrain.after_review.Reads as after-review-reads
-use Rattle.engine.proofs.search.constrain.with_counts.Reads as with-counts-reads
-use Rattle.engine.proofs.terms.review.review_all.Reads as review-all-reads
-use Rattle.engine.proofs.terms.unify.unify.Reads as unify-reads
-use Rattle.engine.proofs.terms.walk.skip.Reads as skip-reads
 
 add-skip : tie.Need-add-skip
 add-skip c = search needs

@@ -4,8 +4,6 @@ use lib.ListN.{length-set}
 use borrow.Author.Needs.{needs}
 use Rattle.engine.proofs.search.goal.push_goal.Statement.{statement}
 use Rattle.engine.proofs.search.goal.push_goal.Tie as tie
-use Rattle.engine.proofs.search.goal.push_goal.Reads as reads
-use Rattle.engine.proofs.search.goal.push_goal.Lts as lts
 
 add-at : tie.Need-add-at
 add-at c = search needs

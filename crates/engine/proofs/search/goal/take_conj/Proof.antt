@@ -10,10 +10,6 @@ use Rattle.engine.proofs.ConjLaws.{Lining, lining-next}
 use Rattle.engine.proofs.ConjTaken.{task-inside, task-end, conj-starts, conj-stops, conj-goes, conj-on}
 use Rattle.engine.proofs.search.goal.take_conj.Statement.{statement}
 use Rattle.engine.proofs.search.goal.take_conj.Tie as tie
-use Rattle.engine.proofs.search.goal.take_conj.Reads as reads
-use Rattle.engine.proofs.search.goal.take_conj.Lts as lts
-use Rattle.engine.proofs.terms.walk.node_at.Reads as node-at-reads
-use Rattle.engine.proofs.terms.walk.part_end.Reads as part-end-reads
 
 abbrev Inv-loop : tie.InvT-loop
 Inv-loop program scratch₀ st conjunction end goal₀ filled₀ scratch goal filled = (P : Program) (p : Path) (cs : List ChoicePoint) (base : ℕ) (gs : Goals) → Taking P program scratch₀ st conjunction p cs (base, conj gs)

@@ -3,12 +3,6 @@ use Rattle.engine.proofs.DisjTaken.{disj-full, disj-inside, disj-last, 
 use borrow.Author.Needs.{needs}
 use Rattle.engine.proofs.search.goal.take_disj.Statement.{statement}
 use Rattle.engine.proofs.search.goal.take_disj.Tie as tie
-use Rattle.engine.proofs.search.goal.take_disj.Reads as reads
-use Rattle.engine.proofs.search.goal.take_disj.Lts as lts
-use Rattle.engine.proofs.search.choice.push_choice.Reads as push-choice-reads
-use Rattle.engine.proofs.search.goal.push_goal.Reads as push-goal-reads
-use Rattle.engine.proofs.terms.walk.node_at.Reads as node-at-reads
-use Rattle.engine.proofs.terms.walk.part_end.Reads as part-end-reads
 
 add-t12 : tie.Need-add-t12
 add-t12 c = search needs

@@ -3,8 +3,6 @@ use Rattle.engine.proofs.SearchLaws.{count-one}
 use borrow.Author.Needs.{needs}
 use Rattle.engine.proofs.search.search.counted.Statement.{statement}
 use Rattle.engine.proofs.search.search.counted.Tie as tie
-use Rattle.engine.proofs.search.search.counted.Reads as reads
-use Rattle.engine.proofs.search.search.counted.Lts as lts
 
 returns : tie.Need-returns
 returns c = search needs

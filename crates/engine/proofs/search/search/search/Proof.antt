@@ -11,10 +11,6 @@ use Rattle.engine.specs.Search.{Searching}
 use Rattle.engine.proofs.SearchLaws.{Going, going-start, search-due, searched-stops, searched-over, over-some, searched-goal, searched-answer}
 use Rattle.engine.proofs.search.search.search.Statement.{statement}
 use Rattle.engine.proofs.search.search.search.Tie as tie
-use Rattle.engine.proofs.search.search.search.Reads as reads
-use Rattle.engine.proofs.search.search.search.Lts as lts
-use Rattle.engine.proofs.search.search.counted.Reads as counted-reads
-use Rattle.engine.proofs.search.turn.turn.Reads as turn-reads
 
 abbrev Inv-loop : tie.InvT-loop
 Inv-loop program scratch₀ task round before st₀ goal₀ cuts₀ scratch st goal cuts =

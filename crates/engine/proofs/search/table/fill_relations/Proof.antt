@@ -7,9 +7,6 @@ use Rattle.rules.specs.Inner.{RelationsAt}
 use Rattle.engine.proofs.TableLaws.{Filling, fill-start, fill-few, fill-step, fill-end}
 use Rattle.engine.proofs.search.table.fill_relations.Statement.{statement}
 use Rattle.engine.proofs.search.table.fill_relations.Tie as tie
-use Rattle.engine.proofs.search.table.fill_relations.Reads as reads
-use Rattle.engine.proofs.search.table.fill_relations.Lts as lts
-use Rattle.engine.proofs.terms.walk.node_at.Reads as node-at-reads
 
 abbrev Inv-loop : tie.InvT-loop
 Inv-loop program scratch₀ at₀ number₀ scratch at number = (P : Program) → RelationsAt program 0 P → length P ≤ 256 → Filling program scratch₀ scratch P at number

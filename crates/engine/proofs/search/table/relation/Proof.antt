@@ -4,9 +4,6 @@ use Rattle.engine.proofs.TableLaws.{row-few, row-place, row-inside, row
 use borrow.Author.Needs.{needs}
 use Rattle.engine.proofs.search.table.relation.Statement.{statement}
 use Rattle.engine.proofs.search.table.relation.Tie as tie
-use Rattle.engine.proofs.search.table.relation.Reads as reads
-use Rattle.engine.proofs.search.table.relation.Lts as lts
-use Rattle.engine.proofs.terms.walk.node_at.Reads as node-at-reads
 
 add-at : tie.Need-add-at
 add-at c = search needs

@@ -5,15 +5,6 @@ use Rattle.engine.proofs.TakeLaws.{take-none, of-kind, is-equal, is-con
 use borrow.Author.Needs.{needs}
 use Rattle.engine.proofs.search.take.take.Statement.{statement}
 use Rattle.engine.proofs.search.take.take.Tie as tie
-use Rattle.engine.proofs.search.take.take.Reads as reads
-use Rattle.engine.proofs.search.take.take.Lts as lts
-use Rattle.engine.proofs.search.call.take_call.Reads as take-call-reads
-use Rattle.engine.proofs.search.goal.take_conj.Reads as take-conj-reads
-use Rattle.engine.proofs.search.goal.take_disj.Reads as take-disj-reads
-use Rattle.engine.proofs.search.constrain.with_counts.Reads as with-counts-reads
-use Rattle.engine.proofs.search.constrain.take_constraint.Reads as take-constraint-reads
-use Rattle.engine.proofs.search.constrain.take_equal.Reads as take-equal-reads
-use Rattle.engine.proofs.terms.walk.node_at.Reads as node-at-reads
 
 returns : tie.Need-returns
 returns c = λ P p cs task d. take-none P _ _ p cs _ _ task _ (c .if1 .taken)

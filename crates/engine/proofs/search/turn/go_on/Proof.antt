@@ -4,9 +4,6 @@ use Rattle.engine.proofs.TurnLaws.{cell-there, goes-answer, goes-fewer,
 use borrow.Author.Needs.{needs}
 use Rattle.engine.proofs.search.turn.go_on.Statement.{statement}
 use Rattle.engine.proofs.search.turn.go_on.Tie as tie
-use Rattle.engine.proofs.search.turn.go_on.Reads as reads
-use Rattle.engine.proofs.search.turn.go_on.Lts as lts
-use Rattle.engine.proofs.search.turn.leave.Reads as leave-reads
 
 returns : tie.Need-returns
 returns c = λ P n p cs t h. goes-answer P n _ _ _ (c .before .before .before .before .before .before .args .st) p cs t h (c .before .before .if1 .taken) (c .if2 .taken)

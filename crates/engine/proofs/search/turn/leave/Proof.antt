@@ -4,9 +4,6 @@ use Rattle.engine.proofs.TurnLaws.{left-over, left-goal}
 use borrow.Author.Needs.{needs}
 use Rattle.engine.proofs.search.turn.leave.Statement.{statement}
 use Rattle.engine.proofs.search.turn.leave.Tie as tie
-use Rattle.engine.proofs.search.turn.leave.Reads as reads
-use Rattle.engine.proofs.search.turn.leave.Lts as lts
-use Rattle.engine.proofs.search.choice.backtrack.Reads as backtrack-reads
 
 backtrack-requires : tie.Need-backtrack-requires
 backtrack-requires c κs = search needs

@@ -3,11 +3,6 @@ use Rattle.engine.proofs.TurnLaws.{held-goes, held-left, held-cut, turn
 use borrow.Author.Needs.{needs}
 use Rattle.engine.proofs.search.turn.turn.Statement.{statement}
 use Rattle.engine.proofs.search.turn.turn.Tie as tie
-use Rattle.engine.proofs.search.turn.turn.Reads as reads
-use Rattle.engine.proofs.search.turn.turn.Lts as lts
-use Rattle.engine.proofs.search.take.take.Reads as take-reads
-use Rattle.engine.proofs.search.turn.go_on.Reads as go-on-reads
-use Rattle.engine.proofs.search.turn.leave.Reads as leave-reads
 
 take-requires : tie.Need-take-requires
 take-requires c κs = search needs

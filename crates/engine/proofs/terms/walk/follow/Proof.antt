@@ -3,10 +3,6 @@ use Rattle.engine.proofs.FollowLaws.{walked-below, shaped-open, shaped-
 use borrow.Author.Needs.{needs}
 use Rattle.engine.proofs.terms.walk.follow.Statement.{statement}
 use Rattle.engine.proofs.terms.walk.follow.Tie as tie
-use Rattle.engine.proofs.terms.walk.follow.Reads as reads
-use Rattle.engine.proofs.terms.walk.follow.Lts as lts
-use Rattle.engine.proofs.terms.walk.variable_at.Reads as variable-at-reads
-use Rattle.engine.proofs.terms.walk.walk.Reads as walk-reads
 
 walk-requires : tie.Need-walk-requires
 walk-requires c κs = let h = c .before .before .pre .1 in (h .bindings, h .term, h .follows)

@@ -31,16 +31,16 @@ use Rattle.engine.specs.Review.{ConstraintsHeld}
 use Rattle.engine.specs.Names.{top-from, word-from, Distinct, Names, NamesGiven, Named}
 use Rattle.engine.specs.Term.{Room, Touched, Laid, Placed, all-laid, some-missing}
 use Rattle.engine.specs.Lines.{joined, add-lines, Wholes, AnswerSoFar, Writing}
-use Rattle.engine.specs.Query.{Known, query-words, Query, Ends, answer-end, EndedAs}
+use Rattle.engine.specs.Query.{Known, query-words, Query}
 use Rattle.engine.specs.Look.{ThroughAs}
 use Rattle.engine.specs.Constraint.{added-says, AddedAs}
 use Rattle.engine.specs.Take.{PathHeld, registers}
-use Rattle.engine.specs.Answer.{Answering, AnswerLeft, answer-says, AnswerStands, AnsweredAs}
+use Rattle.engine.specs.Answer.{Answering, AnswerLeft, answer-says, AnswerStands, AnsweredAs, Ends, answer-end, EndedAs}
 use Rattle.engine.specs.declared.search.state.State.{State}
 use Rattle.engine.specs.declared.writer.term.Put.{Put}
 use Rattle.engine.specs.declared.writer.term.Put.the-variants.{End, Missed}
-use Rattle.engine.specs.declared.writer.look.Looked.{Looked}
-use Rattle.engine.specs.declared.writer.look.Looked.the-variants as looked
+use Rattle.engine.specs.declared.writer.look.LookedThrough.{LookedThrough}
+use Rattle.engine.specs.declared.writer.look.LookedThrough.the-variants as looked
 use Rattle.engine.specs.declared.writer.constraint.Added.{Added}
 use Rattle.engine.specs.declared.writer.constraint.Added.the-variants as added
 use Rattle.engine.specs.declared.writer.answer.Answered.{Answered}
@@ -110,7 +110,7 @@ module _ (o₀ o : List ℕ) (start end : ℕ) (v : List ℕ) (r : Added) where
   pub ended-steps : r ≡ added.StepsOut → EndedAs o₀ o o start end v r answered.StepsOut
   ended-steps e = record { says = rw e refl; written = λ n l q. clash (cc); touched = λ t. wider t }
 
-  pub ended-path : {left : ℕ} → r ≡ added.PathOut left → EndedAs o₀ o o start end v r (answered.PathOut left)
+  pub ended-path : {left : ℕ} → r ≡ added.WaitingOut left → EndedAs o₀ o o start end v r (answered.WaitingOut left)
   ended-path e = record { says = rw e refl; written = λ n l q. clash (cc); touched = λ t. wider t }
 
   pub ended-full : {place left : ℕ} → r ≡ added.Done place left → end < place → EndedAs o₀ o o start end v r (answered.Full left)
@@ -143,7 +143,7 @@ overrun end (added.Done place left) l e = go (ltb end place) refl e
     go true q f = let z : left ≡ l = cc in record { place = place; is = ap (added.Done place) z; beyond = ltb-true end place q }
     go false q f = clash (cc)
 overrun end added.StepsOut l e = clash (cc)
-overrun end (added.PathOut left) l e = clash (cc)
+overrun end (added.WaitingOut left) l e = clash (cc)
 
 -- names: none before, none after
 pub unnamed : {s : List ℕ} → Nameless s → Names s 0 []
@@ -181,7 +181,7 @@ words-are bs n ls = ap (λ v. part 15 (query-words bs (names-of bs n) 0 n ++ v))
 ends-said : (bs : Substitution) (n end : ℕ) (ls : List Line) (r : Added) → and-then (added-says ls r) (λ ls k. done (answer-words bs n ls) k) ≡ answer-says (answer-words bs n ls) (answer-end end r)
 ends-said bs n end ls (added.Done place left) = by-choose (λ q. done (answer-words bs n ls) left ≡ answer-says (answer-words bs n ls) q) (ltb end place) (λ _. answered.Full left) (λ _. answered.Written place left) (λ _. refl) (λ _. refl)
 ends-said bs n end ls added.StepsOut = refl
-ends-said bs n end ls (added.PathOut left) = refl
+ends-said bs n end ls (added.WaitingOut left) = refl
 
 -- Answering, in the order of the code's calls.
 module _ {P : Program} {ws s output : List ℕ} {st : State} {p : Path} {cs : List ChoicePoint} {params used : ℕ} (a : Answering P ws s output st p cs params used) where
@@ -201,14 +201,14 @@ module _ {P : Program} {ws s output : List ℕ} {st : State} {p : Path} {cs : Li
   as-before = record { stored = a .stored; scratch-length = refl; output-length = refl; before = refl }
 
   -- the steps of the query terms
-  module _ (r : Looked) (h : ThroughAs bs (parameters 0 params) (st .steps) r) where
+  module _ (r : LookedThrough) (h : ThroughAs bs (parameters 0 params) (st .steps) r) where
     pub answer-steps : r ≡ looked.StepsOut → AnsweredAs P ws s output s output st p cs used (answer p params (st .steps)) answered.StepsOut
     unfolding ThroughAs
     answer-steps e =
         let d : look-through bs (parameters 0 params) (st .steps) ≡ stop no-steps 0 = rw e at h in
         record { leaves-lent = as-before; words = []; says = rw d refl; written = λ n l q. clash (cc); full = λ l q. clash (cc) }
 
-    pub answer-path : {left : ℕ} → r ≡ looked.PathOut left → AnsweredAs P ws s output s output st p cs used (answer p params (st .steps)) (answered.PathOut left)
+    pub answer-path : {left : ℕ} → r ≡ looked.WaitingOut left → AnsweredAs P ws s output s output st p cs used (answer p params (st .steps)) (answered.WaitingOut left)
     unfolding ThroughAs
     answer-path {left} e =
         let d : look-through bs (parameters 0 params) (st .steps) ≡ stop (at-bound waiting) left = rw e at h in
@@ -314,11 +314,11 @@ module _ {P : Program} {ws s output : List ℕ} {st : State} {p : Path} {cs : Li
 
 -- The same from what the calls promise, one after the other.
 module _ {P : Program} {ws s output : List ℕ} {st : State} {p : Path} {cs : List ChoicePoint} {params used : ℕ} (a : Answering P ws s output st p cs params used) where
-  module _ (r : Looked) (look : (bs : Substitution) → Binds ws s bs → ThroughAs bs (parameters 0 params) (st .steps) r) where
+  module _ (r : LookedThrough) (look : (bs : Substitution) → Binds ws s bs → ThroughAs bs (parameters 0 params) (st .steps) r) where
     pub steps-out-now : r ≡ looked.StepsOut → AnsweredAs P ws s output s output st p cs used (answer p params (st .steps)) answered.StepsOut
     steps-out-now e = answer-steps a r (look (p .bindings) (answer-binds a)) e
 
-    pub path-out-now : {left : ℕ} → r ≡ looked.PathOut left → AnsweredAs P ws s output s output st p cs used (answer p params (st .steps)) (answered.PathOut left)
+    pub path-out-now : {left : ℕ} → r ≡ looked.WaitingOut left → AnsweredAs P ws s output s output st p cs used (answer p params (st .steps)) (answered.WaitingOut left)
     path-out-now e = answer-path a r (look (p .bindings) (answer-binds a)) e
 
   module _ {s₁ : List ℕ} {top : ℕ} (name : (bs : Substitution) → Binds ws s bs → Names s 0 [] → Named s s₁ top (names-of bs params)) where
@@ -352,7 +352,7 @@ module _ {P : Program} {ws s output : List ℕ} {st : State} {p : Path} {cs : Li
         pub ends-now : Ends output out₂ used end (page-words (p .bindings) params (added-now .lines)) d
         ends-now = answer-ends a named-now room page-now _ d added-now
 
-        pub answered-now : (r : Looked) → ((bs : Substitution) → Binds ws s bs → ThroughAs bs (parameters 0 params) (st .steps) r) → r ≡ looked.Done left
+        pub answered-now : (r : LookedThrough) → ((bs : Substitution) → Binds ws s bs → ThroughAs bs (parameters 0 params) (st .steps) r) → r ≡ looked.Done left
             → {s₃ : List ℕ} (out₃ : List ℕ) (q : Answered) → end ≡ usable (length output) → ((names : List ℕ) → Names s₂ top names → Named s₂ s₃ 0 [])
             → ((o : List ℕ) (v : List ℕ) → Ends o out₂ used end v d → EndedAs o out₂ out₃ used end v d q)
             → AnsweredAs P ws s output s₃ out₃ st p cs used (answer p params (st .steps)) q

@@ -34,7 +34,7 @@ back-none {P} {ws} {s} {p} {cs} st t h e = go cs (h .choices-are)
     go [] q = record { path = p; says = refl; held = subst (λ ds. PathHeld P ws s st p ds) (none-left cs (h .choices-are)) h }
     go (d ∷ ds) q = absurd (omega (arith, q))
 
--- The newest choice point, s′ being the scratch when the trail is taken backtrack.
+-- The newest choice point, s′ being the scratch when the trail is taken back.
 pub record Backtracking (P : Program) (ws s s′ : List ℕ) (st : State) (cs : List ChoicePoint) : Type 0 where
   pub point : ChoicePoint
   pub others : List ChoicePoint

@@ -50,7 +50,7 @@ review-holds st e f = rw (e, f) refl
 pub review-steps : (st : State) {q : Reviewed} → q ≡ reviewed.StepsOut → took-as (Stops Steps 0) st ≡ review-took st q
 review-steps st e = rw e refl
 
-pub review-path : (st : State) {q : Reviewed} {l : ℕ} → q ≡ reviewed.PathOut l → took-as (Stops (PathLimit Waiting) l) st ≡ review-took st q
+pub review-path : (st : State) {q : Reviewed} {l : ℕ} → q ≡ reviewed.WaitingOut l → took-as (Stops (PathLimit Waiting) l) st ≡ review-took st q
 review-path st e = rw e refl
 
 -- a path after a review
@@ -60,7 +60,7 @@ unfolding review-says
 reviewed-took st (reviewed.Fails l) o h e = took-leaves h (rw e refl)
 reviewed-took st (reviewed.Holds l) o h e = took-goes h (rw e refl)
 reviewed-took {p = p} st reviewed.StepsOut o h e = took-stops p (rw e refl)
-reviewed-took {p = p} st (reviewed.PathOut l) o h e = took-stops p (rw e refl)
+reviewed-took {p = p} st (reviewed.WaitingOut l) o h e = took-stops p (rw e refl)
 
 -- Equal.
 
@@ -102,7 +102,7 @@ module _ {P : Program} {ws s : List ℕ} {st : State} {w : ℕ} {p : Path} {cs :
         let q : (g : Went ws s (p .bindings) s′ n) × (unify-terms (p .bindings) (shift base u) (shift base v) (st .steps) ≡ stop no-steps 0) = rw e at told in
         took-stops p (rw (q .1) refl)
 
-    pub equal-path : {n l : ℕ} → r ≡ unified.PathOut n l → says s′ (Stops (PathLimit Waiting) l) st
+    pub equal-path : {n l : ℕ} → r ≡ unified.WaitingOut n l → says s′ (Stops (PathLimit Waiting) l) st
     unfolding UnifiedAs
     equal-path {n} {l} e =
         let q : (g : Went ws s (p .bindings) s′ n) × (unify-terms (p .bindings) (shift base u) (shift base v) (st .steps) ≡ stop (at-bound waiting) l) = rw e at told in

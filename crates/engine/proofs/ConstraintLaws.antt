@@ -30,12 +30,12 @@ use Rattle.engine.specs.Lines.{AnswerSoFar, add-lines, Writing, Extended
 use Rattle.engine.specs.Constraint.{added-says, AddedAs, Differs, Lists}
 use Rattle.engine.specs.Review.{ConstraintsHeld}
 use Rattle.engine.specs.declared.writer.line.Listed.the-variants.{Differ}
-use Rattle.engine.specs.declared.writer.look.Looked.{Looked}
-use Rattle.engine.specs.declared.writer.look.Looked.the-variants as looked
+use Rattle.engine.specs.declared.writer.look.LookedThrough.{LookedThrough}
+use Rattle.engine.specs.declared.writer.look.LookedThrough.the-variants as looked
 use Rattle.engine.specs.declared.terms.unify.Unified.{Unified}
 use Rattle.engine.specs.declared.terms.unify.Unified.the-variants as unified
 use Rattle.engine.specs.declared.writer.constraint.Added.{Added}
-use Rattle.engine.specs.declared.writer.constraint.Added.the-variants.{Done, StepsOut, PathOut}
+use Rattle.engine.specs.declared.writer.constraint.Added.the-variants.{Done, StepsOut, WaitingOut}
 use Rattle.engine.proofs.ReferenceLaws.{atom-word-is}
 use Rattle.engine.proofs.FrameLaws.{kept-same}
 use Rattle.engine.proofs.TrailLaws.{fresh-few, apart-same, apart-trans, undone-apart}
@@ -82,7 +82,7 @@ module _ {ws s : List ℕ} {bs : Substitution} {a : ℕ} {u : Term} {b : ℕ} {v
         let q : (w : Went ws s bs s₁ n) × (unify-terms bs u v steps ≡ stop no-steps 0) = rw e at told in
         given-back (trial-stepped steps (d .meets) s₁ r told e) (q .0 .apart) (q .1) refl (λ next left z. clash (cc))
 
-    pub differ-pathed : {rest : ℕ} → r ≡ unified.PathOut n rest → AddedAs ws s s₂ g out bs (lines-of bs (differ u v) steps) (PathOut rest)
+    pub differ-pathed : {rest : ℕ} → r ≡ unified.WaitingOut n rest → AddedAs ws s s₂ g out bs (lines-of bs (differ u v) steps) (WaitingOut rest)
     unfolding UnifiedAs
     differ-pathed {rest} e =
         let q : (w : Went ws s bs s₁ n) × (unify-terms bs u v steps ≡ stop (at-bound waiting) rest) = rw e at told in
@@ -145,7 +145,7 @@ module _ {ws s s₂ : List ℕ} {bs : Substitution} {u v : Term} {trail n steps 
       let l : length (resolve-right bs (reverse (t .new))) ≡ length (reverse (t .new)) = right-length bs (reverse (t .new)) in
       equations-line (resolve-right bs (reverse (t .new))) (omega (arith, length-reverse (t .new), t .some-new)) (record { here = equations-kept trail 0 (reverse (t .new)) (h .held) (h .kept); count-is = h .count-is ∙ sym l; few = h .few })
 
-  module _ (r : Looked) (told : ThroughAs bs (rights (reverse (t .new))) rest r) {out : List ℕ} {first end place : ℕ} (g : Writing s out first end place) where
+  module _ (r : LookedThrough) (told : ThroughAs bs (rights (reverse (t .new))) rest r) {out : List ℕ} {first end place : ℕ} (g : Writing s out first end place) where
     lines-tried : lines-of bs (differ u v) steps ≡ and-then (look-says {A = Unit {0}} tt r) (λ _ l. done (tried-line-is ∷ []) l)
     unfolding ThroughAs tried-line-is
     lines-tried =
@@ -159,7 +159,7 @@ module _ {ws s s₂ : List ℕ} {bs : Substitution} {u v : Term} {trail n steps 
     pub tried-steps : r ≡ looked.StepsOut → AddedAs ws s s₂ g out bs (lines-of bs (differ u v) steps) StepsOut
     tried-steps e = kept-back (rw e refl) (λ next left q. clash (cc)) (g .page .touched)
 
-    pub tried-path : {after : ℕ} → r ≡ looked.PathOut after → AddedAs ws s s₂ g out bs (lines-of bs (differ u v) steps) (PathOut after)
+    pub tried-path : {after : ℕ} → r ≡ looked.WaitingOut after → AddedAs ws s s₂ g out bs (lines-of bs (differ u v) steps) (WaitingOut after)
     tried-path e = kept-back (rw e refl) (λ next left q. clash (cc)) (g .page .touched)
 
     pub tried-done : {after : ℕ} {out′ : List ℕ} {next : ℕ} → r ≡ looked.Done after → Extended g out′ next (tried-line-is ∷ []) → AddedAs ws s s₂ g out′ bs (lines-of bs (differ u v) steps) (Done next after)
@@ -167,7 +167,7 @@ module _ {ws s s₂ : List ℕ} {bs : Substitution} {u v : Term} {trail n steps 
 
 -- A term that was looked through, with the lines that its constraint comes to
 
-module _ {ws s : List ℕ} {bs : Substitution} {out : List ℕ} {first end place : ℕ} (g : Writing s out first end place) (held : Binds ws s bs) (t : Term) (steps : ℕ) (r : Looked) (told : LookedAs bs t steps r) (lines : List Line) where
+module _ {ws s : List ℕ} {bs : Substitution} {out : List ℕ} {first end place : ℕ} (g : Writing s out first end place) (held : Binds ws s bs) (t : Term) (steps : ℕ) (r : LookedThrough) (told : LookedAs bs t steps r) (lines : List Line) where
   abbrev term-lines : Outcome (List Line)
   term-lines = and-then (scan never bs [] t steps) (λ _ l. done lines l)
 
@@ -179,7 +179,7 @@ module _ {ws s : List ℕ} {bs : Substitution} {out : List ℕ} {first end place
   pub term-steps : r ≡ looked.StepsOut → AddedAs ws s s g out bs term-lines StepsOut
   term-steps e = untouched (rw e refl) (λ next left q. clash (cc)) (g .page .touched)
 
-  pub term-path : {rest : ℕ} → r ≡ looked.PathOut rest → AddedAs ws s s g out bs term-lines (PathOut rest)
+  pub term-path : {rest : ℕ} → r ≡ looked.WaitingOut rest → AddedAs ws s s g out bs term-lines (WaitingOut rest)
   term-path e = untouched (rw e refl) (λ next left q. clash (cc)) (g .page .touched)
 
   pub term-done : {rest : ℕ} {out′ : List ℕ} {next : ℕ} → r ≡ looked.Done rest → Extended g out′ next lines → AddedAs ws s s g out′ bs term-lines (Done next rest)
@@ -326,7 +326,7 @@ module _ {ws s₀ out₀ : List ℕ} {first end place₀ : ℕ} {g : Writing s�
     pub adding-stops : r ≡ StepsOut → AddedAs ws s₀ s′ g out′ bs (all-lines bs cs steps) StepsOut
     adding-stops e = stopped (stop no-steps 0) (rw e at (told .says)) refl (λ next left q. clash (cc))
 
-    pub adding-bound : {rest : ℕ} → r ≡ PathOut rest → AddedAs ws s₀ s′ g out′ bs (all-lines bs cs steps) (PathOut rest)
+    pub adding-bound : {rest : ℕ} → r ≡ WaitingOut rest → AddedAs ws s₀ s′ g out′ bs (all-lines bs cs steps) (WaitingOut rest)
     adding-bound {rest} e = stopped (stop (at-bound waiting) rest) (rw e at (told .says)) refl (λ next left q. clash (cc))
 
     pub adding-on : {next rest : ℕ} → r ≡ Done next rest → Adding ws s₀ g bs cs trail kept steps s′ out′ next rest (i + 1)

@@ -19,9 +19,9 @@ use Rattle.engine.specs.Scan.{TestAs, scan-says, ScanAs}
 use Rattle.engine.specs.Trial.{EquationsKept}
 use Rattle.engine.specs.Look.{look-says, LookedAs, Looks, rights, ThroughAs}
 use Rattle.engine.specs.declared.terms.scan.Scanned.{Scanned}
-use Rattle.engine.specs.declared.terms.scan.Scanned.the-variants.{Found, Clear, StepsOut, PathOut}
-use Rattle.engine.specs.declared.writer.look.Looked.{Looked}
-use Rattle.engine.specs.declared.writer.look.Looked.the-variants as looked
+use Rattle.engine.specs.declared.terms.scan.Scanned.the-variants.{Found, Clear, StepsOut, WaitingOut}
+use Rattle.engine.specs.declared.writer.look.LookedThrough.{LookedThrough}
+use Rattle.engine.specs.declared.writer.look.LookedThrough.the-variants as looked
 use Rattle.engine.proofs.ReferenceLaws.{atom-low}
 
 never-sought : TestAs (word 4 0) never
@@ -59,7 +59,7 @@ module _ (bs : Substitution) (t : Term) (steps : ℕ) (r : Scanned) (h : ScanAs 
   unfolding LookedAs scan-says
   look-steps e = rw e at said
 
-  pub look-path : {left : ℕ} → r ≡ PathOut left → LookedAs bs t steps (looked.PathOut left)
+  pub look-path : {left : ℕ} → r ≡ WaitingOut left → LookedAs bs t steps (looked.WaitingOut left)
   unfolding LookedAs scan-says
   look-path e = rw e at said
 
@@ -75,7 +75,7 @@ module _ {bs : Substitution} {ts : List Term} {steps : ℕ} {later : List Term} 
   unfolding ThroughAs
   looking-end e = g .same ∙ ap (λ us. look-through bs us left) e
 
-  module _ (t : Term) (others : List Term) (is : later ≡ t ∷ others) (r : Looked) (told : LookedAs bs t left r) where
+  module _ (t : Term) (others : List Term) (is : later ≡ t ∷ others) (r : LookedThrough) (told : LookedAs bs t left r) where
     looks-is : look-through bs ts steps ≡ and-then (look-says false r) (λ _ l. look-through bs others l)
     unfolding LookedAs
     looks-is = g .same ∙ ap (λ us. look-through bs us left) is ∙ ap (λ o. and-then o (λ _ l. look-through bs others l)) told
@@ -84,7 +84,7 @@ module _ {bs : Substitution} {ts : List Term} {steps : ℕ} {later : List Term} 
     unfolding ThroughAs
     looking-steps e = rw e at looks-is
 
-    pub looking-path : {rest : ℕ} → r ≡ looked.PathOut rest → ThroughAs bs ts steps (looked.PathOut rest)
+    pub looking-path : {rest : ℕ} → r ≡ looked.WaitingOut rest → ThroughAs bs ts steps (looked.WaitingOut rest)
     unfolding ThroughAs
     looking-path e = rw e at looks-is
 
@@ -124,14 +124,14 @@ module _ {ws s : List ℕ} {bs : Substitution} {cs : List (ℕ × Term)} {mark c
       go [] e h n = absurd (omega arith)
       go (b ∷ later) e h n = record { one = b; others = later; is = e; stands = h .0 .right; kept = h .1 }
 
-  module _ (n : RightsNext) (r : Looked) (told : LookedAs bs (n .one .1) left r) where
+  module _ (n : RightsNext) (r : LookedThrough) (told : LookedAs bs (n .one .1) left r) where
     rights-are : rights (g .later) ≡ n .one .1 ∷ rights (n .others)
     rights-are = ap rights (n .is)
 
     pub rights-steps : r ≡ looked.StepsOut → ThroughAs bs (rights cs) steps looked.StepsOut
     rights-steps e = looking-steps (g .looking) (n .one .1) (rights (n .others)) rights-are r told e
 
-    pub rights-path : {rest : ℕ} → r ≡ looked.PathOut rest → ThroughAs bs (rights cs) steps (looked.PathOut rest)
+    pub rights-path : {rest : ℕ} → r ≡ looked.WaitingOut rest → ThroughAs bs (rights cs) steps (looked.WaitingOut rest)
     rights-path e = looking-path (g .looking) (n .one .1) (rights (n .others)) rights-are r told e
 
     pub rights-on : {rest : ℕ} → r ≡ looked.Done rest → LookingRights ws s bs cs mark count steps (i + 1) rest

@@ -34,7 +34,7 @@ told-leaf t f e h = rw e at (f t h)
 pub told-pair : {ws s : List ℕ} {w a b : ℕ} {r : Shape} (t : Term) → FollowedAs ws s w r → r ≡ Pair a b → Resolves ws s w t → Shaped ws s (Pair a b) t
 told-pair t f e h = rw e at (f t h)
 
--- a pair and its parts, each with a smaller followed-size; names may be given before the second is gone into
+-- a pair and its parts, each smaller when followed; names may be given before the second is gone into
 pub record Halves (ws s : List ℕ) (w a b : ℕ) (t : Term) : Type 0 where
   pub first : Term
   pub second : Term

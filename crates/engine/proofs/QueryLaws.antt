@@ -13,8 +13,8 @@ use Rattle.engine.specs.Names.{Names, Named}
 use Rattle.engine.specs.Term.{Room, Puts, Laid, Missing, Placed, all-laid, some-missing}
 use Rattle.engine.specs.Look.{LookedAs, ThroughAs}
 use Rattle.engine.specs.Query.{Query, query-words}
-use Rattle.engine.specs.declared.writer.look.Looked.{Looked}
-use Rattle.engine.specs.declared.writer.look.Looked.the-variants as looked
+use Rattle.engine.specs.declared.writer.look.LookedThrough.{LookedThrough}
+use Rattle.engine.specs.declared.writer.look.LookedThrough.the-variants as looked
 use Rattle.engine.specs.declared.writer.term.Put.{Put}
 use Rattle.engine.specs.declared.writer.term.Put.the-variants.{End, Missed}
 use Rattle.engine.proofs.TrailLaws.{fresh-few}
@@ -44,14 +44,14 @@ module _ {bs : Substitution} {n steps x left : ℕ} (g : LookingFrom bs n steps 
   pub from-end : n ≤ x → ThroughAs bs (parameters 0 n) steps (looked.Done left)
   from-end l = looking-end g (parameters-over x n l)
 
-  module _ (r : Looked) (l : x < n) (h : LookedAs bs (var x) left r) where
+  module _ (r : LookedThrough) (l : x < n) (h : LookedAs bs (var x) left r) where
     pub from-next : {rest : ℕ} → r ≡ looked.Done rest → LookingFrom bs n steps (x + 1) rest
     from-next e = looking-on g (var x) (parameters (x + 1) (n - (x + 1))) (parameters-next x n l) r h e
 
     pub from-steps : r ≡ looked.StepsOut → ThroughAs bs (parameters 0 n) steps looked.StepsOut
     from-steps e = looking-steps g (var x) (parameters (x + 1) (n - (x + 1))) (parameters-next x n l) r h e
 
-    pub from-path : {rest : ℕ} → r ≡ looked.PathOut rest → ThroughAs bs (parameters 0 n) steps (looked.PathOut rest)
+    pub from-path : {rest : ℕ} → r ≡ looked.WaitingOut rest → ThroughAs bs (parameters 0 n) steps (looked.WaitingOut rest)
     from-path e = looking-path g (var x) (parameters (x + 1) (n - (x + 1))) (parameters-next x n l) r h e
 
 -- naming: what is left to name

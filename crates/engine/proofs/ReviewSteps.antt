@@ -27,7 +27,7 @@ use Rattle.engine.specs.declared.terms.scan.Scanned.the-variants as scan
 use Rattle.engine.specs.declared.terms.unify.Unified.{Unified}
 use Rattle.engine.specs.declared.terms.unify.Unified.the-variants as unified
 use Rattle.engine.specs.declared.terms.review.Reviewed.{Reviewed}
-use Rattle.engine.specs.declared.terms.review.Reviewed.the-variants.{Fails, Holds, StepsOut, PathOut}
+use Rattle.engine.specs.declared.terms.review.Reviewed.the-variants.{Fails, Holds, StepsOut, WaitingOut}
 use Rattle.engine.proofs.ReferenceLaws.{sort-low, term-longer, stands-at, two-terms}
 use Rattle.engine.proofs.ScanSteps.{open-at, atom-sought}
 use Rattle.engine.proofs.FrameLaws.{kept-same}
@@ -263,7 +263,7 @@ module _ {ws s : List ℕ} {w bits kind p : ℕ} (left : ℕ) (node : NodeAt ws 
   unfolding scan-says review-says
   absento-steps e = rw e at absento-is
 
-  pub absento-path : {rest : ℕ} → r ≡ scanned.PathOut rest → scan (is-atom a) bs [] t left ≡ review-says (PathOut rest)
+  pub absento-path : {rest : ℕ} → r ≡ scanned.WaitingOut rest → scan (is-atom a) bs [] t left ≡ review-says (WaitingOut rest)
   unfolding scan-says review-says
   absento-path e = rw e at absento-is
 
@@ -290,7 +290,7 @@ module _ {ws s : List ℕ} {bs : Substitution} {a : ℕ} {u : Term} {b : ℕ} {v
   unfolding UnifiedAs
   trial-stepped e = went-trial (m .trail-is) ((rw e at told) .0)
 
-  pub trial-pathed : {n rest : ℕ} → r ≡ unified.PathOut n rest → Trial ws s₁ bs trail n
+  pub trial-pathed : {n rest : ℕ} → r ≡ unified.WaitingOut n rest → Trial ws s₁ bs trail n
   unfolding UnifiedAs
   trial-pathed e = went-trial (m .trail-is) ((rw e at told) .0)
 
@@ -331,7 +331,7 @@ module _ {ws s : List ℕ} {bs : Substitution} {a : ℕ} {u : Term} {b : ℕ} {v
         let o = back (trial-stepped e) in
         record { says = rw (q .1); bindings-in = o .bindings-in; apart = apart-trans (q .0 .apart) (undone-apart o) }
 
-    pub differ-path : {rest : ℕ} → r ≡ unified.PathOut n rest → says (PathOut rest) s₂
+    pub differ-path : {rest : ℕ} → r ≡ unified.WaitingOut n rest → says (WaitingOut rest) s₂
     unfolding UnifiedAs review-says
     differ-path {rest} e =
         let q : (w : Went ws s bs s₁ n) × (unify-terms bs u v left ≡ stop (at-bound waiting) rest) = rw e at told in
@@ -417,9 +417,9 @@ module _ {ws s₀ : List ℕ} {bs : Substitution} {cs : List Constraint} {trail 
     unfolding review-says
     review-stops e = still (stop no-steps 0) StepsOut refl (then-is (stop no-steps 0) (rw e at (told .says)))
 
-    pub review-bound : {rest : ℕ} → r ≡ PathOut rest → ReviewedAs ws s₀ s′ bs (review-all bs cs cs steps) (PathOut rest)
+    pub review-bound : {rest : ℕ} → r ≡ WaitingOut rest → ReviewedAs ws s₀ s′ bs (review-all bs cs cs steps) (WaitingOut rest)
     unfolding review-says
-    review-bound {rest} e = still (stop (at-bound waiting) rest) (PathOut rest) refl (then-is (stop (at-bound waiting) rest) (rw e at (told .says)))
+    review-bound {rest} e = still (stop (at-bound waiting) rest) (WaitingOut rest) refl (then-is (stop (at-bound waiting) rest) (rw e at (told .says)))
 
     pub review-again : {rest : ℕ} → r ≡ Holds rest → Reviewing ws s₀ bs cs trail kept steps s′ (i + 1) rest
     unfolding review-says

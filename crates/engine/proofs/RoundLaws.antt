@@ -43,7 +43,7 @@ use Rattle.engine.specs.declared.search.state.Resumed.the-variants as re
 use Rattle.engine.specs.declared.round.AnswerGiven.{AnswerGiven}
 use Rattle.engine.specs.declared.round.AnswerGiven.the-variants.{Ends, Goes}
 use Rattle.engine.specs.declared.writer.answer.Answered.{Answered}
-use Rattle.engine.specs.declared.writer.answer.Answered.the-variants.{Written, Full, StepsOut, PathOut}
+use Rattle.engine.specs.declared.writer.answer.Answered.the-variants.{Written, Full, StepsOut, WaitingOut}
 use Rattle.engine.specs.declared.round.Tally as code
 use Rattle.engine.specs.declared.round.Rounded as code-rounded
 use Rattle.engine.specs.declared.round.Rounded.the-variants.{Completed, Broken}
@@ -246,7 +246,7 @@ module _ {P : Program} {ws s output : List ℕ} {st : State} {p : Path} {cs : Li
   pub gives-steps-out : w ≡ StepsOut → Gave s′ (Ends (Broken ends.Steps (record { left = 0; used = used; answers = answers })))
   gives-steps-out e = stops ends.Steps (answered e) refl
 
-  pub gives-path-out : {l : ℕ} → w ≡ PathOut l → Gave s′ (Ends (Broken (ends.Path Waiting) (record { left = l; used = used; answers = answers })))
+  pub gives-path-out : {l : ℕ} → w ≡ WaitingOut l → Gave s′ (Ends (Broken (ends.Path Waiting) (record { left = l; used = used; answers = answers })))
   gives-path-out e = stops (ends.Path Waiting) (answered e) refl
 
   -- It is written: the path is left with the tally that has it.

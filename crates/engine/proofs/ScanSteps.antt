@@ -18,7 +18,7 @@ use Rattle.engine.specs.Reference.{at, AtomIs, pos-of, base-of, Stands}
 use Rattle.engine.specs.Walk.{NodeAt, Follows}
 use Rattle.engine.specs.Scan.{LeafWord, TestAs, ScanAs, scan-says}
 use Rattle.engine.specs.declared.terms.scan.Scanned.{Scanned}
-use Rattle.engine.specs.declared.terms.scan.Scanned.the-variants.{Found, Clear, StepsOut, PathOut}
+use Rattle.engine.specs.declared.terms.scan.Scanned.the-variants.{Found, Clear, StepsOut, WaitingOut}
 use Rattle.engine.proofs.ReferenceLaws.{atom-low, atom-test, parts}
 use Rattle.engine.proofs.SizeLaws.{followed-size, reach-size}
 
@@ -90,7 +90,7 @@ module _ (test : Term → Bool) (bs : Substitution) (vs : List Term) (u : Term) 
   step-leaf (atom a) e l q = ap (scan test bs vs u) one-more ∙ rw (e, q)
   step-leaf (pair a b) e l q = absurd l
 
-  step-full : (a b : Term) → walk bs u ≡ pair a b → test (pair a b) ≡ false → 512 ≤ length vs → scan test bs vs u left ≡ scan-says (PathOut left) vs Next
+  step-full : (a b : Term) → walk bs u ≡ pair a b → test (pair a b) ≡ false → 512 ≤ length vs → scan test bs vs u left ≡ scan-says (WaitingOut left) vs Next
   unfolding scan-says
   step-full a b e q le = ap (scan test bs vs u) one-more ∙ rw (e, q, le-ltb (length vs) 512 le) (ap (stop (at-bound waiting)) (sym one-more))
 
@@ -139,7 +139,7 @@ module _ {ws s : List ℕ} {sought n steps : ℕ} {bs : Substitution} {t : Term}
         let o = leaf-at node (walk bs (g .here)) at-q m l in
         g .same test vs is e ∙ step-leaf test bs vs (g .here) left some-left (walk bs (g .here)) refl (o .is) (o .tested is ∙ ne-eqb r sought z)
 
-    pub scan-full : k ≡ 4 → 512 ≤ n → ScanAs sought bs t n steps (PathOut left)
+    pub scan-full : k ≡ 4 → 512 ≤ n → ScanAs sought bs t n steps (WaitingOut left)
     scan-full e le test vs is m =
         let o = pair-at node (walk bs (g .here)) at-q e in
         g .same test vs is m ∙ step-full test bs vs (g .here) left some-left (o .left) (o .right) (o .is) (is .on-pair (o .left) (o .right)) (omega arith)
@@ -194,7 +194,7 @@ module _ {ws s : List ℕ} {sought n steps : ℕ} {bs : Substitution} {t : Term}
     unfolding scan-says
     first-out z test vs is l = rw z at (after-first test vs is l)
 
-    pub first-full : (m : ℕ) → r ≡ PathOut m → ScanAs sought bs t n steps (PathOut m)
+    pub first-full : (m : ℕ) → r ≡ WaitingOut m → ScanAs sought bs t n steps (WaitingOut m)
     unfolding scan-says
     first-full m z test vs is l = rw z at (after-first test vs is l)
 

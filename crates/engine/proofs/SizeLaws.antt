@@ -168,7 +168,7 @@ reach-size {ws} {s} {bs} {w} {t} f = nodes-size ws s bs (f .binds .good) (f .bin
 pub resolves-size : {ws s : List ℕ} {w : ℕ} {t : Term} → Resolves ws s w t → followed-size ws s w ≡ term-size t
 resolves-size h = reach-size (h .follows) ∙ ap term-size (h .is)
 
--- the parts of a pair have a smaller followed-size, also in a scratch that has changed since, as long as it binds the same
+-- the parts of a pair are smaller when followed, also in a scratch that has changed since, as long as it binds the same
 module _ {ws s s′ : List ℕ} {w v : ℕ} {a b : Term} (h : Resolves ws s w (pair a b)) where
   pub first-reach : Resolves ws s′ v a → followed-size ws s′ v < followed-size ws s w
   first-reach i = omega (arith, resolves-size h, resolves-size i)

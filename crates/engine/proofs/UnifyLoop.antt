@@ -94,7 +94,7 @@ module _ {ws s₀ : List ℕ} {bs₀ : Substitution} {u₀ v₀ : Term} {steps :
           go (met.Goes n left) m = m .long
           go (met.Parts c d e f) m = ap length (m .untouched)
           go met.StepsOut m = ap length (m .untouched)
-          go (met.PathOut left) m = ap length (m .untouched)
+          go (met.WaitingOut left) m = ap length (m .untouched)
 
       pub unify-failed : {after : ℕ} → r ≡ met.Fails after → UnifiedAs ws s₀ s′ bs₀ (unify-terms bs₀ u₀ v₀ steps) (unified.Failed trail after)
       unfolding PairUnifiedAs UnifiedAs
@@ -104,7 +104,7 @@ module _ {ws s₀ : List ℕ} {bs₀ : Substitution} {u₀ v₀ : Term} {steps :
       unfolding PairUnifiedAs UnifiedAs
       unify-stepped e = let q : PairEnds s s′ (g .went .next) (g .left) (g .right) rest (stop no-steps 0) = rw e at m in (went-still (q .untouched), step-same ∙ q .same (g .fuel - 1) (g .pairs))
 
-      pub unify-pathed : {after : ℕ} → r ≡ met.PathOut after → UnifiedAs ws s₀ s′ bs₀ (unify-terms bs₀ u₀ v₀ steps) (unified.PathOut trail after)
+      pub unify-pathed : {after : ℕ} → r ≡ met.WaitingOut after → UnifiedAs ws s₀ s′ bs₀ (unify-terms bs₀ u₀ v₀ steps) (unified.WaitingOut trail after)
       unfolding PairUnifiedAs UnifiedAs
       unify-pathed {after} e = let q : PairEnds s s′ (g .went .next) (g .left) (g .right) rest (stop (at-bound waiting) after) = rw e at m in (went-still (q .untouched), step-same ∙ q .same (g .fuel - 1) (g .pairs))
 
@@ -168,7 +168,7 @@ module _ {ws s₀ : List ℕ} {bs₀ : Substitution} {u₀ v₀ : Term} {steps :
         unfolding PairUnifiedAs
         splits = rw y at m
 
-        pub unify-full : 512 ≤ top → UnifiedAs ws s₀ s′ bs₀ (unify-terms bs₀ u₀ v₀ steps) (unified.PathOut trail rest)
+        pub unify-full : 512 ≤ top → UnifiedAs ws s₀ s′ bs₀ (unify-terms bs₀ u₀ v₀ steps) (unified.WaitingOut trail rest)
         unfolding UnifiedAs
         unify-full le = (went-still (splits .untouched), step-same ∙ splits .same (g .fuel - 1) (g .pairs) ∙ rw (le-ltb (length (g .pairs)) 512 (omega (arith, g .top-is))))
 

@@ -189,7 +189,7 @@ module _ {ws s : List ℕ} {bs : Substitution} {a : ℕ} {u : Term} {b : ℕ} {v
             let e : scan (is-var x) bs [] (bound-term .term) (steps - 1) ≡ stop no-steps 0 = rw y at scan-is in
             record { untouched = refl; same = λ fuel vs. looked (binds x (bound-term .term)) (bound-term .is) fuel vs ∙ rw e }
 
-        pub meet-path : {rest : ℕ} → sr ≡ scanned.PathOut rest → PairUnifiedAs ws s s bs u v steps (met.PathOut rest)
+        pub meet-path : {rest : ℕ} → sr ≡ scanned.WaitingOut rest → PairUnifiedAs ws s s bs u v steps (met.WaitingOut rest)
         unfolding PairUnifiedAs scan-says
         meet-path {rest} y =
             let e : scan (is-var x) bs [] (bound-term .term) (steps - 1) ≡ stop (at-bound waiting) rest = rw y at scan-is in

@@ -27,8 +27,8 @@ use Rattle.engine.specs.Names.{Named}
 use Rattle.engine.specs.Term.{Puts, Placed}
 use Rattle.engine.specs.Look.{LookedAs}
 use Rattle.engine.specs.declared.writer.term.Put.{Put}
-use Rattle.engine.specs.declared.writer.look.Looked.{Looked}
-use Rattle.engine.specs.declared.writer.look.Looked.the-variants as looked
+use Rattle.engine.specs.declared.writer.look.LookedThrough.{LookedThrough}
+use Rattle.engine.specs.declared.writer.look.LookedThrough.the-variants as looked
 use Rattle.engine.specs.Line.{Equations}
 use Rattle.engine.specs.Trial.{EquationsKept}
 use Rattle.engine.specs.Lines.{add-line, add-lines, occurrences}
@@ -181,6 +181,6 @@ module _ {ws s : List ℕ} {bs : Substitution} (x : ℕ) (b : Binds ws s bs) (lo
   parameter-step zero z n = absurd (n refl)
   parameter-step (suc m) z n = let k : suc m - 1 ≡ m = omega arith in scan-open bs x m (parameter-open x (b .bindings-in) low z) ∙ ap (λ l. done false l) (sym k)
 
-  pub parameter-looked : (steps : ℕ) (r : Looked) (n : ¬ (at s x ≡ 0)) → LookedAs bs (parameter-bound x (b .bindings-in) low n .term) steps r → LookedAs bs (var x) steps r
+  pub parameter-looked : (steps : ℕ) (r : LookedThrough) (n : ¬ (at s x ≡ 0)) → LookedAs bs (parameter-bound x (b .bindings-in) low n .term) steps r → LookedAs bs (var x) steps r
   unfolding LookedAs
   parameter-looked steps r n h = let p = parameter-bound x (b .bindings-in) low n in scan-bound never bs (b .good) [] x (p .term) steps (p .is) ∙ h

@@ -16,13 +16,13 @@ use Rattle.engine.specs.Trail.{Apart}
 use Rattle.engine.specs.Term.{Touched}
 use Rattle.engine.specs.Lines.{Writing, Extended}
 use Rattle.engine.specs.declared.writer.constraint.Added.{Added}
-use Rattle.engine.specs.declared.writer.constraint.Added.the-variants.{Done, StepsOut, PathOut}
+use Rattle.engine.specs.declared.writer.constraint.Added.the-variants.{Done, StepsOut, WaitingOut}
 
 -- what each case says of the lines
 abbrev pub added-says : List Line → Added → Outcome (List Line)
 added-says ls (Done next left) = done ls left
 added-says ls StepsOut = stop no-steps 0
-added-says ls (PathOut left) = stop (at-bound waiting) left
+added-says ls (WaitingOut left) = stop (at-bound waiting) left
 
 -- as the definition says; lines that are done stand on the page, and a trial's bindings are taken back, also where it stops
 pub record AddedAs (ws s s′ : List ℕ) {out : List ℕ} {first end place : ℕ} (g : Writing s out first end place) (out′ : List ℕ) (bs : Substitution) (o : Outcome (List Line)) (r : Added) : Type 0 where

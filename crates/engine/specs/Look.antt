@@ -11,17 +11,17 @@ use Rattle.semantics.specs.Unify.{scan, never}
 use Rattle.semantics.specs.Answer.{look-through}
 use Rattle.engine.specs.Walk.{Binds}
 use Rattle.engine.specs.Trial.{EquationsKept}
-use Rattle.engine.specs.declared.writer.look.Looked.{Looked}
-use Rattle.engine.specs.declared.writer.look.Looked.the-variants.{Done, StepsOut, PathOut}
+use Rattle.engine.specs.declared.writer.look.LookedThrough.{LookedThrough}
+use Rattle.engine.specs.declared.writer.look.LookedThrough.the-variants.{Done, StepsOut, WaitingOut}
 
 -- what each case says of a look that comes to `a`
-abbrev pub look-says : {A : Type 0} → A → Looked → Outcome A
+abbrev pub look-says : {A : Type 0} → A → LookedThrough → Outcome A
 look-says a (Done left) = done a left
 look-says a StepsOut = stop no-steps 0
-look-says a (PathOut left) = stop (at-bound waiting) left
+look-says a (WaitingOut left) = stop (at-bound waiting) left
 
 -- one term: nothing is found
-unfoldable pub LookedAs : Substitution → Term → ℕ → Looked → Type 0
+unfoldable pub LookedAs : Substitution → Term → ℕ → LookedThrough → Type 0
 LookedAs bs t steps r = scan never bs [] t steps ≡ look-says false r
 
 -- a trial's equations, all of them kept
@@ -36,5 +36,5 @@ abbrev pub rights : List (ℕ × Term) → List Term
 rights cs = map (λ (b : ℕ × Term). b .1) cs
 
 -- terms one after the other
-unfoldable pub ThroughAs : Substitution → List Term → ℕ → Looked → Type 0
+unfoldable pub ThroughAs : Substitution → List Term → ℕ → LookedThrough → Type 0
 ThroughAs bs ts steps r = look-through bs ts steps ≡ look-says tt r

@@ -1,5 +1,5 @@
 -- How a program's words, the lent scratch and a few registers hold a path and its choice points: the memory layout, and the relation that every private function keeps.
-use Prim.Native.Nat.{ℕ, zero, suc, _+_, _*_, _-_, _≤_, _<_}
+use Prim.Native.Nat.{ℕ, suc, _+_, _*_, _-_, _≤_, _<_}
 use mathlib.Core.Path.{_≡_}
 use mathlib.Core.Option.{Option, none, some}
 use mathlib.Core.List.{List, [], _∷_, _++_}
@@ -18,7 +18,7 @@ layout-words = 12288
 abbrev pub trail-at : ℕ → ℕ
 trail-at n = 2048 + n
 
--- a cell is known by its number plus 1, and 0 is no cell
+-- cells are numbered from 1 on, and 0 is no cell
 abbrev pub goal-at : ℕ → ℕ
 goal-at h = 6142 + 2 * h
 
@@ -147,11 +147,6 @@ pub record Stored (P : Program) (ws s : List ℕ) (r : Registers) (n : ℕ) (p :
 -- variable x is bound to the reference w; the trail has n entries
 abbrev pub bound : List ℕ → ℕ → ℕ → ℕ → List ℕ
 bound s x w n = set (set s x (w + 1)) (trail-at n) x
-
--- k entries above m are taken off the trail, the last first
-unfoldable pub unwound : ℕ → ℕ → List ℕ → List ℕ
-unwound zero m s = s
-unwound (suc k) m s = unwound k m (set s (at s (trail-at (m + k))) 0)
 
 -- a goal is put to wait in cell h
 abbrev pub cell : List ℕ → ℕ → ℕ → ℕ → List ℕ

@@ -20,7 +20,7 @@ bound-of Disjunctions = steps.disjunctions
 bound-of Constraints = steps.constraints
 bound-of Waiting = steps.waiting
 
--- how a call end-says: as a run does, or refused by number and place
+-- how a call ended: as a run does, or refused by number and place
 pub data Ended : Type 0 where
   ran : round.End → Ended
   refused : ℕ → ℕ → Ended

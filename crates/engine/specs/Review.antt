@@ -12,7 +12,7 @@ use Rattle.engine.specs.Memory.{BindingsIn, KeptIn}
 use Rattle.engine.specs.Walk.{Binds}
 use Rattle.engine.specs.Trail.{Apart}
 use Rattle.engine.specs.declared.terms.review.Reviewed.{Reviewed}
-use Rattle.engine.specs.declared.terms.review.Reviewed.the-variants.{Fails, Holds, StepsOut, PathOut}
+use Rattle.engine.specs.declared.terms.review.Reviewed.the-variants.{Fails, Holds, StepsOut, WaitingOut}
 
 -- the kind of the atoms of a sort
 abbrev pub atom-kind : Sort → ℕ
@@ -54,7 +54,7 @@ unfoldable pub review-says : Reviewed → Outcome Bool
 review-says (Fails left) = done true left
 review-says (Holds left) = done false left
 review-says StepsOut = stop no-steps 0
-review-says (PathOut left) = stop (at-bound waiting) left
+review-says (WaitingOut left) = stop (at-bound waiting) left
 
 -- as the definition says; trials are undone, also where they stop, and what they used is free
 pub record ReviewedAs (ws s s′ : List ℕ) (bs : Substitution) (o : Outcome Bool) (r : Reviewed) : Type 0 where

@@ -101,9 +101,9 @@ pub record ResultAs (output′ : List ℕ) (x : definition.Result) (r : Report) 
   pub page-is : take (r .words) output′ ≡ page (x .answers)
 
 -- what `report` makes of an end and a tally
-pub record Reported (end : End) (round limit : ℕ) (t : Tally) (r : Report) : Type 0 where
+pub record Reported (end : End) (round steps : ℕ) (t : Tally) (r : Report) : Type 0 where
   pub is-end : r .end ≡ end
   pub is-round : r .round ≡ round
-  pub is-steps : r .steps ≡ limit - t .left
+  pub is-steps : r .steps ≡ steps - t .left
   pub is-answers : r .answers ≡ t .answers
   pub is-words : r .words ≡ t .used

@@ -138,4 +138,4 @@ abbrev pub review-took : State → Reviewed → Took
 review-took st (reviewed.Fails l) = took-as Leaves (with-counts st (st .trail) (st .constraints) l)
 review-took st (reviewed.Holds l) = took-as Goes (with-counts st (st .trail) (st .constraints) l)
 review-took st reviewed.StepsOut = took-as (Stops Steps 0) st
-review-took st (reviewed.PathOut l) = took-as (Stops (PathLimit Waiting) l) st
+review-took st (reviewed.WaitingOut l) = took-as (Stops (PathLimit Waiting) l) st

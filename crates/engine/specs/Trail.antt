@@ -1,4 +1,4 @@
--- What `bind` and `undo` promise.
+-- What `undo` promises, and how a scratch is left beside bindings and trail.
 use Prim.Native.Nat.{ℕ, _+_, _≤_, _<_}
 use mathlib.Core.Path.{_≡_}
 use mathlib.Core.List.{List, _++_}

@@ -86,7 +86,7 @@ PairUnifiedAs ws s s′ bs u v steps (pair.Fails left) = PairEnds s s′ bs u v 
 PairUnifiedAs ws s s′ bs u v steps (pair.Goes n left) = PairGoes ws s s′ bs u v steps n left
 PairUnifiedAs ws s s′ bs u v steps (pair.Parts a b c d) = PairParts ws s s′ bs u v steps a b c d
 PairUnifiedAs ws s s′ bs u v steps pair.StepsOut = PairEnds s s′ bs u v steps (stop no-steps 0)
-PairUnifiedAs ws s s′ bs u v steps (pair.PathOut left) = PairEnds s s′ bs u v steps (stop (at-bound waiting) left)
+PairUnifiedAs ws s s′ bs u v steps (pair.WaitingOut left) = PairEnds s s′ bs u v steps (stop (at-bound waiting) left)
 
 -- `unify`
 
@@ -103,4 +103,4 @@ unfoldable pub UnifiedAs : List ℕ → List ℕ → List ℕ → Substitution �
 UnifiedAs ws s s′ bs o (unified.Joined n left) = (w : Went ws s bs s′ n) × (o ≡ done (some (w .next)) left)
 UnifiedAs ws s s′ bs o (unified.Failed n left) = (w : Went ws s bs s′ n) × (o ≡ done none left)
 UnifiedAs ws s s′ bs o (unified.StepsOut n) = (w : Went ws s bs s′ n) × (o ≡ stop no-steps 0)
-UnifiedAs ws s s′ bs o (unified.PathOut n left) = (w : Went ws s bs s′ n) × (o ≡ stop (at-bound waiting) left)
+UnifiedAs ws s s′ bs o (unified.WaitingOut n left) = (w : Went ws s bs s′ n) × (o ≡ stop (at-bound waiting) left)

@@ -1,4 +1,4 @@
--- What `node_at`, `skip` and `walk` promise.
+-- What `node_at`, `walk` and `follow` promise.
 use Prim.Native.Nat.{ℕ, _≤_, _<_}
 use mathlib.Core.Path.{_≡_}
 use mathlib.Core.List.{List}

@@ -1,8 +1,8 @@
 // Numbers of the memory and of a path.
 use word::Word;
 
-// A reference is a position in the program and, so many times, the base of its environment.
-pub(crate) const ENVIRONMENT: u32 = 16384;
+// A reference is a position in the program and, so many times as there are positions, the base of its environment.
+pub(crate) const POSITIONS: u32 = 16384;
 
 // A word of kind pair, which no leaf of a term has.
 pub(crate) const PAIR_WORD: u32 = Word::PAIR * 268435456;

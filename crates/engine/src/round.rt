@@ -102,7 +102,7 @@ fn give(
     match write_answer(program, scratch, output, st, params, used) {
         Answered::Full(left) => AnswerGiven::Ends(broken(End::Output, left, used, answers)),
         Answered::StepsOut => AnswerGiven::Ends(broken(End::Steps, 0, used, answers)),
-        Answered::PathOut(left) => AnswerGiven::Ends(broken(
+        Answered::WaitingOut(left) => AnswerGiven::Ends(broken(
             End::Path(Bound::Waiting),
             left,
             used,

@@ -13,14 +13,14 @@ ghost use Rattle.semantics.specs.Run.{usable};
 ghost use Rattle.engine.specs.Rounds.{RunReady, Reported, ResultAs};
 
 // The report of a run with this step limit.
-fn report(end: End, round: u32, limit: u32, tally: Tally) -> Report
-    requires { ⌜ tally .left ≤ limit ⌝ }
-    ensures { λ r. ⌜ Reported end round limit tally r ⌝ }
+fn report(end: End, round: u32, steps: u32, tally: Tally) -> Report
+    requires { ⌜ tally .left ≤ steps ⌝ }
+    ensures { λ r. ⌜ Reported end round steps tally r ⌝ }
 {
     Report {
         end,
         round,
-        steps: limit - tally.left,
+        steps: steps - tally.left,
         answers: tally.answers,
         words: tally.used,
     }

@@ -1,7 +1,7 @@
 // Rule files in the written form: is this list of words a program, and if not, why and where?
 mod calls;
 mod part;
-mod structure;
+mod reading;
 
 use crate::part::Read;
 ghost use mathlib.Core.Path.{_≡_};
@@ -57,7 +57,7 @@ pub fn check(program: &[u32]) -> Verdict
     if MOST_WORDS < program.len() {
         return Verdict::Refused(Condition::WordCount, 0);
     }
-    match structure::read_relations(program) {
+    match reading::read_relations(program) {
         Read::Refused(c, place) => Verdict::Refused(c, place),
         Read::Done(_) => calls::check_calls(program),
     }

@@ -3,7 +3,7 @@
 
 use kindcanvas::{Bound, Ending, Report};
 
-const ENVIRONMENT: u32 = 16384;
+const POSITIONS: u32 = 16384;
 const PAYLOAD: u32 = (1 << 28) - 1;
 
 const VARIABLE: u32 = 0;
@@ -179,7 +179,7 @@ fn payload(word: u32) -> u32 {
 /// The path's variable that a variable's word is, by the environment of its reference.
 #[inline(always)]
 fn variable(reference: u32, word: u32) -> u32 {
-    reference / ENVIRONMENT + payload(word)
+    reference / POSITIONS + payload(word)
 }
 
 /// The word by which a leaf is sought: an open variable has its number for a word, an atom its own.
@@ -195,7 +195,7 @@ impl Memory {
     #[inline(always)]
     fn word(self, reference: u32) -> u32 {
         // SAFETY: references are to words of the program, by its acceptance.
-        unsafe { *self.program.add((reference % ENVIRONMENT) as usize) }
+        unsafe { *self.program.add((reference % POSITIONS) as usize) }
     }
 
     #[inline(always)]
@@ -467,7 +467,7 @@ impl Memory {
             }
             let at = POINTS + 8 * state.choices;
             self.set(at, rest);
-            self.set(at + 1, end % ENVIRONMENT);
+            self.set(at + 1, end % POSITIONS);
             self.set(at + 2, state.head);
             self.set(at + 3, state.trail);
             self.set(at + 4, state.variables);
@@ -518,7 +518,7 @@ impl Memory {
             self.bind(state, parameter, self.last_variable(argument));
             argument = self.skip(argument);
         }
-        self.push_goal(state, relation + 3 + ENVIRONMENT * state.variables);
+        self.push_goal(state, relation + 3 + POSITIONS * state.variables);
         state.variables += vars;
         state.calls += 1;
         Ok(Took::Goes)
@@ -554,7 +554,7 @@ impl Memory {
         state.constraints = self.get(at + 6);
         state.calls = self.get(at + 7);
         let next = goal + 1 + payload(self.word(goal));
-        if next % ENVIRONMENT == self.get(at + 1) {
+        if next % POSITIONS == self.get(at + 1) {
             state.choices -= 1;
         } else {
             self.set(at, next);

@@ -1,7 +1,7 @@
 // Taking calls: a relation's variables are made anew, its parameters bound to the arguments, its body put to wait.
-use crate::layout::ENVIRONMENT;
 use crate::layout::MOST_GOALS;
 use crate::layout::MOST_VARIABLES;
+use crate::layout::POSITIONS;
 use crate::report::Bound;
 use crate::search::goal::push_goal;
 use crate::search::state::State;
@@ -124,6 +124,6 @@ pub(crate) fn take_call(
     };
     Took {
         way: Way::Goes,
-        state: push_goal(scratch, made, called.body + ENVIRONMENT * st.variables),
+        state: push_goal(scratch, made, called.body + POSITIONS * st.variables),
     }
 }

@@ -1,19 +1,26 @@
-// Choice points: eight words each.
+// Disjunctions, whose alternatives are tried left to right: choice points of eight words each, and backtracking to them.
+use crate::layout::MOST_DISJUNCTIONS;
+use crate::layout::MOST_GOALS;
 use crate::layout::POINTS;
+use crate::report::Bound;
+use crate::search::goal::push_goal;
 use crate::search::state::Resumed;
 use crate::search::state::State;
+use crate::search::state::Stop;
+use crate::search::state::Took;
+use crate::search::state::Way;
 use crate::terms::trail::undo;
 use crate::terms::walk::node_at;
 use crate::terms::walk::part_end;
 ghost use mathlib.Core.Path.{_≡_};
 ghost use mathlib.Core.List.{List};
-ghost use Prim.Native.Nat.{_-_, _<_, _≤_};
+ghost use Prim.Native.Nat.{_-_, _<_, _≤_, ℕ};
 ghost use lib.ListN.{length};
-ghost use Rattle.rules.specs.Syntax.{Program};
-ghost use Rattle.semantics.specs.Path.{Path, ChoicePoint};
+ghost use Rattle.rules.specs.Syntax.{Program, Goals, disj};
+ghost use Rattle.semantics.specs.Path.{Path, ChoicePoint, take-disj};
 ghost use Rattle.semantics.specs.Round.{Tally, backtrack};
 ghost use Rattle.engine.specs.Memory.{point, layout-words};
-ghost use Rattle.engine.specs.Take.{registers, one-choice-more, resumed, PathHeld, BacktrackAs};
+ghost use Rattle.engine.specs.Take.{registers, one-choice-more, resumed, PathHeld, BacktrackAs, Taking, TookAs};
 
 // Makes a choice point: the alternatives left, from a reference up to the position `end`, and all that the path has when it is come back to.
 pub(crate) fn push_choice(scratch: &mut [u32], st: State, rest: u32, end: u32) -> State
@@ -79,4 +86,38 @@ pub(crate) fn backtrack(program: &[u32], scratch: &mut [u32], st: State) -> Resu
     }
     scratch[at] = goal + 1 + size;
     Resumed::Goal(saved_state(scratch, st, st.choices), goal)
+}
+
+// A disjunction puts its first alternative to wait; where there are more, a choice point has the others.
+pub(crate) fn take_disj(program: &[u32], scratch: &mut [u32], st: State, disjunction: u32) -> Took
+    requires { ⌜ ((P : Program) × (p : Path) × (cs : List ChoicePoint) × (base : ℕ) × (gs : Goals) × Taking P (now program) (now scratch) st disjunction p cs (base, disj gs)) ⌝ }
+    ensures { λ r. ⌜ ((P : Program) (p : Path) (cs : List ChoicePoint) (base : ℕ) (gs : Goals) → Taking P (now (program .entry)) (now (scratch .entry)) st disjunction p cs (base, disj gs)
+        → TookAs P (now (program .entry)) (now (scratch .exit)) cs (take-disj p cs base gs (st .steps)) (r .way) (r .state)) ⌝ }
+{
+    if MOST_GOALS <= st.goals {
+        return Took {
+            way: Way::Stops(Stop::Path(Bound::Goals), st.steps + 1),
+            state: st,
+        };
+    }
+    let end = part_end(disjunction, node_at(program, disjunction).payload);
+    let first = disjunction + 1;
+    let size = node_at(program, first).payload;
+    if part_end(first, size) == end {
+        return Took {
+            way: Way::Goes,
+            state: push_goal(scratch, st, first),
+        };
+    }
+    if MOST_DISJUNCTIONS <= st.choices {
+        return Took {
+            way: Way::Stops(Stop::Path(Bound::Disjunctions), st.steps + 1),
+            state: st,
+        };
+    }
+    let pushed = push_choice(scratch, st, first + 1 + size, end);
+    Took {
+        way: Way::Goes,
+        state: push_goal(scratch, pushed, first),
+    }
 }

@@ -53,7 +53,7 @@ fn after_review(st: State, reviewed: Reviewed) -> Took
             way: Way::Stops(Stop::Steps, 0),
             state: st,
         },
-        Reviewed::PathOut(left) => Took {
+        Reviewed::WaitingOut(left) => Took {
             way: Way::Stops(Stop::Path(Bound::Waiting), left),
             state: st,
         },
@@ -87,7 +87,7 @@ pub(crate) fn take_equal(program: &[u32], scratch: &mut [u32], st: State, goal: 
             way: Way::Stops(Stop::Steps, 0),
             state: st,
         },
-        Unified::PathOut(trail, left) => Took {
+        Unified::WaitingOut(trail, left) => Took {
             way: Way::Stops(Stop::Path(Bound::Waiting), left),
             state: st,
         },

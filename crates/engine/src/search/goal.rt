@@ -1,10 +1,8 @@
-// Taking conjunctions and disjunctions.
+// Goals put to wait: a conjunction takes its goals apart.
 use crate::layout::CELL_GOAL;
 use crate::layout::CELL_NEXT;
-use crate::layout::MOST_DISJUNCTIONS;
 use crate::layout::MOST_GOALS;
 use crate::report::Bound;
-use crate::search::choice::push_choice;
 use crate::search::state::State;
 use crate::search::state::Stop;
 use crate::search::state::Took;
@@ -15,8 +13,8 @@ ghost use mathlib.Core.Path.{_≡_};
 ghost use mathlib.Core.List.{List};
 ghost use Prim.Native.Nat.{ℕ, _+_, _<_, _≤_};
 ghost use lib.ListN.{length};
-ghost use Rattle.rules.specs.Syntax.{Goals, conj, disj, Program};
-ghost use Rattle.semantics.specs.Path.{Path, ChoicePoint, take-conj, take-disj};
+ghost use Rattle.rules.specs.Syntax.{Goals, conj, Program};
+ghost use Rattle.semantics.specs.Path.{Path, ChoicePoint, take-conj};
 ghost use Rattle.engine.specs.Memory.{cell, layout-words};
 ghost use Rattle.engine.specs.Take.{Taking, TookAs, one-goal-more};
 
@@ -79,39 +77,5 @@ pub(crate) fn push_goal(scratch: &mut [u32], st: State, goal: u32) -> State
         calls: st.calls,
         choices: st.choices,
         steps: st.steps,
-    }
-}
-
-// A disjunction puts its first alternative to wait; where there are more, a choice point has the others.
-pub(crate) fn take_disj(program: &[u32], scratch: &mut [u32], st: State, disjunction: u32) -> Took
-    requires { ⌜ ((P : Program) × (p : Path) × (cs : List ChoicePoint) × (base : ℕ) × (gs : Goals) × Taking P (now program) (now scratch) st disjunction p cs (base, disj gs)) ⌝ }
-    ensures { λ r. ⌜ ((P : Program) (p : Path) (cs : List ChoicePoint) (base : ℕ) (gs : Goals) → Taking P (now (program .entry)) (now (scratch .entry)) st disjunction p cs (base, disj gs)
-        → TookAs P (now (program .entry)) (now (scratch .exit)) cs (take-disj p cs base gs (st .steps)) (r .way) (r .state)) ⌝ }
-{
-    if MOST_GOALS <= st.goals {
-        return Took {
-            way: Way::Stops(Stop::Path(Bound::Goals), st.steps + 1),
-            state: st,
-        };
-    }
-    let end = part_end(disjunction, node_at(program, disjunction).payload);
-    let first = disjunction + 1;
-    let size = node_at(program, first).payload;
-    if part_end(first, size) == end {
-        return Took {
-            way: Way::Goes,
-            state: push_goal(scratch, st, first),
-        };
-    }
-    if MOST_DISJUNCTIONS <= st.choices {
-        return Took {
-            way: Way::Stops(Stop::Path(Bound::Disjunctions), st.steps + 1),
-            state: st,
-        };
-    }
-    let pushed = push_choice(scratch, st, first + 1 + size, end);
-    Took {
-        way: Way::Goes,
-        state: push_goal(scratch, pushed, first),
     }
 }

@@ -1,10 +1,10 @@
 // Taking a goal, whatever its kind.
 use crate::search::call::take_call;
+use crate::search::choice::take_disj;
 use crate::search::constrain::take_constraint;
 use crate::search::constrain::take_equal;
 use crate::search::constrain::with_counts;
 use crate::search::goal::take_conj;
-use crate::search::goal::take_disj;
 use crate::search::state::State;
 use crate::search::state::Stop;
 use crate::search::state::Took;

@@ -25,7 +25,7 @@ pub enum Reviewed {
     Fails(u32),
     Holds(u32),
     StepsOut,
-    PathOut(u32),
+    WaitingOut(u32),
 }
 
 // Is the constraint a type of this kind that reaches the open variable?
@@ -123,7 +123,7 @@ fn review_absento(program: &[u32], scratch: &[u32], constraint: u32, left: u32) 
         Scanned::Found(rest) => Reviewed::Fails(rest),
         Scanned::Clear(rest) => Reviewed::Holds(rest),
         Scanned::StepsOut => Reviewed::StepsOut,
-        Scanned::PathOut(rest) => Reviewed::PathOut(rest),
+        Scanned::WaitingOut(rest) => Reviewed::WaitingOut(rest),
     }
 }
 
@@ -156,9 +156,9 @@ fn review_differ(
             undo(scratch, trail, grown);
             Reviewed::StepsOut
         }
-        Unified::PathOut(grown, rest) => {
+        Unified::WaitingOut(grown, rest) => {
             undo(scratch, trail, grown);
-            Reviewed::PathOut(rest)
+            Reviewed::WaitingOut(rest)
         }
     }
 }
@@ -233,8 +233,8 @@ pub(crate) fn review_all(
             Reviewed::StepsOut => {
                 return Reviewed::StepsOut;
             }
-            Reviewed::PathOut(rest) => {
-                return Reviewed::PathOut(rest);
+            Reviewed::WaitingOut(rest) => {
+                return Reviewed::WaitingOut(rest);
             }
         }
     }

@@ -16,7 +16,7 @@ pub enum Scanned {
     Found(u32),
     Clear(u32),
     StepsOut,
-    PathOut(u32),
+    WaitingOut(u32),
 }
 
 // The word by which a leaf is sought: an open variable has its number for a word, an atom its own.
@@ -57,7 +57,7 @@ pub(crate) fn scan(
             return Scanned::Clear(left - 1);
         }
         if MOST_NODES <= waiting {
-            return Scanned::PathOut(left);
+            return Scanned::WaitingOut(left);
         }
         left = left - 1;
         if left == 0 {
@@ -82,8 +82,8 @@ pub(crate) fn scan(
             Scanned::StepsOut => {
                 return Scanned::StepsOut;
             }
-            Scanned::PathOut(rest) => {
-                return Scanned::PathOut(rest);
+            Scanned::WaitingOut(rest) => {
+                return Scanned::WaitingOut(rest);
             }
         }
     }

@@ -31,7 +31,7 @@ pub enum PairUnified {
     Goes(u32, u32),
     Parts(u32, u32, u32, u32),
     StepsOut,
-    PathOut(u32),
+    WaitingOut(u32),
 }
 
 // How unification ended, with the entries of the trail then, and the steps left.
@@ -39,7 +39,7 @@ pub enum Unified {
     Joined(u32, u32),
     Failed(u32, u32),
     StepsOut(u32),
-    PathOut(u32, u32),
+    WaitingOut(u32, u32),
 }
 
 // Two followed terms are looked at.
@@ -116,7 +116,7 @@ fn unify_pair(
                 PairUnified::Goes(grown, rest)
             }
             Scanned::StepsOut => PairUnified::StepsOut,
-            Scanned::PathOut(rest) => PairUnified::PathOut(rest),
+            Scanned::WaitingOut(rest) => PairUnified::WaitingOut(rest),
         },
     }
 }
@@ -160,7 +160,7 @@ pub(crate) fn unify(
             }
             PairUnified::Parts(c, d, e, f) => {
                 if MOST_PAIRS <= waiting {
-                    return Unified::PathOut(trail, rest);
+                    return Unified::WaitingOut(trail, rest);
                 }
                 let at = PAIRS + 2 * waiting;
                 scratch[at] = d;
@@ -173,8 +173,8 @@ pub(crate) fn unify(
             PairUnified::StepsOut => {
                 return Unified::StepsOut(trail);
             }
-            PairUnified::PathOut(after) => {
-                return Unified::PathOut(trail, after);
+            PairUnified::WaitingOut(after) => {
+                return Unified::WaitingOut(trail, after);
             }
         }
     }

@@ -1,5 +1,5 @@
 // Terms by reference: a position in the program and, 16,384 times, the base of its environment. Nothing is copied.
-use crate::layout::ENVIRONMENT;
+use crate::layout::POSITIONS;
 use word::Word;
 ghost use mathlib.Core.Path.{_≡_};
 ghost use Prim.Native.Nat.{_+_, _<_};
@@ -20,7 +20,7 @@ pub(crate) fn node_at(program: &[u32], reference: u32) -> Node
     requires { ⌜ pos-of reference < length (now program) ⌝ }
     ensures { λ r. ⌜ NodeAt (now (program .entry)) reference (r .bits) (r .kind) (r .payload) ⌝ }
 {
-    let bits = program[(reference % ENVIRONMENT) as usize];
+    let bits = program[(reference % POSITIONS) as usize];
     let word = Word::from_bits(bits);
     Node {
         bits,
@@ -34,7 +34,7 @@ pub(crate) fn variable_at(reference: u32, payload: u32) -> u32
     requires { ⌜ base-of reference + payload < 4294967296 ⌝ }
     ensures { λ r. ⌜ r ≡ base-of reference + payload ⌝ }
 {
-    reference / ENVIRONMENT + payload
+    reference / POSITIONS + payload
 }
 
 // The position past the part at a reference: its own word, and as many after it as its size.
@@ -42,7 +42,7 @@ pub(crate) fn part_end(reference: u32, size: u32) -> u32
     requires { ⌜ pos-of reference + 1 + size < 4294967296 ⌝ }
     ensures { λ r. ⌜ r ≡ pos-of reference + 1 + size ⌝ }
 {
-    reference % ENVIRONMENT + 1 + size
+    reference % POSITIONS + 1 + size
 }
 
 // A term that was followed: its reference, and the word there, so that it is read once.

@@ -2,7 +2,7 @@
 use crate::search::state::State;
 use crate::writer::constraint::Added;
 use crate::writer::constraint::add_constraints;
-use crate::writer::look::Looked;
+use crate::writer::look::LookedThrough;
 use crate::writer::names::clear_names;
 use crate::writer::query::look_parameters;
 use crate::writer::query::name_parameters;
@@ -20,15 +20,15 @@ ghost use Rattle.semantics.specs.Answer.{answer};
 ghost use Rattle.semantics.specs.Run.{usable as words-used};
 ghost use Rattle.engine.specs.Term.{Room};
 ghost use Rattle.engine.specs.Lines.{AnswerSoFar};
-ghost use Rattle.engine.specs.Query.{Query, query-words, Ends, EndedAs};
-ghost use Rattle.engine.specs.Answer.{Answering, AnsweredAs};
+ghost use Rattle.engine.specs.Query.{Query, query-words};
+ghost use Rattle.engine.specs.Answer.{Answering, AnsweredAs, Ends, EndedAs};
 
 // The output words used then and the steps left; that it does not fit, with the steps left; or a stop.
 pub enum Answered {
     Written(u32, u32),
     Full(u32),
     StepsOut,
-    PathOut(u32),
+    WaitingOut(u32),
 }
 
 // At most the first 268,435,455 words of the output are used.
@@ -76,8 +76,8 @@ fn end_answer(output: &mut [u32], start: usize, end: usize, added: Added) -> Ans
         Added::StepsOut => {
             return Answered::StepsOut;
         }
-        Added::PathOut(left) => {
-            return Answered::PathOut(left);
+        Added::WaitingOut(left) => {
+            return Answered::WaitingOut(left);
         }
         Added::Done(at, left) => {
             if end < at {
@@ -102,13 +102,13 @@ pub(crate) fn write_answer(
         → AnsweredAs P (now (program .entry)) (now (scratch .entry)) (now (output .entry)) (now (scratch .exit)) (now (output .exit)) state p cs used (answer p params (state .steps)) r) ⌝ }
 {
     match look_parameters(program, scratch, params, state.steps) {
-        Looked::StepsOut => {
+        LookedThrough::StepsOut => {
             return Answered::StepsOut;
         }
-        Looked::PathOut(left) => {
-            return Answered::PathOut(left);
+        LookedThrough::WaitingOut(left) => {
+            return Answered::WaitingOut(left);
         }
-        Looked::Done(left) => {
+        LookedThrough::Done(left) => {
             let start = used as usize;
             let end = usable(output.len());
             let top = name_parameters(program, scratch, params);

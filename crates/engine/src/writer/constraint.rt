@@ -9,9 +9,9 @@ use crate::writer::line::Listed;
 use crate::writer::lines::add_absent;
 use crate::writer::lines::add_line;
 use crate::writer::lines::add_typed;
-use crate::writer::look::Looked;
-use crate::writer::look::look;
+use crate::writer::look::LookedThrough;
 use crate::writer::look::look_equations;
+use crate::writer::look::look_through;
 use crate::writer::trial::keep_equations;
 use word::Word;
 ghost use mathlib.Core.Path.{_≡_};
@@ -32,7 +32,7 @@ ghost use Rattle.engine.specs.Constraint.{AddedAs, Differs, Lists};
 pub enum Added {
     Done(usize, u32),
     StepsOut,
-    PathOut(u32),
+    WaitingOut(u32),
 }
 
 // A disequality: its trial again. What it bound is taken back in every case, and listed if it succeeded.
@@ -63,22 +63,22 @@ fn differ_lines(
             undo(scratch, trail, top);
             return Added::StepsOut;
         }
-        Unified::PathOut(top, rest) => {
+        Unified::WaitingOut(top, rest) => {
             undo(scratch, trail, top);
-            return Added::PathOut(rest);
+            return Added::WaitingOut(rest);
         }
         Unified::Joined(top, rest) => {
             keep_equations(scratch, trail, top);
             let mark = trail as usize;
             let count = (top - trail) as usize;
             match look_equations(program, scratch, mark, count, rest) {
-                Looked::StepsOut => {
+                LookedThrough::StepsOut => {
                     return Added::StepsOut;
                 }
-                Looked::PathOut(after) => {
-                    return Added::PathOut(after);
+                LookedThrough::WaitingOut(after) => {
+                    return Added::WaitingOut(after);
                 }
-                Looked::Done(after) => {
+                LookedThrough::Done(after) => {
                     let line = Listed::Differ(mark, count);
                     let next = add_line(program, scratch, output, line, first, end, at);
                     return Added::Done(next, after);
@@ -106,14 +106,14 @@ fn absence_lines(
         → AddedAs (now (program .entry)) (now (scratch .entry)) (now (scratch .entry)) g (now (output .exit)) bs (lines-of bs (absento a t) steps) r) ⌝ }
 {
     let term = constraint + 2;
-    match look(program, scratch, term, steps) {
-        Looked::StepsOut => {
+    match look_through(program, scratch, term, steps) {
+        LookedThrough::StepsOut => {
             return Added::StepsOut;
         }
-        Looked::PathOut(rest) => {
-            return Added::PathOut(rest);
+        LookedThrough::WaitingOut(rest) => {
+            return Added::WaitingOut(rest);
         }
-        Looked::Done(rest) => {
+        LookedThrough::Done(rest) => {
             let tag = node_at(program, constraint + 1).bits;
             let next = add_absent(program, scratch, output, tag, term, first, end, at);
             return Added::Done(next, rest);
@@ -139,14 +139,14 @@ fn type_lines(
         → Follows (now (program .entry)) (now (scratch .entry)) bs term t → kind ≡ sort-kind k
         → AddedAs (now (program .entry)) (now (scratch .entry)) (now (scratch .entry)) g (now (output .exit)) bs (lines-of bs (typed k t) steps) r) ⌝ }
 {
-    match look(program, scratch, term, steps) {
-        Looked::StepsOut => {
+    match look_through(program, scratch, term, steps) {
+        LookedThrough::StepsOut => {
             return Added::StepsOut;
         }
-        Looked::PathOut(rest) => {
-            return Added::PathOut(rest);
+        LookedThrough::WaitingOut(rest) => {
+            return Added::WaitingOut(rest);
         }
-        Looked::Done(rest) => {
+        LookedThrough::Done(rest) => {
             let next = add_typed(program, scratch, output, kind, term, first, end, at);
             return Added::Done(next, rest);
         }
@@ -245,8 +245,8 @@ pub(crate) fn add_constraints(
             Added::StepsOut => {
                 return Added::StepsOut;
             }
-            Added::PathOut(rest) => {
-                return Added::PathOut(rest);
+            Added::WaitingOut(rest) => {
+                return Added::WaitingOut(rest);
             }
         }
     }

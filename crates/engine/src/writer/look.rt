@@ -11,26 +11,26 @@ ghost use Rattle.engine.specs.Walk.{Follows};
 ghost use Rattle.engine.specs.Look.{LookedAs, Looks, rights, ThroughAs};
 
 // A number is the steps left.
-pub enum Looked {
+pub enum LookedThrough {
     Done(u32),
     StepsOut,
-    PathOut(u32),
+    WaitingOut(u32),
 }
 
 // The word sought is no leaf's, so the scan finds nothing and goes on to the end.
-pub(crate) fn look(program: &[u32], scratch: &[u32], term: u32, steps: u32) -> Looked
+pub(crate) fn look_through(program: &[u32], scratch: &[u32], term: u32, steps: u32) -> LookedThrough
     requires { ⌜ ((bs : Substitution) × (t : Term) × Follows (now program) (now scratch) bs term t) ⌝ }
     ensures { λ r. ⌜ ((bs : Substitution) (t : Term) → Follows (now (program .entry)) (now (scratch .entry)) bs term t → LookedAs bs t steps r) ⌝ }
 {
     match scan(&*program, &*scratch, PAIR_WORD, term, 0, steps) {
         Scanned::Found(left) | Scanned::Clear(left) => {
-            return Looked::Done(left);
+            return LookedThrough::Done(left);
         }
         Scanned::StepsOut => {
-            return Looked::StepsOut;
+            return LookedThrough::StepsOut;
         }
-        Scanned::PathOut(left) => {
-            return Looked::PathOut(left);
+        Scanned::WaitingOut(left) => {
+            return LookedThrough::WaitingOut(left);
         }
     }
 }
@@ -42,25 +42,25 @@ pub(crate) fn look_equations(
     mark: usize,
     count: usize,
     steps: u32,
-) -> Looked
+) -> LookedThrough
     requires { ⌜ ((bs : Substitution) × (cs : List (ℕ × Term)) × Looks (now program) (now scratch) bs cs mark count) ⌝ }
     ensures { λ r. ⌜ ((bs : Substitution) (cs : List (ℕ × Term)) → Looks (now (program .entry)) (now (scratch .entry)) bs cs mark count → ThroughAs bs (rights cs) steps r) ⌝ }
 {
     let mut left = steps;
     let mut i = 0;
     while i < count {
-        match look(program, scratch, scratch[TRAIL + mark + i], left) {
-            Looked::Done(rest) => {
+        match look_through(program, scratch, scratch[TRAIL + mark + i], left) {
+            LookedThrough::Done(rest) => {
                 left = rest;
                 i += 1;
             }
-            Looked::StepsOut => {
-                return Looked::StepsOut;
+            LookedThrough::StepsOut => {
+                return LookedThrough::StepsOut;
             }
-            Looked::PathOut(rest) => {
-                return Looked::PathOut(rest);
+            LookedThrough::WaitingOut(rest) => {
+                return LookedThrough::WaitingOut(rest);
             }
         }
     }
-    Looked::Done(left)
+    LookedThrough::Done(left)
 }

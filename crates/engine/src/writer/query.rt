@@ -1,6 +1,6 @@
 // Query terms. A parameter's word need not stand in the program, so it is known by its number: it is open, or what it is bound to is its term.
-use crate::writer::look::Looked;
-use crate::writer::look::look;
+use crate::writer::look::LookedThrough;
+use crate::writer::look::look_through;
 use crate::writer::names::name_term;
 use crate::writer::names::name_variable;
 use crate::writer::term::Put;
@@ -19,18 +19,18 @@ ghost use Rattle.engine.specs.Term.{Room, Puts, Placed};
 ghost use Rattle.engine.specs.Look.{LookedAs, ThroughAs};
 ghost use Rattle.engine.specs.Query.{Query, query-words};
 
-pub(crate) fn look_parameter(program: &[u32], scratch: &[u32], x: u32, steps: u32) -> Looked
+pub(crate) fn look_parameter(program: &[u32], scratch: &[u32], x: u32, steps: u32) -> LookedThrough
     requires { ⌜ (x < 2048) × ((bs : Substitution) × Binds (now program) (now scratch) bs) ⌝ }
     ensures { λ r. ⌜ ((bs : Substitution) → Binds (now (program .entry)) (now (scratch .entry)) bs → LookedAs bs (var x) steps r) ⌝ }
 {
     let entry = scratch[x as usize];
     if entry != 0 {
-        return look(program, scratch, entry - 1, steps);
+        return look_through(program, scratch, entry - 1, steps);
     }
     if steps == 0 {
-        return Looked::StepsOut;
+        return LookedThrough::StepsOut;
     }
-    Looked::Done(steps - 1)
+    LookedThrough::Done(steps - 1)
 }
 
 pub(crate) fn name_parameter(program: &[u32], scratch: &mut [u32], x: u32, top: u32) -> u32
@@ -67,7 +67,12 @@ pub(crate) fn put_parameter(
 }
 
 // All parameters, one after the other.
-pub(crate) fn look_parameters(program: &[u32], scratch: &[u32], count: u32, steps: u32) -> Looked
+pub(crate) fn look_parameters(
+    program: &[u32],
+    scratch: &[u32],
+    count: u32,
+    steps: u32,
+) -> LookedThrough
     requires { ⌜ (count ≤ 2048) × ((bs : Substitution) × Binds (now program) (now scratch) bs) ⌝ }
     ensures { λ r. ⌜ ((bs : Substitution) → Binds (now (program .entry)) (now (scratch .entry)) bs → ThroughAs bs (parameters 0 count) steps r) ⌝ }
 {
@@ -75,19 +80,19 @@ pub(crate) fn look_parameters(program: &[u32], scratch: &[u32], count: u32, step
     let mut x = 0;
     while x < count {
         match look_parameter(program, scratch, x, left) {
-            Looked::Done(rest) => {
+            LookedThrough::Done(rest) => {
                 left = rest;
                 x += 1;
             }
-            Looked::StepsOut => {
-                return Looked::StepsOut;
+            LookedThrough::StepsOut => {
+                return LookedThrough::StepsOut;
             }
-            Looked::PathOut(rest) => {
-                return Looked::PathOut(rest);
+            LookedThrough::WaitingOut(rest) => {
+                return LookedThrough::WaitingOut(rest);
             }
         }
     }
-    Looked::Done(left)
+    LookedThrough::Done(left)
 }
 
 pub(crate) fn name_parameters(program: &[u32], scratch: &mut [u32], count: u32) -> u32

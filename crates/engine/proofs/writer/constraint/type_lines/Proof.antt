@@ -6,20 +6,20 @@ use Rattle.engine.proofs.ConstraintLaws.{term-steps, term-path, term-do
 use Rattle.engine.proofs.writer.constraint.type_lines.Statement.{statement}
 use Rattle.engine.proofs.writer.constraint.type_lines.Tie as tie
 
-look-requires : tie.Need-look-requires
-look-requires c κs = let p = c .before .before .before .pre .1 in (p .0, p .2, p .3)
+look-through-requires : tie.Need-look-through-requires
+look-through-requires c κs = let p = c .before .before .before .pre .1 in (p .0, p .2, p .3)
 
 enum-told : tie.Need-enum-told
 enum-told c = search needs
 
 returns : tie.Need-returns
-returns c = λ g bs k t f e. term-steps g (f .binds) t (c .before .before .before .before .before .before .args .steps) _ (c .before .before .look .ensures bs t f) (typed-lines k (walk bs t)) (c .enum-told .given .1)
+returns c = λ g bs k t f e. term-steps g (f .binds) t (c .before .before .before .before .before .before .args .steps) _ (c .before .before .look-through .ensures bs t f) (typed-lines k (walk bs t)) (c .enum-told .given .1)
 
 enum-known-rest : tie.Need-enum-known-rest
 enum-known-rest c = search needs
 
 returns-2 : tie.Need-returns-2
-returns-2 c = λ g bs k t f e. term-path g (f .binds) t (c .before .before .before .before .before .before .before .args .steps) _ (c .before .before .before .look .ensures bs t f) (typed-lines k (walk bs t)) (c .before .rest .given .1)
+returns-2 c = λ g bs k t f e. term-path g (f .binds) t (c .before .before .before .before .before .before .before .args .steps) _ (c .before .before .before .look-through .ensures bs t f) (typed-lines k (walk bs t)) (c .before .rest .given .1)
 
 enum-known-rest-2 : tie.Need-enum-known-rest-2
 enum-known-rest-2 c = search needs
@@ -31,13 +31,13 @@ same-length : tie.Need-same-length
 same-length c = search needs
 
 returns-3 : tie.Need-returns-3
-returns-3 c = λ g bs k t f e. term-done g (f .binds) t (c .before .before .before .before .before .before .before .before .before .before .before .args .steps) _ (c .before .before .before .before .before .before .before .look .ensures bs t f) (typed-lines k (walk bs t)) (c .before .before .before .before .before .rest2 .given .1) (typed-page k g f e (c .before .before .add-typed .ensures))
+returns-3 c = λ g bs k t f e. term-done g (f .binds) t (c .before .before .before .before .before .before .before .before .before .before .before .args .steps) _ (c .before .before .before .before .before .before .before .look-through .ensures bs t f) (typed-lines k (walk bs t)) (c .before .before .before .before .before .rest2 .given .1) (typed-page k g f e (c .before .before .add-typed .ensures))
 
 pub type-lines-spec : {M : Type 1} → statement M
 type-lines-spec =
     tie.close
     (tie.spec
-    look-requires
+    look-through-requires
     enum-told
     returns
     enum-known-rest

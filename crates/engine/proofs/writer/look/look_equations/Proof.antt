@@ -19,20 +19,20 @@ abbrev μ-loop : tie.MeasureT-loop
 loop-holds : tie.Need-loop-holds Inv-loop μ-loop
 loop-holds c = λ bs cs h. rights-start _ h
 
-add-look : tie.Need-add-look Inv-loop μ-loop
-add-look c = omega (arith, c .before .before .before .before .pre .2 .few)
+add-look-through : tie.Need-add-look-through Inv-loop μ-loop
+add-look-through c = omega (arith, c .before .before .before .before .pre .2 .few)
 
-add-look-2 : tie.Need-add-look-2 Inv-loop μ-loop
-add-look-2 c = omega (arith, c .before .before .before .before .pre .2 .few, c .loop-test .taken)
+add-look-through-2 : tie.Need-add-look-through-2 Inv-loop μ-loop
+add-look-through-2 c = omega (arith, c .before .before .before .before .pre .2 .few, c .loop-test .taken)
 
-mul-look : tie.Need-mul-look Inv-loop μ-loop
-mul-look c = omega (arith, c .before .before .before .before .pre .2 .few, c .loop-test .taken)
+mul-look-through : tie.Need-mul-look-through Inv-loop μ-loop
+mul-look-through c = omega (arith, c .before .before .before .before .pre .2 .few, c .loop-test .taken)
 
-shared-slice-read-look : tie.Need-shared-slice-read-look Inv-loop μ-loop
-shared-slice-read-look c = omega (arith, c .before .before .before .before .before .pre .2 .few, c .before .loop-test .taken, c .before .before .before .before .before .pre .2 .held .long)
+shared-slice-read-look-through : tie.Need-shared-slice-read-look-through Inv-loop μ-loop
+shared-slice-read-look-through c = omega (arith, c .before .before .before .before .before .pre .2 .few, c .before .loop-test .taken, c .before .before .before .before .before .pre .2 .held .long)
 
-look-requires : tie.Need-look-requires Inv-loop μ-loop
-look-requires c κs = let p = c .before .before .before .before .before .pre in let n = rights-next (c .before .before .loop .inv (p .0) (p .1) (p .2)) (c .before .loop-test .taken) in (p .0, n .one .1, record { binds = p .2 .held; stands = n .stands })
+look-through-requires : tie.Need-look-through-requires Inv-loop μ-loop
+look-through-requires c κs = let p = c .before .before .before .before .before .pre in let n = rights-next (c .before .before .loop .inv (p .0) (p .1) (p .2)) (c .before .loop-test .taken) in (p .0, n .one .1, record { binds = p .2 .held; stands = n .stands })
 
 enum-known-rest : tie.Need-enum-known-rest Inv-loop μ-loop
 enum-known-rest c = search needs
@@ -44,19 +44,19 @@ loop-less : tie.Need-loop-less Inv-loop μ-loop
 loop-less c = omega (arith, c .before .before .before .before .before .loop-test .taken)
 
 loop-again : tie.Need-loop-again Inv-loop μ-loop
-loop-again c = λ bs cs h. let g = c .before .before .before .before .before .before .loop .inv bs cs h in let n = rights-next g (c .before .before .before .before .before .loop-test .taken) in rights-on g n _ (c .before .before .before .look .ensures bs (n .one .1) (record { binds = h .held; stands = n .stands })) (c .before .rest .given .1)
+loop-again c = λ bs cs h. let g = c .before .before .before .before .before .before .loop .inv bs cs h in let n = rights-next g (c .before .before .before .before .before .loop-test .taken) in rights-on g n _ (c .before .before .before .look-through .ensures bs (n .one .1) (record { binds = h .held; stands = n .stands })) (c .before .rest .given .1)
 
 enum-told : tie.Need-enum-told Inv-loop μ-loop
 enum-told c = search needs
 
 returns : tie.Need-returns Inv-loop μ-loop
-returns c = λ bs cs h. let g = c .before .before .before .before .before .loop .inv bs cs h in let n = rights-next g (c .before .before .before .before .loop-test .taken) in rights-steps g n _ (c .before .before .look .ensures bs (n .one .1) (record { binds = h .held; stands = n .stands })) (c .enum-told .given .1)
+returns c = λ bs cs h. let g = c .before .before .before .before .before .loop .inv bs cs h in let n = rights-next g (c .before .before .before .before .loop-test .taken) in rights-steps g n _ (c .before .before .look-through .ensures bs (n .one .1) (record { binds = h .held; stands = n .stands })) (c .enum-told .given .1)
 
 enum-known-rest-2 : tie.Need-enum-known-rest-2 Inv-loop μ-loop
 enum-known-rest-2 c = search needs
 
 returns-2 : tie.Need-returns-2 Inv-loop μ-loop
-returns-2 c = λ bs cs h. let g = c .before .before .before .before .before .before .loop .inv bs cs h in let n = rights-next g (c .before .before .before .before .before .loop-test .taken) in rights-path g n _ (c .before .before .before .look .ensures bs (n .one .1) (record { binds = h .held; stands = n .stands })) (c .before .rest2 .given .1)
+returns-2 c = λ bs cs h. let g = c .before .before .before .before .before .before .loop .inv bs cs h in let n = rights-next g (c .before .before .before .before .before .loop-test .taken) in rights-path g n _ (c .before .before .before .look-through .ensures bs (n .one .1) (record { binds = h .held; stands = n .stands })) (c .before .rest2 .given .1)
 
 returns-3 : tie.Need-returns-3 Inv-loop μ-loop
 returns-3 c = λ bs cs h. rights-end (c .before .loop .inv bs cs h) (c .loop-test .left)
@@ -68,11 +68,11 @@ look-equations-spec =
     Inv-loop
     μ-loop
     loop-holds
-    add-look
-    add-look-2
-    mul-look
-    shared-slice-read-look
-    look-requires
+    add-look-through
+    add-look-through-2
+    mul-look-through
+    shared-slice-read-look-through
+    look-through-requires
     enum-known-rest
     add-i
     loop-less

@@ -10,14 +10,14 @@ mul-entry c = search needs
 shared-slice-read-entry : tie.Need-shared-slice-read-entry
 shared-slice-read-entry c = search needs
 
-sub-look : tie.Need-sub-look
-sub-look c = search needs
+sub-look-through : tie.Need-sub-look-through
+sub-look-through c = search needs
 
-look-requires : tie.Need-look-requires
-look-requires c κs = let q = c .before .before .before .before .pre .1 in (q .0, _, parameter-follows _ (q .1) (c .before .before .before .before .pre .0) (c .if1 .taken))
+look-through-requires : tie.Need-look-through-requires
+look-through-requires c κs = let q = c .before .before .before .before .pre .1 in (q .0, _, parameter-follows _ (q .1) (c .before .before .before .before .pre .0) (c .if1 .taken))
 
 returns : tie.Need-returns
-returns c = λ bs b. parameter-looked _ b (c .before .before .before .before .before .pre .0) _ _ (c .before .if1 .taken) (c .look .ensures bs _ (parameter-follows _ b (c .before .before .before .before .before .pre .0) (c .before .if1 .taken)))
+returns c = λ bs b. parameter-looked _ b (c .before .before .before .before .before .pre .0) _ _ (c .before .if1 .taken) (c .look-through .ensures bs _ (parameter-follows _ b (c .before .before .before .before .before .pre .0) (c .before .if1 .taken)))
 
 returns-2 : tie.Need-returns-2
 returns-2 c = λ bs b. parameter-no-steps _ b (c .before .before .before .before .before .pre .0) _ (c .if2 .taken)
@@ -34,8 +34,8 @@ look-parameter-spec =
     (tie.spec
     mul-entry
     shared-slice-read-entry
-    sub-look
-    look-requires
+    sub-look-through
+    look-through-requires
     returns
     returns-2
     sub-t9

@@ -1,27 +1,27 @@
 -- The arguments of a call: past a term, to the last variable on an argument's way, and parameters bound one after the other.
-use Prim.Native.Nat.{ℕ, zero, suc, _+_, _-_, _≤_, _<_}
+use Prim.Native.Nat.{ℕ, suc, _+_, _-_, _≤_, _<_}
 use mathlib.Core.Path.{_≡_, refl, sym, ap, subst, _∙_}
 use mathlib.Core.Option.{Option, Option·some-injective, none, some}
 use mathlib.Core.List.{List, [], _∷_}
 use native.Mathlib.Omega.{arith}
 use lib.ListN.{length}
-use Rattle.word.specs.Word.{kind}
+use Rattle.rules.specs.Lists.{Each}
 use Rattle.rules.specs.Syntax.{Term, var, atom, pair}
 use Rattle.rules.specs.Reading.{payload-at}
 use Rattle.semantics.specs.Substitution.{shift, Substitution, lookup, argument}
 use Rattle.semantics.specs.Path.{bind-params}
-use Rattle.semantics.specs.Shows.{Each}
+use Rattle.semantics.specs.Invariant.{TermIn}
 use Rattle.semantics.proofs.Basics.{each-map}
 use Rattle.semantics.proofs.SubstitutionLaws.{Last, last-here, last-some, in-open}
-use Rattle.semantics.proofs.TermLaws.{TermIn, term-more}
+use Rattle.semantics.proofs.TermLaws.{term-more, term-size}
 use Rattle.semantics.proofs.Sound.{sound-call}
-use Rattle.engine.specs.Reference.{at, TermAt, TermsAt, refer, pos-of, base-of, Vars, Stands}
-use Rattle.engine.specs.Memory.{Bound, Entry, BindingsIn, bound}
+use Rattle.engine.specs.Reference.{at, TermsAt, refer, pos-of, base-of, Vars, Stands}
+use Rattle.engine.specs.Memory.{BoundTo, Entry, BindingsIn, bound}
 use Rattle.engine.specs.Walk.{NodeAt, Follows}
-use Rattle.engine.specs.Calling.{Passing, Passed}
+use Rattle.engine.specs.Call.{BindingParameters, ParametersBound}
 use Rattle.engine.specs.Trail.{Apart}
-use Rattle.semantics.proofs.TermLaws.{term-size}
-use Rattle.engine.proofs.ReferenceLaws.{term-longer, terms-longer, atom-low}
+use Rattle.rules.specs.Settings.{most-words}
+use Rattle.engine.proofs.ReferenceLaws.{stands-at, term-longer, terms-longer, atom-low}
 use Rattle.engine.proofs.GoalLaws.{term-shift}
 use Rattle.engine.proofs.TrailLaws.{fresh-room, bind-in, apart-trans, bound-apart}
 
@@ -62,7 +62,7 @@ last-open ws s bs w b k p x (var y) f i e q z = subst (Stands ws w) (sym (argume
 
     go : (u : ℕ) → lookup bs y ≡ some (var u) → ⊥
     go u l =
-        let entry : Bound ws (at s y) (var u) = subst (λ o. Entry ws (at s y) o) l (f .binds .bindings-in .words y (f .stands .in-range)) in
+        let entry : BoundTo ws (at s y) (var u) = subst (λ o. Entry ws (at s y) o) l (f .binds .bindings-in .words y (f .stands .in-range)) in
         let zero-there : at s y ≡ 0 = subst (λ v. at s v ≡ 0) is-x z in
         omega (arith, entry .some-word)
 last-open ws s bs w b k p x (atom a) f i e q z = f .stands
@@ -135,7 +135,8 @@ pub record First (ws s : List ℕ) (base to : ℕ) (x n w : ℕ) (ts : List Term
   pub is-new : x < 2048
   pub room : n < 2048
 
-pub pass-first : (ws s₀ s : List ℕ) (base to : ℕ) (whole : Substitution) (x n w count : ℕ) (p : Passing ws s₀ s base to whole x n w count) → (count ≡ 0 → ⊥) → First ws s base to x n w (p .args)
+pub pass-first : (ws s₀ s : List ℕ) (base to : ℕ) (whole : Substitution) (x n w count : ℕ) (p : BindingParameters ws s₀ s base to whole x n w count) → (count ≡ 0 → ⊥) → First ws s base to x n w (p .args)
+unfolding stands-at
 pass-first ws s₀ s base to whole x n w count p some-left = go (p .args) (p .many) (p .terms) (p .in-range)
   where
     bs : Substitution
@@ -149,21 +150,12 @@ pass-first ws s₀ s base to whole x n w count p some-left = go (p .args) (p .ma
         let l₁ : from + term-size t < mid = term-longer ws 0 from mid t (h .1) in
         let l : mid ≤ to = terms-longer ws 0 mid to ts (h .2) in
         let ins : to ≤ length ws = p .inside in
-        let short : length ws ≤ 16384 = p .short in
+        let short : length ws ≤ most-words = p .short in
         let f : x + count ≤ 2048 = p .fits in
         let low : base ≤ 2048 = p .low in
         let is-w : w ≡ refer from base = p .is-w in
-        let is-pos : pos-of w ≡ from = omega arith in
-        let is-base : base-of w ≡ base = omega arith in
         let x-new : x < 2048 = omega (arith, e) in
-        let st : Stands ws w (shift base t) = record {
-          to = mid;
-          reads = subst (λ b. TermAt ws b (pos-of w) mid (shift base t)) (sym is-base) (subst (λ j. TermAt ws base j mid (shift base t)) (sym is-pos) (term-shift ws base from mid t (h .1)));
-          inside = omega arith;
-          small = omega arith;
-          below = omega arith;
-          in-range = term-vars x (shift base t) (omega arith) (i .0);
-        } in
+        let st : Stands ws w (shift base t) = stands-at ws base from mid w (shift base t) is-w (term-shift ws base from mid t (h .1)) (omega arith) (omega arith) low (term-vars x (shift base t) (omega arith) (i .0)) in
         record {
           now-bound = bs;
           term = t;
@@ -179,9 +171,9 @@ pass-first ws s₀ s base to whole x n w count p some-left = go (p .args) (p .ma
           room = omega (arith, p .is-n, fresh-room bs x t (p .bindings-in .fresh) x-new (in-open x bs (p .sound .scope) x (omega arith)));
         }
 
-pub pass-step : (ws s₀ s : List ℕ) (base to : ℕ) (whole : Substitution) (x n w count v next n′ : ℕ) (s′ : List ℕ) → Passing ws s₀ s base to whole x n w count → (count ≡ 0 → ⊥)
+pub pass-step : (ws s₀ s : List ℕ) (base to : ℕ) (whole : Substitution) (x n w count v next n′ : ℕ) (s′ : List ℕ) → BindingParameters ws s₀ s base to whole x n w count → (count ≡ 0 → ⊥)
     → ((bs : Substitution) (t : Term) → Follows ws s bs w t → Stands ws v (argument bs t)) → ((t : Term) (h : Stands ws w t) → next + pos-of w ≡ w + h .to)
-    → n′ ≡ n + 1 → s′ ≡ bound s x v n → Passing ws s₀ s′ base to whole (x + 1) n′ next (count - 1)
+    → n′ ≡ n + 1 → s′ ≡ bound s x v n → BindingParameters ws s₀ s′ base to whole (x + 1) n′ next (count - 1)
 pass-step ws s₀ s base to whole x n w count v next n′ s′ p some-left last-is next-is is-n′ is-s′ =
     let bs : Substitution = p .now-bound in
     let first : First ws s base to x n w (p .args) = pass-first ws s₀ s base to whole x n w count p some-left in
@@ -216,9 +208,9 @@ pass-step ws s₀ s base to whole x n w count v next n′ s′ p some-left last-
     })
 
 -- all are passed
-pub pass-end : (ws s₀ s : List ℕ) (base to : ℕ) (whole : Substitution) (x n w count : ℕ) → Passing ws s₀ s base to whole x n w count → count ≡ 0 → Passed ws s₀ s whole n
+pub pass-end : (ws s₀ s : List ℕ) (base to : ℕ) (whole : Substitution) (x n w count : ℕ) → BindingParameters ws s₀ s base to whole x n w count → count ≡ 0 → ParametersBound ws s₀ s whole n
 pass-end ws s₀ s base to whole x n w count p none-left = go (p .args) (p .many) (p .leads)
   where
-    go : (ts : List Term) → length ts ≡ count → bind-params x base ts (p .now-bound) ≡ whole → Passed ws s₀ s whole n
+    go : (ts : List Term) → length ts ≡ count → bind-params x base ts (p .now-bound) ≡ whole → ParametersBound ws s₀ s whole n
     go [] e l = record { bindings-in = subst (BindingsIn ws s) l (p .bindings-in); apart = p .apart; is-n = p .is-n ∙ ap length l }
     go (t ∷ ts) e l = absurd (omega (arith, e))

@@ -1,6 +1,6 @@
 -- From stored words to a longer path: what may be claimed of words that are there, and the stores that put them there.
 use Prim.Native.Nat.{ℕ, suc, _+_, _-_, _≤_, _<_}
-use mathlib.Core.Path.{_≡_, refl, sym, ap, subst, _∙_}
+use mathlib.Core.Path.{_≡_, refl, sym, subst, _∙_}
 use mathlib.Core.List.{List, [], _∷_, append-nil}
 use native.Mathlib.Omega.{arith}
 use lib.ListN.{length}
@@ -8,7 +8,7 @@ use Rattle.rules.specs.Syntax.{Goal, Goals, Program}
 use Rattle.semantics.specs.Path.{Task, Path, ChoicePoint, waiting-on}
 use Rattle.engine.specs.Reference.{at, TaskAt, RestAt}
 use Rattle.engine.proofs.StoredLaws.{choices-grown}
-use Rattle.engine.specs.Memory.{goal-at, next-at, point-at, Registers, saved, BindingsIn, TasksIn, KeptIn, PathIn, Grown, ChoiceIn, Roomy, Stored, cell, point}
+use Rattle.engine.specs.Memory.{goal-at, next-at, point-at, Registers, saved, BindingsIn, TasksIn, KeptIn, PathIn, Grown, ChoiceIn, Roomy, Stored}
 
 -- paths that have grown
 pub grown-same : (p : Path) → Grown p p
@@ -33,17 +33,17 @@ claim {ws = ws} {s = s} {p = p} {cs = cs} r′ p′ g room b k m h = record {
 
 -- Registers, changed
 abbrev pub with-head : Registers → ℕ → Registers
-with-head r h = record { head = h; trail = r .trail; made = r .made; put = r .put; kept = r .kept; calls = r .calls }
+with-head r h = record { head = h; trail = r .trail; variables = r .variables; goals = r .goals; constraints = r .constraints; calls = r .calls }
 
 -- one more goal put to wait, in a cell or not
 abbrev pub counted : Registers → Registers
-counted r = record { head = r .head; trail = r .trail; made = r .made; put = r .put + 1; kept = r .kept; calls = r .calls }
+counted r = record { head = r .head; trail = r .trail; variables = r .variables; goals = r .goals + 1; constraints = r .constraints; calls = r .calls }
 
 abbrev pub waited : Registers → Registers
-waited r = record { head = r .put + 1; trail = r .trail; made = r .made; put = r .put + 1; kept = r .kept; calls = r .calls }
+waited r = record { head = r .goals + 1; trail = r .trail; variables = r .variables; goals = r .goals + 1; constraints = r .constraints; calls = r .calls }
 
 abbrev pub constrained : Registers → Registers
-constrained r = record { head = r .head; trail = r .trail; made = r .made; put = r .put; kept = r .kept + 1; calls = r .calls }
+constrained r = record { head = r .head; trail = r .trail; variables = r .variables; goals = r .goals; constraints = r .constraints + 1; calls = r .calls }
 
 -- cells stay good while more are put
 pub tasks-more : (ws s : List ℕ) (put put′ h : ℕ) (ts : List Task) → put ≤ put′ → TasksIn ws s put h ts → TasksIn ws s put′ h ts
@@ -52,17 +52,17 @@ tasks-more ws s put put′ h (task ∷ ts) le t = (record { is-cell = t .0 .is-c
 
 module _ {P : Program} {ws s : List ℕ} {r : Registers} {n : ℕ} {p : Path} {cs : List ChoicePoint} where
   -- a goal counts as put to wait
-  pub count : r .put < 1024 → Stored P ws s r n p cs → Stored P ws s (counted r) n (waiting-on p (p .stack) (suc (p .put))) cs
+  pub count : r .goals < 1024 → Stored P ws s r n p cs → Stored P ws s (counted r) n (waiting-on p (p .stack) (suc (p .put))) cs
   count lt h =
       let m = h .path-in in
       claim (counted r) (waiting-on p (p .stack) (suc (p .put)))
       (stays p _ refl refl (omega arith) (omega arith))
       (record { long = h .roomy .long; trail = h .roomy .trail; made = h .roomy .made; put = omega arith; choices = h .roomy .choices; kept = h .roomy .kept })
       (h .bindings-in) (h .kept-in)
-      (record { tasks = tasks-more ws s (r .put) (r .put + 1) (r .head) (p .stack) (omega arith) (m .tasks); trail = m .trail; made = m .made; put = omega (arith, m .put); kept = m .kept; calls = m .calls }) h
+      (record { tasks = tasks-more ws s (r .goals) (r .goals + 1) (r .head) (p .stack) (omega arith) (m .tasks); trail = m .trail; made = m .made; put = omega (arith, m .put); kept = m .kept; calls = m .calls }) h
 
   -- a goal waits in the next cell, which is written
-  pub claim-cell : (base : ℕ) (g : Goal) → r .put < 1024 → TaskAt ws (at s (goal-at (r .put + 1))) (base, g) → at s (next-at (r .put + 1)) ≡ r .head
+  pub claim-cell : (base : ℕ) (g : Goal) → r .goals < 1024 → TaskAt ws (at s (goal-at (r .goals + 1))) (base, g) → at s (next-at (r .goals + 1)) ≡ r .head
       → Stored P ws s r n p cs → Stored P ws s (waited r) n (waiting-on p ((base, g) ∷ p .stack) (suc (p .put))) cs
   claim-cell base g lt is next h =
       let m = h .path-in in
@@ -71,7 +71,7 @@ module _ {P : Program} {ws s : List ℕ} {r : Registers} {n : ℕ} {p : Path} {c
       (record { long = h .roomy .long; trail = h .roomy .trail; made = h .roomy .made; put = omega arith; choices = h .roomy .choices; kept = h .roomy .kept })
       (h .bindings-in) (h .kept-in)
       (record {
-        tasks = (record { is-cell = omega arith; low = omega arith; task-is = is }, rw next (tasks-more ws s (r .put) (r .put + 1) (r .head) (p .stack) (omega arith) (m .tasks)));
+        tasks = (record { is-cell = omega arith; low = omega arith; task-is = is }, rw next (tasks-more ws s (r .goals) (r .goals + 1) (r .head) (p .stack) (omega arith) (m .tasks)));
         trail = m .trail;
         made = m .made;
         put = omega (arith, m .put);
@@ -80,11 +80,11 @@ module _ {P : Program} {ws s : List ℕ} {r : Registers} {n : ℕ} {p : Path} {c
       }) h
 
   -- a choice point, which is written
-  pub claim-point : (base : ℕ) (rest : Goals) → n < 256 → r .put < 1024 → saved s n ≡ r → RestAt ws (at s (point-at n)) (at s (point-at n + 1)) base rest
+  pub claim-point : (base : ℕ) (rest : Goals) → n < 256 → r .goals < 1024 → saved s n ≡ r → RestAt ws (at s (point-at n)) (at s (point-at n + 1)) base rest
       → Stored P ws s r n p cs → Stored P ws s r (n + 1) p (record { path = p; base = base; rest = rest } ∷ cs)
   claim-point base rest lt room is at-rest h =
       let e : n ≡ length cs = h .choices-are in
-      let is-put : r .put ≡ p .put = h .path-in .put in
+      let is-put : r .goals ≡ p .put = h .path-in .put in
       let here : ChoiceIn ws s n p (record { path = p; base = base; rest = rest }) = record { grown = grown-same p; room = omega arith; path-in = subst (λ q. PathIn ws s q p) (sym is) (h .path-in); rest-at = at-rest } in
       record {
         roomy = record { long = h .roomy .long; trail = h .roomy .trail; made = h .roomy .made; put = h .roomy .put; choices = omega arith; kept = h .roomy .kept };

@@ -1,18 +1,19 @@
 -- A conjunction on words: its goals in a row of cells, written in order, each linked to the next and the last to the old head.
 use Prim.Native.Nat.{ℕ, suc, _+_, _*_, _-_, _≤_, _<_}
-use mathlib.Core.Path.{_≡_, refl, ap, subst, _∙_}
+use mathlib.Core.Path.{_≡_, refl, subst, _∙_}
 use mathlib.Core.Logic.{_≢_}
 use mathlib.Core.List.{List, [], _∷_, _++_}
 use native.Mathlib.Omega.{arith}
-use lib.ListN.{length, getD, set, length-set, length-append}
+use lib.ListN.{length, set, length-set, length-append}
 use lib.Seq.{getD-set-same, getD-set-other}
-use Rattle.rules.specs.Syntax.{Goal, Goals, one, more, Program, Constraint}
+use Rattle.rules.specs.Syntax.{Goals, one, more, Program, Constraint}
 use Rattle.semantics.specs.Path.{Task, Path, ChoicePoint, waiting-on, keeping, goals-count, wait-all}
 use Rattle.rules.specs.Reading.{after}
 use Rattle.engine.specs.Reference.{at, beyond, pos-of, RestAt, KeepsAt}
 use Rattle.engine.proofs.GoalLaws.{Then, task-one, task-more}
-use Rattle.engine.specs.Memory.{goal-at, next-at, kept-at, Registers, CellIn, TasksIn, KeptIn, Stored, cell}
+use Rattle.engine.specs.Memory.{goal-at, next-at, kept-at, Registers, CellIn, TasksIn, KeptIn, Stored, cell, layout-words}
 use Rattle.engine.specs.Trail.{Same}
+use Rattle.rules.specs.Settings.{most-words}
 use Rattle.engine.proofs.FrameLaws.{Untouched, frame, store}
 use Rattle.engine.proofs.ClaimLaws.{stays, claim, constrained, tasks-more}
 
@@ -58,12 +59,12 @@ pub record Lining (ws s₀ s : List ℕ) (put head w₀ to base : ℕ) (gs : Goa
   pub more-filled : put ≤ filled
   pub few-filled : filled ≤ 1024
   pub long : length s ≡ length s₀
-  pub long-enough : 12288 ≤ length s₀
+  pub long-enough : layout-words ≤ length s₀
   pub low : Same s₀ s 0 (6144 + 2 * put)
   pub high : (i : ℕ) → 8192 ≤ i → at s i ≡ at s₀ i
   pub row : (s′ : List ℕ) → Same s s′ (6144 + 2 * put) (6144 + 2 * filled) → RowIn ws s′ (filled + 1) w head rest → RowIn ws s′ (put + 1) w₀ head gs
 
-pub lining-start : (ws s : List ℕ) (put head w to base : ℕ) (gs : Goals) → RestAt ws w to base gs → put ≤ 1024 → 12288 ≤ length s → Lining ws s s put head w to base gs w put
+pub lining-start : (ws s : List ℕ) (put head w to base : ℕ) (gs : Goals) → RestAt ws w to base gs → put ≤ 1024 → layout-words ≤ length s → Lining ws s s put head w to base gs w put
 lining-start ws s put head w to base gs is le long = record {
   rest = gs;
   is-rest = is;
@@ -81,7 +82,7 @@ lining-start ws s put head w to base gs is le long = record {
 pub record Next (ws : List ℕ) (w to : ℕ) : Type 0 where
   pub inside : pos-of w < length ws
   pub within : after ws (pos-of w) ≤ to
-  pub small : to ≤ 16384
+  pub small : to ≤ most-words
   pub below : w < 33570816
 
 pub next-goal : (ws : List ℕ) (w to base : ℕ) (gs : Goals) → RestAt ws w to base gs → Next ws w to
@@ -109,7 +110,7 @@ lining-last ws s₀ s put head w₀ to base gs w filled l lt e = go (l .rest) (l
     s′ : List ℕ
     s′ = cell s (filled + 1) w head
 
-    long : 12288 ≤ length s
+    long : layout-words ≤ length s
     long = omega (arith, l .long, l .long-enough)
 
     up : put ≤ filled
@@ -137,7 +138,7 @@ lining-more ws s₀ s put head w₀ to base gs w filled l lt n = go (l .rest) (l
     s′ : List ℕ
     s′ = cell s (filled + 1) w (filled + 2)
 
-    long : 12288 ≤ length s
+    long : layout-words ≤ length s
     long = omega (arith, l .long, l .long-enough)
 
     up : put ≤ filled
@@ -168,15 +169,15 @@ lining-more ws s₀ s put head w₀ to base gs w filled l lt n = go (l .rest) (l
 
 -- k goals more wait, in cells
 abbrev pub lined-up : Registers → ℕ → Registers
-lined-up r k = record { head = r .put + 1; trail = r .trail; made = r .made; put = r .put + k; kept = r .kept; calls = r .calls }
+lined-up r k = record { head = r .goals + 1; trail = r .trail; variables = r .variables; goals = r .goals + k; constraints = r .constraints; calls = r .calls }
 
 module _ {P : Program} {ws s : List ℕ} {r : Registers} {n : ℕ} {p : Path} {cs : List ChoicePoint} where
   -- A conjunction is taken.
-  pub conj-all : (base : ℕ) (gs : Goals) (w to : ℕ) (s′ : List ℕ) → r .put + goals-count gs ≤ 1024 → RestAt ws w to base gs → Rowed ws s s′ (r .put) w (r .head) gs → Stored P ws s r n p cs
+  pub conj-all : (base : ℕ) (gs : Goals) (w to : ℕ) (s′ : List ℕ) → r .goals + goals-count gs ≤ 1024 → RestAt ws w to base gs → Rowed ws s s′ (r .goals) w (r .head) gs → Stored P ws s r n p cs
       → Stored P ws s′ (lined-up r (goals-count gs)) n (waiting-on p (wait-all base gs (p .stack)) (p .put + goals-count gs)) cs
   conj-all base gs w to s′ le is d h =
       let m = h .path-in in
-      let long : 12288 ≤ length s = h .roomy .long in
+      let long : layout-words ≤ length s = h .roomy .long in
       let few : n ≤ 256 = h .roomy .choices in
       let trail : r .trail ≤ 2048 = h .roomy .trail in
       let u : Untouched s s′ r n = record {
@@ -194,7 +195,7 @@ module _ {P : Program} {ws s : List ℕ} {r : Registers} {n : ℕ} {p : Path} {c
       (record { long = j .roomy .long; trail = j .roomy .trail; made = j .roomy .made; put = le; choices = j .roomy .choices; kept = j .roomy .kept })
       (j .bindings-in) (j .kept-in)
       (record {
-        tasks = row-tasks ws s′ (r .put + 1) w to base (r .head) (r .put) (r .put + goals-count gs) gs (p .stack) is (omega arith) (omega arith) (omega arith) (j .path-in .tasks) (d .is-row);
+        tasks = row-tasks ws s′ (r .goals + 1) w to base (r .head) (r .goals) (r .goals + goals-count gs) gs (p .stack) is (omega arith) (omega arith) (omega arith) (j .path-in .tasks) (d .is-row);
         trail = m .trail;
         made = m .made;
         put = omega (arith, m .put);
@@ -208,17 +209,17 @@ kept-snoc ws s n [] c k e = let q : n + 0 ≡ n = omega arith in (rw q at e, tt)
 kept-snoc ws s n (d ∷ cs) c k e = let q : n + suc (length cs) ≡ suc n + length cs = omega arith in (k .0, kept-snoc ws s (suc n) cs c (k .1) (rw q at e))
 
 module _ {P : Program} {ws s : List ℕ} {r : Registers} {n : ℕ} {p : Path} {cs : List ChoicePoint} where
-  pub keep : (c : Constraint) (w : ℕ) → r .kept < 512 → KeepsAt ws w c → Stored P ws s r n p cs → Stored P ws (set s (kept-at (r .kept)) w) (constrained r) n (keeping p c) cs
+  pub keep : (c : Constraint) (w : ℕ) → r .constraints < 512 → KeepsAt ws w c → Stored P ws s r n p cs → Stored P ws (set s (kept-at (r .constraints)) w) (constrained r) n (keeping p c) cs
   keep c w lt is h =
       let m = h .path-in in
-      let long : 12288 ≤ length s = h .roomy .long in
+      let long : layout-words ≤ length s = h .roomy .long in
       let few : n ≤ 256 = h .roomy .choices in
-      let put : r .put ≤ 1024 = h .roomy .put in
+      let put : r .goals ≤ 1024 = h .roomy .put in
       let trail : r .trail ≤ 2048 = h .roomy .trail in
-      let s′ : List ℕ = set s (kept-at (r .kept)) w in
-      let j : Stored P ws s′ r n p cs = store (kept-at (r .kept)) w (omega arith) h in
-      let here : at s′ (kept-at (r .kept)) ≡ w = getD-set-same s (kept-at (r .kept)) w 0 (omega arith) in
-      let e : r .kept ≡ 0 + length (p .kept) = omega (arith, m .kept) in
+      let s′ : List ℕ = set s (kept-at (r .constraints)) w in
+      let j : Stored P ws s′ r n p cs = store (kept-at (r .constraints)) w (omega arith) h in
+      let here : at s′ (kept-at (r .constraints)) ≡ w = getD-set-same s (kept-at (r .constraints)) w 0 (omega arith) in
+      let e : r .constraints ≡ 0 + length (p .kept) = omega (arith, m .kept) in
       claim (constrained r) (keeping p c) (record { new = []; bindings = refl; later = c ∷ []; kept = refl; made = omega arith; put = omega arith })
       (record { long = j .roomy .long; trail = j .roomy .trail; made = j .roomy .made; put = j .roomy .put; choices = j .roomy .choices; kept = omega arith })
       (j .bindings-in) (kept-snoc ws s′ 0 (p .kept) c (j .kept-in) (subst (λ i. KeepsAt ws (at s′ (kept-at i)) c) e (rw here is)))

@@ -4,15 +4,13 @@ use mathlib.Core.Path.{_≡_, refl, sym, ap, subst, _∙_}
 use mathlib.Core.List.{List}
 use native.Mathlib.Omega.{arith}
 use lib.ListN.{length}
-use Rattle.word.specs.Word.{kind, payload, word}
 use Rattle.rules.specs.Syntax.{Atom, symbol, number, empty, Term, var, atom, pair}
 use Rattle.rules.specs.Written.{atom-word}
 use Rattle.semantics.specs.Substitution.{Substitution, resolve, walk}
 use Rattle.semantics.proofs.SubstitutionLaws.{Seen, walk-seen}
 use Rattle.engine.specs.Reference.{at, base-of, AtomIs, Stands}
-use Rattle.engine.specs.Walk.{NodeAt, Follows}
-use Rattle.engine.specs.Follow.{Resolves, Shaped}
-use Rattle.engine.specs.declared.follow.Shape.the-variants.{Open, Atom as Leaf, Pair}
+use Rattle.engine.specs.Walk.{NodeAt, Follows, Resolves, Shaped}
+use Rattle.engine.specs.declared.terms.walk.Shape.the-variants.{Open, Atom as Leaf, Pair}
 use Rattle.engine.proofs.ReferenceLaws.{atom-low, parts}
 use Rattle.engine.proofs.FrameLaws.{bindings-same}
 use Rattle.engine.proofs.TrailLaws.{fresh-few}

@@ -35,8 +35,8 @@ trail-same s s′ (b ∷ bs) e t = (e (trail-at (length bs)) (omega arith) (omeg
 pub bindings-same : (ws s s′ : List ℕ) (bs : Substitution) → Same s s′ 0 2048 → Same s s′ 2048 (2048 + length bs) → BindingsIn ws s bs → BindingsIn ws s′ bs
 bindings-same ws s s′ bs e f b = record { words = λ x lt. rw (e x (omega arith) lt) (b .words x lt); trail = trail-same s s′ bs f (b .trail); fresh = b .fresh }
 
-pub path-same : (ws s s′ : List ℕ) (r : Registers) (p : Path) → Same s s′ 6144 (6144 + 2 * r .put) → PathIn ws s r p → PathIn ws s′ r p
-path-same ws s s′ r p e h = record { tasks = tasks-same ws s s′ (r .put) (r .head) (p .stack) e (h .tasks); trail = h .trail; made = h .made; put = h .put; kept = h .kept; calls = h .calls }
+pub path-same : (ws s s′ : List ℕ) (r : Registers) (p : Path) → Same s s′ 6144 (6144 + 2 * r .goals) → PathIn ws s r p → PathIn ws s′ r p
+path-same ws s s′ r p e h = record { tasks = tasks-same ws s s′ (r .goals) (r .head) (p .stack) e (h .tasks); trail = h .trail; made = h .made; put = h .put; kept = h .kept; calls = h .calls }
 
 pub saved-same : (s s′ : List ℕ) (n : ℕ) → Same s s′ (point-at n) (point-at n + 8) → saved s′ n ≡ saved s n
 saved-same s s′ n e = rw (e (point-at n + 2) (omega arith) (omega arith), e (point-at n + 3) (omega arith) (omega arith), e (point-at n + 4) (omega arith) (omega arith), e (point-at n + 5) (omega arith) (omega arith), e (point-at n + 6) (omega arith) (omega arith), e (point-at n + 7) (omega arith) (omega arith))
@@ -72,17 +72,17 @@ pub record Untouched (s s′ : List ℕ) (r : Registers) (n : ℕ) : Type 0 wher
   pub bindings : Same s s′ 0 2048
   pub trail : Same s s′ 2048 (2048 + r .trail)
   pub names : Same s s′ 4096 6144
-  pub cells : Same s s′ 6144 (6144 + 2 * r .put)
+  pub cells : Same s s′ 6144 (6144 + 2 * r .goals)
   pub points : Same s s′ 8192 (8192 + 8 * n)
-  pub kept : Same s s′ 10240 (10240 + r .kept)
+  pub kept : Same s s′ 10240 (10240 + r .constraints)
   pub table : Same s s′ 11776 12032
 
 pub frame : {P : Program} {ws s s′ : List ℕ} {r : Registers} {n : ℕ} {p : Path} {cs : List ChoicePoint} → Untouched s s′ r n → Stored P ws s r n p cs → Stored P ws s′ r n p cs
 frame {P} {ws} {s} {s′} {r} {n} {p} {cs} u h =
     let m = h .path-in in
-    let put-is : r .put ≡ p .put = m .put in
+    let put-is : r .goals ≡ p .put = m .put in
     let trail-is : r .trail ≡ length (p .bindings) = m .trail in
-    let kept-is : r .kept ≡ length (p .kept) = m .kept in
+    let kept-is : r .constraints ≡ length (p .kept) = m .kept in
     let choices-are : n ≡ length cs = h .choices-are in
     record {
       roomy = record { long = omega (arith, u .long, h .roomy .long); trail = h .roomy .trail; made = h .roomy .made; put = h .roomy .put; choices = h .roomy .choices; kept = h .roomy .kept };
@@ -100,9 +100,9 @@ pub record Outside (r : Registers) (n j : ℕ) : Type 0 where
   pub bindings : (i : ℕ) → i < 2048 → i ≢ j
   pub trail : (i : ℕ) → 2048 ≤ i → i < 2048 + r .trail → i ≢ j
   pub names : (i : ℕ) → 4096 ≤ i → i < 6144 → i ≢ j
-  pub cells : (i : ℕ) → 6144 ≤ i → i < 6144 + 2 * r .put → i ≢ j
+  pub cells : (i : ℕ) → 6144 ≤ i → i < 6144 + 2 * r .goals → i ≢ j
   pub points : (i : ℕ) → 8192 ≤ i → i < 8192 + 8 * n → i ≢ j
-  pub kept : (i : ℕ) → 10240 ≤ i → i < 10240 + r .kept → i ≢ j
+  pub kept : (i : ℕ) → 10240 ≤ i → i < 10240 + r .constraints → i ≢ j
   pub table : (i : ℕ) → 11776 ≤ i → i < 12032 → i ≢ j
 
 pub outside-untouched : (s : List ℕ) (r : Registers) (n j v : ℕ) → Outside r n j → Untouched s (set s j v) r n

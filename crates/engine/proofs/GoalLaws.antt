@@ -1,13 +1,14 @@
 -- Goals and constraints by reference: where they are, and what they are on a path.
 use Prim.Native.Nat.{ℕ, _+_, _≤_, _<_}
 use mathlib.Core.Path.{_≡_, sym, subst, _∙_}
-use mathlib.Core.List.{List}
+use mathlib.Core.List.{List, [], _∷_, map}
 use native.Mathlib.Omega.{arith}
 use lib.ListN.{length}
 use Rattle.rules.specs.Syntax.{Term, var, atom, pair, Constraint, differ, typed, absento, Goal, Goals, one, more, constrain, conj, disj}
 use Rattle.rules.specs.Reading.{kind-at, after}
 use Rattle.semantics.specs.Substitution.{shift, shift-constraint}
-use Rattle.engine.specs.Reference.{TermAt, ConstraintAt, GoalsAt, pos-of, base-of, beyond, TaskAt, RestAt, VarsC, KeepsAt}
+use Rattle.engine.specs.Reference.{TermAt, TermsAt, ConstraintAt, GoalsAt, pos-of, base-of, beyond, TaskAt, RestAt, VarsC, KeepsAt}
+use Rattle.rules.specs.Settings.{most-words}
 use Rattle.engine.proofs.ReferenceLaws.{pos-plus, base-plus, pos-beyond, base-beyond}
 
 -- a sequence has a goal at least
@@ -21,10 +22,14 @@ term-shift ws base from to (var x) h = (h .0, omega (arith, h .1), h .2)
 term-shift ws base from to (atom a) h = h
 term-shift ws base from to (pair s t) h = (h .0, term-shift ws base _ _ s (h .1), term-shift ws base _ _ t (h .2))
 
+pub terms-shift : (ws : List ℕ) (base from to : ℕ) (ts : List Term) → TermsAt ws 0 from to ts → TermsAt ws base from to (map (shift base) ts)
+terms-shift ws base from to [] h = h
+terms-shift ws base from to (t ∷ ts) h = (h .0, term-shift ws base from (h .0) t (h .1), terms-shift ws base (h .0) to ts (h .2))
+
 pub constraint-shift : (ws : List ℕ) (base pos : ℕ) (c : Constraint) → ConstraintAt ws 0 pos c → ConstraintAt ws base pos (shift-constraint base c)
-constraint-shift ws base pos (differ s t) h = (h .0, (h .1 .0, term-shift ws base _ _ s (h .1 .1), (h .1 .2 .0, term-shift ws base _ _ t (h .1 .2 .1), h .1 .2 .2)))
-constraint-shift ws base pos (typed k t) h = (h .0, (h .1 .0, term-shift ws base _ _ t (h .1 .1), h .1 .2))
-constraint-shift ws base pos (absento a t) h = (h .0, h .1, (h .2 .0, term-shift ws base _ _ t (h .2 .1), h .2 .2))
+constraint-shift ws base pos (differ s t) h = (h .0, terms-shift ws base (pos + 1) (after ws pos) (s ∷ t ∷ []) (h .1))
+constraint-shift ws base pos (typed k t) h = (h .0, terms-shift ws base (pos + 1) (after ws pos) (t ∷ []) (h .1))
+constraint-shift ws base pos (absento a t) h = (h .0, h .1, terms-shift ws base (pos + 2) (after ws pos) (t ∷ []) (h .2))
 
 -- the goals of a sequence are one after the other
 pub task-one : (ws : List ℕ) (w to base : ℕ) (g : Goal) → RestAt ws w to base (one g) → (after ws (pos-of w) ≡ to) × TaskAt ws w (base, g)
@@ -39,7 +44,7 @@ pub task-more : (ws : List ℕ) (w to base : ℕ) (g : Goal) (gs : Goals) → Re
 task-more ws w to base g gs h =
     let mid : ℕ = after ws (pos-of w) in
     let l : after ws mid ≤ to = goals-longer ws mid to gs (h .goals .1) in
-    let e : to ≤ 16384 = h .small in
+    let e : to ≤ most-words = h .small in
     let ins : to ≤ length ws = h .inside in
     let lt : base-of w ≤ 2048 = omega (arith, h .below) in
     record {
@@ -55,7 +60,7 @@ task-more ws w to base g gs h =
     }
 
 -- the goals inside a conjunction or a disjunction
-pub rest-inside : (ws : List ℕ) (w base : ℕ) (gs : Goals) → base-of w ≡ base → GoalsAt ws (pos-of w + 1) (after ws (pos-of w)) gs → after ws (pos-of w) ≤ 16384 → after ws (pos-of w) ≤ length ws → w < 33570816 → RestAt ws (w + 1) (after ws (pos-of w)) base gs
+pub rest-inside : (ws : List ℕ) (w base : ℕ) (gs : Goals) → base-of w ≡ base → GoalsAt ws (pos-of w + 1) (after ws (pos-of w)) gs → after ws (pos-of w) ≤ most-words → after ws (pos-of w) ≤ length ws → w < 33570816 → RestAt ws (w + 1) (after ws (pos-of w)) base gs
 rest-inside ws w base gs e h le ins lt =
     let l : after ws (pos-of w + 1) ≤ after ws (pos-of w) = goals-longer ws (pos-of w + 1) (after ws (pos-of w)) gs h in
     record { is-base = base-plus w 1 (omega arith) ∙ e; goals = subst (λ k. GoalsAt ws k (after ws (pos-of w)) gs) (sym (pos-plus w 1 (omega arith))) h; small = le; inside = ins; below = omega arith }

@@ -4,24 +4,23 @@ use mathlib.Core.Path.{_≡_, refl, sym, ap, ap₂, subst, _∙_}
 use mathlib.Core.Bool.{Bool, true, false, _&&_}
 use mathlib.Core.List.{List, [], _∷_, _++_, append-assoc, append-nil}
 use native.Mathlib.Omega.{arith}
-use lib.Dec.{eqb}
 use lib.ListN.{length}
 use borrow.Author.Tests.{eq-eqb, ne-eqb}
 use Rattle.word.specs.Word.{word}
-use Rattle.rules.specs.Syntax.{Atom, Term, var, atom, pair, Sort, symbols, numbers}
+use Rattle.rules.specs.Syntax.{Atom, Term, var, Sort, symbols, numbers}
 use Rattle.rules.specs.Written.{part, term-words, goal-words, goals-words, sort-kind, atom-word}
 use Rattle.semantics.specs.Answer.{member, index, reify, vars-in, reify-bindings, differ-goals, bindings-in, line-in, line-words, Line, is-sort, lacks, not-all}
 use Rattle.semantics.proofs.Basics.{clash, and-true}
 use Rattle.engine.specs.Reference.{at}
-use Rattle.engine.specs.Names.{Names}
-use Rattle.engine.specs.Put.{Laid, Placed, all-laid, some-missing}
-use Rattle.engine.specs.Lines.{half, Equation, Equations, equation-words, equations-words, LineAs, as-sort, as-lacks, as-differ}
-use Rattle.engine.specs.declared.line.Listed.{Listed}
-use Rattle.engine.specs.declared.line.Listed.the-variants.{Typed, Lacks, Differ}
-use Rattle.engine.specs.declared.put.Put.{Put}
-use Rattle.engine.specs.declared.put.Put.the-variants.{End, Missed}
+use Rattle.engine.specs.Names.{NamesGiven}
+use Rattle.engine.specs.Term.{Puts, Laid, Placed, all-laid, some-missing}
+use Rattle.engine.specs.Line.{half, Equation, Equations, EquationsIn, equation-in, equation-words, equations-words, LineAs, as-sort, as-lacks, as-differ}
+use Rattle.engine.specs.declared.writer.line.Listed.{Listed}
+use Rattle.engine.specs.declared.writer.line.Listed.the-variants.{Typed, Lacks, Differ}
+use Rattle.engine.specs.declared.writer.term.Put.{Put}
+use Rattle.engine.specs.declared.writer.term.Put.the-variants.{End, Missed}
 use Rattle.engine.proofs.NameLaws.{has-name, no-name}
-use Rattle.engine.proofs.PutLaws.{laid-of, missing-of, missing-inner, laid-none, laid-then, missing-then, placed-then, missed-part, missing-end, missing-more}
+use Rattle.engine.proofs.TermLaws.{laid-of, missing-of, missing-inner, laid-none, laid-then, missing-then, placed-then, missed-part, missing-end, missing-more, puts-at}
 
 pub half-low : (s : List ℕ) (i : ℕ) → i % 2 ≡ 0 → at s (10752 + i / 2) % 65536 ≡ half s i
 unfolding half
@@ -60,41 +59,41 @@ module _ (names : List ℕ) (b : ℕ × Term) where
   equation-inner start v e u f = laid-then (laid-of v e) (laid-of u f)
 
 -- equations one after the other
-pub record Going (ws s o₀ o : List ℕ) (pairs mark count i start place end : ℕ) (write : Bool) (names goal : List ℕ) : Type 0 where
+pub record Going (ws s o₀ o : List ℕ) (mark count i start place end : ℕ) (write : Bool) (names goal : List ℕ) : Type 0 where
   pub rest : List (ℕ × Term)
-  pub here : Equations ws s pairs mark i rest
+  pub here : Equations ws s mark i rest
   pub left : count ≡ i + length rest
   pub known : bindings-in names rest ≡ true
   pub put : List ℕ
   pub laid : Laid o₀ o start end write put place
   pub is : put ++ equations-words names rest ≡ goal
 
-pub going-start : {ws s : List ℕ} {pairs mark count : ℕ} (o : List ℕ) (start end : ℕ) (write : Bool) (names : List ℕ) (cs : List (ℕ × Term)) → start ≤ end → Equations ws s pairs mark 0 cs → count ≡ length cs → bindings-in names cs ≡ true
-    → Going ws s o o pairs mark count 0 start start end write names (equations-words names cs)
-going-start o start end write names cs l h k e = record { rest = cs; here = h; left = omega (arith, k); known = e; put = []; laid = laid-none o start end write l; is = refl }
+pub going-start : {ws s o : List ℕ} {mark count start end : ℕ} {names : List ℕ} (write : Bool) (cs : List (ℕ × Term)) → EquationsIn ws s mark count cs → Puts s o start end names (bindings-in names cs)
+    → Going ws s o o mark count 0 start start end write names (equations-words names cs)
+going-start {o = o} {start = start} {end = end} write cs h q = record { rest = cs; here = h .here; left = omega (arith, h .count-is); known = q .known; put = []; laid = laid-none o start end write (q .from); is = refl }
 
 -- the next one
-pub record Next (ws s o₀ o : List ℕ) (pairs mark count i start place end : ℕ) (write : Bool) (names goal : List ℕ) : Type 0 where
+pub record Next (ws s o₀ o : List ℕ) (mark count i start place end : ℕ) (write : Bool) (names goal : List ℕ) : Type 0 where
   pub one : ℕ × Term
   pub rest : List (ℕ × Term)
-  pub here : Equation ws s pairs mark i one
-  pub later : Equations ws s pairs mark (i + 1) rest
+  pub here : Equation ws s mark i one
+  pub later : Equations ws s mark (i + 1) rest
   pub left : count ≡ i + 1 + length rest
-  pub known : (member (one .0) names && vars-in names (one .1)) ≡ true
+  pub known : equation-in names one ≡ true
   pub later-known : bindings-in names rest ≡ true
   pub put : List ℕ
   pub laid : Laid o₀ o start end write put place
   pub is : put ++ (equation-words names one ++ equations-words names rest) ≡ goal
 
-module _ {ws s o₀ o : List ℕ} {pairs mark count i start place end : ℕ} {write : Bool} {names goal : List ℕ} (g : Going ws s o₀ o pairs mark count i start place end write names goal) where
-  pub going-next : i < count → Next ws s o₀ o pairs mark count i start place end write names goal
+module _ {ws s o₀ o : List ℕ} {mark count i start place end : ℕ} {write : Bool} {names goal : List ℕ} (g : Going ws s o₀ o mark count i start place end write names goal) where
+  pub going-next : i < count → Next ws s o₀ o mark count i start place end write names goal
   unfolding Equations equations-words
   going-next l = go (g .rest) (g .here) (g .left) (g .known) (g .is)
     where
-      go : (cs : List (ℕ × Term)) → Equations ws s pairs mark i cs → count ≡ i + length cs → bindings-in names cs ≡ true → g .put ++ equations-words names cs ≡ goal → Next ws s o₀ o pairs mark count i start place end write names goal
+      go : (cs : List (ℕ × Term)) → Equations ws s mark i cs → count ≡ i + length cs → bindings-in names cs ≡ true → g .put ++ equations-words names cs ≡ goal → Next ws s o₀ o mark count i start place end write names goal
       go [] h k e q = absurd (omega (arith, k))
       go (b ∷ cs) h k e q =
-          let a = and-true (member (b .0) names && vars-in names (b .1)) (bindings-in names cs) e in
+          let a = and-true (equation-in names b) (bindings-in names cs) e in
           record { one = b; rest = cs; here = h .0; later = h .1; left = omega (arith, k); known = a .0; later-known = a .1; put = g .put; laid = g .laid; is = q }
 
   pub going-end : count ≤ i → Placed o₀ o start end write goal (End place)
@@ -105,11 +104,11 @@ module _ {ws s o₀ o : List ℕ} {pairs mark count i start place end : ℕ} {wr
       go [] k q = all-laid (subst (λ v. Laid o₀ o start end write v place) (sym (append-nil (g .put)) ∙ q) (g .laid))
       go (b ∷ cs) k q = absurd (omega (arith, k))
 
-module _ {ws s o₀ o : List ℕ} {pairs mark count i start place end : ℕ} {write : Bool} {names goal : List ℕ} (g : Next ws s o₀ o pairs mark count i start place end write names goal) where
+module _ {ws s o₀ o : List ℕ} {mark count i start place end : ℕ} {write : Bool} {names goal : List ℕ} (g : Next ws s o₀ o mark count i start place end write names goal) where
   pub next-missed : {o′ : List ℕ} {r : Put} → Placed o o′ place end write (equation-words names (g .one)) r → r ≡ Missed → Placed o₀ o′ start end write goal Missed
   next-missed {o′} p e = subst (λ v. Placed o₀ o′ start end write v Missed) (append-assoc (g .put) _ _ ∙ g .is) (some-missing (missing-more (equations-words names (g .rest)) (missing-then (g .laid) (missing-of p e))))
 
-  pub next-put : {o′ : List ℕ} {next : ℕ} {r : Put} → Placed o o′ place end write (equation-words names (g .one)) r → r ≡ End next → Going ws s o₀ o′ pairs mark count (i + 1) start next end write names goal
+  pub next-put : {o′ : List ℕ} {next : ℕ} {r : Put} → Placed o o′ place end write (equation-words names (g .one)) r → r ≡ End next → Going ws s o₀ o′ mark count (i + 1) start next end write names goal
   next-put p e = record {
     rest = g .rest;
     here = g .later;
@@ -121,19 +120,20 @@ module _ {ws s o₀ o : List ℕ} {pairs mark count i start place end : ℕ} {wr
   }
 
 -- what the code reads of an equation
-module _ {ws s : List ℕ} {pairs mark i x : ℕ} {b : ℕ × Term} (h : Equation ws s pairs mark i b) (e : x ≡ half s i) where
+module _ {ws s : List ℕ} {mark i x : ℕ} {b : ℕ × Term} (h : Equation ws s mark i b) (e : x ≡ half s i) where
   pub equation-low : x < 2048
   equation-low = subst (λ y. y < 2048) (sym (e ∙ h .variable)) (h .low)
 
-  pub equation-member : (names : List ℕ) → (member (b .0) names && vars-in names (b .1)) ≡ true → member x names ≡ true
-  equation-member names k = subst (λ y. member y names ≡ true) (sym (e ∙ h .variable)) (and-true (member (b .0) names) (vars-in names (b .1)) k .0)
+  -- its variable is put behind its own word
+  pub equation-puts : {o : List ℕ} {start end : ℕ} {names : List ℕ} → Puts s o start end names (equation-in names b) → start < end → Puts s o (start + 1) end names (member x names)
+  equation-puts {names = names} q l = puts-at q refl (omega arith) (subst (λ y. member y names ≡ true) (sym (e ∙ h .variable)) (and-true (member (b .0) names) (vars-in names (b .1)) (q .known) .0))
 
-  pub equation-variable : {o o₁ : List ℕ} {end : ℕ} {write : Bool} {r : Put} {top : ℕ} (start : ℕ) (names : List ℕ) → Names s top names → (member (b .0) names && vars-in names (b .1)) ≡ true → start < end
-      → ((top : ℕ) (names : List ℕ) → Names s top names → member x names ≡ true → start + 1 ≤ end → Placed o o₁ (start + 1) end write (term-words (var (index x names))) r) → Placed o o₁ (start + 1) end write (term-words (var (index (b .0) names))) r
-  equation-variable {o} {o₁} {end} {write} {r} {top} start names n k l f = subst (λ y. Placed o o₁ (start + 1) end write (term-words (var (index y names))) r) (e ∙ h .variable) (f top names n (equation-member names k) (omega arith))
+  pub equation-variable : {o o₁ : List ℕ} {end : ℕ} {write : Bool} {r : Put} {start : ℕ} {names : List ℕ} → Puts s o start end names (equation-in names b) → start < end
+      → ((names : List ℕ) → Puts s o (start + 1) end names (member x names) → Placed o o₁ (start + 1) end write (term-words (var (index x names))) r) → Placed o o₁ (start + 1) end write (term-words (var (index (b .0) names))) r
+  equation-variable {o} {o₁} {end} {write} {r} {start} {names} q l f = subst (λ y. Placed o o₁ (start + 1) end write (term-words (var (index y names))) r) (e ∙ h .variable) (f names (equation-puts q l))
 
-pub equation-right : (names : List ℕ) (b : ℕ × Term) → (member (b .0) names && vars-in names (b .1)) ≡ true → vars-in names (b .1) ≡ true
-equation-right names b k = and-true (member (b .0) names) (vars-in names (b .1)) k .1
+pub right-puts : {s o o₁ : List ℕ} {start mid end : ℕ} {names v : List ℕ} {write : Bool} (b : ℕ × Term) → Puts s o start end names (equation-in names b) → Laid o o₁ (start + 1) end write v mid → Puts s o₁ mid end names (vars-in names (b .1))
+right-puts {names = names} b q d = puts-at q (d .touched .long) (d .fits) (and-true (member (b .0) names) (vars-in names (b .1)) (q .known) .1)
 
 -- short lines: words, then a variable
 pub variable-one : (names : List ℕ) (x : ℕ) → length (term-words (var (index x names))) ≡ 1
@@ -216,39 +216,37 @@ pub record LacksLine (tag x : ℕ) (l : Line) : Type 0 where
   pub low : x < 2048
   pub is : l ≡ lacks tag-of x
 
-pub record DifferLine (ws s : List ℕ) (pairs mark count : ℕ) (l : Line) : Type 0 where
+pub record DifferLine (ws s : List ℕ) (mark count : ℕ) (l : Line) : Type 0 where
   pub one : ℕ × Term
   pub rest : List (ℕ × Term)
-  pub here : Equations ws s pairs mark 0 (one ∷ rest)
-  pub many : count ≡ suc (length rest)
-  pub room : mark + count ≤ 2048
+  pub here : EquationsIn ws s mark count (one ∷ rest)
   pub is : l ≡ not-all (one ∷ rest)
 
 sort-small : (k : Sort) → sort-kind k < 16
 sort-small symbols = omega arith
 sort-small numbers = omega arith
 
-module _ {ws s : List ℕ} {pairs : ℕ} where
-  pub typed-line : {c : Listed} {l : Line} {k x : ℕ} → LineAs ws s pairs c l → c ≡ Typed k x → SortLine k x l
+module _ {ws s : List ℕ} where
+  pub typed-line : {c : Listed} {l : Line} {k x : ℕ} → LineAs ws s c l → c ≡ Typed k x → SortLine k x l
   typed-line {k = k} {x = x} (as-sort {k = m} {x = y} sort e low) q =
       let a : m ≡ k = cc in let b : y ≡ x = cc in
       record { sort = sort; is-kind = sym a ∙ e; low = subst (λ z. z < 2048) b low; is = ap (is-sort sort) b; small = subst (λ z. z < 16) (sym (sym a ∙ e)) (sort-small sort) }
   typed-line (as-lacks a e low) q = clash (cc)
-  typed-line (as-differ b cs h m r) q = clash (cc)
+  typed-line (as-differ b cs h) q = clash (cc)
 
-  pub lacks-line : {c : Listed} {l : Line} {tag x : ℕ} → LineAs ws s pairs c l → c ≡ Lacks tag x → LacksLine tag x l
+  pub lacks-line : {c : Listed} {l : Line} {tag x : ℕ} → LineAs ws s c l → c ≡ Lacks tag x → LacksLine tag x l
   lacks-line (as-sort sort e low) q = clash (cc)
   lacks-line {tag = tag} {x = x} (as-lacks {tag = m} {x = y} t e low) q =
       let a : m ≡ tag = cc in let b : y ≡ x = cc in
       record { tag-of = t; is-tag = sym a ∙ e; low = subst (λ z. z < 2048) b low; is = ap (lacks t) b }
-  lacks-line (as-differ b cs h m r) q = clash (cc)
+  lacks-line (as-differ b cs h) q = clash (cc)
 
-  pub differ-line : {c : Listed} {l : Line} {mark count : ℕ} → LineAs ws s pairs c l → c ≡ Differ mark count → DifferLine ws s pairs mark count l
+  pub differ-line : {c : Listed} {l : Line} {mark count : ℕ} → LineAs ws s c l → c ≡ Differ mark count → DifferLine ws s mark count l
   differ-line (as-sort sort e low) q = clash (cc)
   differ-line (as-lacks a e low) q = clash (cc)
-  differ-line {mark = mark} {count = count} (as-differ {mark = m} {count = n} b cs h k r) q =
+  differ-line {mark = mark} {count = count} (as-differ {mark = m} {count = n} b cs h) q =
       let a : m ≡ mark = cc in let d : n ≡ count = cc in
-      record { one = b; rest = cs; here = subst (λ z. Equations ws s pairs z 0 (b ∷ cs)) a h; many = sym d ∙ k; room = omega arith; is = refl }
+      record { one = b; rest = cs; here = subst (λ z. EquationsIn ws s z count (b ∷ cs)) a (subst (λ z. EquationsIn ws s m z (b ∷ cs)) d h); is = refl }
 
 -- its words
 pub typed-words : {o o′ : List ℕ} {start end k x : ℕ} {write : Bool} {r : Put} {l : Line} (names : List ℕ) → SortLine k x l → Placed o o′ start end write (part k (term-words (var (index x names)))) r → Placed o o′ start end write (line-words names l) r
@@ -261,7 +259,7 @@ unfolding goal-words
 lacks-words {o} {o′} {start} {end} {tag} {x} {write} {r} names h p =
     subst (λ l. Placed o o′ start end write (line-words names l) r) (sym (h .is)) (subst (λ z. Placed o o′ start end write (part 9 (z ∷ term-words (var (index x names)))) r) (h .is-tag) p)
 
-pub differ-line-words : {ws s o o′ : List ℕ} {pairs mark count start end : ℕ} {write : Bool} {r : Put} {l : Line} (names : List ℕ) (h : DifferLine ws s pairs mark count l) → Placed o o′ start end write (line-words names (not-all (h .one ∷ h .rest))) r → Placed o o′ start end write (line-words names l) r
+pub differ-line-words : {ws s o o′ : List ℕ} {mark count start end : ℕ} {write : Bool} {r : Put} {l : Line} (names : List ℕ) (h : DifferLine ws s mark count l) → Placed o o′ start end write (line-words names (not-all (h .one ∷ h .rest))) r → Placed o o′ start end write (line-words names l) r
 differ-line-words {o = o} {o′ = o′} {start = start} {end = end} {write = write} {r = r} names h p = subst (λ l. Placed o o′ start end write (line-words names l) r) (sym (h .is)) p
 
 -- its variables
@@ -271,47 +269,47 @@ typed-member names h e = subst (λ l. line-in names l ≡ true) (h .is) e
 pub lacks-member : {tag x : ℕ} {l : Line} (names : List ℕ) → LacksLine tag x l → line-in names l ≡ true → member x names ≡ true
 lacks-member names h e = subst (λ l. line-in names l ≡ true) (h .is) e
 
-pub differ-in : {ws s : List ℕ} {pairs mark count : ℕ} {l : Line} (names : List ℕ) (h : DifferLine ws s pairs mark count l) → line-in names l ≡ true → bindings-in names (h .one ∷ h .rest) ≡ true
+pub differ-in : {ws s : List ℕ} {mark count : ℕ} {l : Line} (names : List ℕ) (h : DifferLine ws s mark count l) → line-in names l ≡ true → bindings-in names (h .one ∷ h .rest) ≡ true
 differ-in names h e = subst (λ l. line-in names l ≡ true) (h .is) e
 
 -- names of a line's variables
-module _ {s : List ℕ} {top x : ℕ} {names : List ℕ} (low : x < 2048) (n : Names s top names) where
+module _ {s : List ℕ} {x : ℕ} {names : List ℕ} (low : x < 2048) (g : NamesGiven s names) where
   pub name-missing : at s (4096 + x) ≡ 0 → false ≡ member x names
-  name-missing z = sym (no-name n x low z)
+  name-missing z = sym (no-name (g .named) x low z)
 
   pub name-there : ¬ (at s (4096 + x) ≡ 0) → true ≡ member x names
-  name-there z = sym (has-name n x low z)
+  name-there z = sym (has-name (g .named) x low z)
 
-module _ {ws s : List ℕ} {pairs mark i x : ℕ} {b : ℕ × Term} {has : Bool} (names : List ℕ) (h : Equation ws s pairs mark i b) (e : x ≡ half s i) (f : has ≡ member x names) where
+module _ {ws s : List ℕ} {mark i x : ℕ} {b : ℕ × Term} {has : Bool} (names : List ℕ) (h : Equation ws s mark i b) (e : x ≡ half s i) (f : has ≡ member x names) where
   is-member : has ≡ member (b .0) names
   is-member = f ∙ ap (λ y. member y names) (e ∙ h .variable)
 
-  pub equation-asks : {q : Bool} → has ≡ true → q ≡ vars-in names (b .1) → q ≡ (member (b .0) names && vars-in names (b .1))
+  pub equation-asks : {q : Bool} → has ≡ true → q ≡ vars-in names (b .1) → q ≡ equation-in names b
   equation-asks {q} t k = k ∙ ap (λ m. m && vars-in names (b .1)) (sym t ∙ is-member)
 
-  pub equation-lacks : has ≡ false → false ≡ (member (b .0) names && vars-in names (b .1))
+  pub equation-lacks : has ≡ false → false ≡ equation-in names b
   equation-lacks t = ap (λ m. m && vars-in names (b .1)) (sym t ∙ is-member)
 
-pub record Checking (ws s : List ℕ) (pairs mark count i : ℕ) (names : List ℕ) (goal : Bool) : Type 0 where
+pub record Checking (ws s : List ℕ) (mark count i : ℕ) (names : List ℕ) (goal : Bool) : Type 0 where
   pub rest : List (ℕ × Term)
-  pub here : Equations ws s pairs mark i rest
+  pub here : Equations ws s mark i rest
   pub left : count ≡ i + length rest
   pub same : bindings-in names rest ≡ goal
 
-pub record CheckNext (ws s : List ℕ) (pairs mark count i : ℕ) (names : List ℕ) (goal : Bool) : Type 0 where
+pub record CheckNext (ws s : List ℕ) (mark count i : ℕ) (names : List ℕ) (goal : Bool) : Type 0 where
   pub one : ℕ × Term
   pub rest : List (ℕ × Term)
-  pub here : Equation ws s pairs mark i one
-  pub later : Equations ws s pairs mark (i + 1) rest
+  pub here : Equation ws s mark i one
+  pub later : Equations ws s mark (i + 1) rest
   pub left : count ≡ i + 1 + length rest
-  pub same : ((member (one .0) names && vars-in names (one .1)) && bindings-in names rest) ≡ goal
+  pub same : (equation-in names one && bindings-in names rest) ≡ goal
 
-module _ {ws s : List ℕ} {pairs mark count i : ℕ} {names : List ℕ} {goal : Bool} (g : Checking ws s pairs mark count i names goal) where
-  pub check-next : i < count → CheckNext ws s pairs mark count i names goal
+module _ {ws s : List ℕ} {mark count i : ℕ} {names : List ℕ} {goal : Bool} (g : Checking ws s mark count i names goal) where
+  pub check-next : i < count → CheckNext ws s mark count i names goal
   unfolding Equations
   check-next l = go (g .rest) (g .here) (g .left) (g .same)
     where
-      go : (cs : List (ℕ × Term)) → Equations ws s pairs mark i cs → count ≡ i + length cs → bindings-in names cs ≡ goal → CheckNext ws s pairs mark count i names goal
+      go : (cs : List (ℕ × Term)) → Equations ws s mark i cs → count ≡ i + length cs → bindings-in names cs ≡ goal → CheckNext ws s mark count i names goal
       go [] h k e = absurd (omega (arith, k))
       go (b ∷ cs) h k e = record { one = b; rest = cs; here = h .0; later = h .1; left = omega (arith, k); same = e }
 
@@ -322,11 +320,11 @@ module _ {ws s : List ℕ} {pairs mark count i : ℕ} {names : List ℕ} {goal :
       go [] k e = e
       go (b ∷ cs) k e = absurd (omega (arith, k))
 
-module _ {ws s : List ℕ} {pairs mark count i : ℕ} {names : List ℕ} {goal has : Bool} (g : CheckNext ws s pairs mark count i names goal) (f : has ≡ (member (g .one .0) names && vars-in names (g .one .1))) where
+module _ {ws s : List ℕ} {mark count i : ℕ} {names : List ℕ} {goal has : Bool} (g : CheckNext ws s mark count i names goal) (f : has ≡ equation-in names (g .one)) where
   pub check-fails : has ≡ false → false ≡ goal
   check-fails e = ap (λ m. m && bindings-in names (g .rest)) (sym e ∙ f) ∙ g .same
 
-  pub check-on : has ≡ true → Checking ws s pairs mark count (i + 1) names goal
+  pub check-on : has ≡ true → Checking ws s mark count (i + 1) names goal
   check-on e = record { rest = g .rest; here = g .later; left = g .left; same = ap (λ m. m && bindings-in names (g .rest)) (sym e ∙ f) ∙ g .same }
 
 pub typed-named : {k x : ℕ} {l : Line} {r : Bool} (names : List ℕ) → SortLine k x l → r ≡ member x names → r ≡ line-in names l
@@ -335,5 +333,5 @@ typed-named names h e = e ∙ ap (line-in names) (sym (h .is))
 pub lacks-named : {tag x : ℕ} {l : Line} {r : Bool} (names : List ℕ) → LacksLine tag x l → r ≡ member x names → r ≡ line-in names l
 lacks-named names h e = e ∙ ap (line-in names) (sym (h .is))
 
-pub differ-named : {ws s : List ℕ} {pairs mark count : ℕ} {l : Line} {r : Bool} (names : List ℕ) (h : DifferLine ws s pairs mark count l) → r ≡ bindings-in names (h .one ∷ h .rest) → r ≡ line-in names l
+pub differ-named : {ws s : List ℕ} {mark count : ℕ} {l : Line} {r : Bool} (names : List ℕ) (h : DifferLine ws s mark count l) → r ≡ bindings-in names (h .one ∷ h .rest) → r ≡ line-in names l
 differ-named names h e = e ∙ ap (line-in names) (sym (h .is))

@@ -16,9 +16,9 @@ use Rattle.semantics.specs.Answer.{member, index, appear}
 use Rattle.semantics.proofs.Basics.{clash, compared, same, other, none-of, or-right, by-choose}
 use Rattle.semantics.proofs.SubstitutionLaws.{lookup-other}
 use Rattle.engine.specs.Reference.{at}
-use Rattle.engine.specs.Memory.{Fresh}
+use Rattle.engine.specs.Memory.{Fresh, layout-words}
 use Rattle.engine.specs.Trail.{Apart}
-use Rattle.engine.specs.Names.{next-top, top-from, word-from, Distinct, Names, Named}
+use Rattle.engine.specs.Names.{next-top, top-from, word-from, Distinct, Names, NamesGiven, Named}
 use Rattle.engine.proofs.TrailLaws.{fresh-few}
 
 -- the word of a variable with no name is 0, that of one with a name is not
@@ -164,7 +164,7 @@ module _ {s : List ℕ} {top : ℕ} {names : List ℕ} (h : Names s top names) w
   pub named-already : (x : ℕ) → x < 2048 → ¬ (at s (4096 + x) ≡ 0) → Named s s top (appear names (var x))
   named-already x l n = by-choose (Named s s top) (member x names) _ _ (λ e. named-still) (λ e. absurd (n (h .words x l ∙ word-none 0 names x e)))
 
-  named-more : (x : ℕ) → x < 2048 → 12288 ≤ length s → member x names ≡ false → Named s (set s (4096 + x) (top + 1)) (next-top top x) (names ++ (x ∷ []))
+  named-more : (x : ℕ) → x < 2048 → layout-words ≤ length s → member x names ≡ false → Named s (set s (4096 + x) (top + 1)) (next-top top x) (names ++ (x ∷ []))
   named-more x l long e = record {
     given = record {
       top-is = ap (λ k. next-top k x) (h .top-is) ∙ sym (top-snoc 0 names x);
@@ -182,7 +182,7 @@ module _ {s : List ℕ} {top : ℕ} {names : List ℕ} (h : Names s top names) w
         | other n q ↦ getD-set-other s (4096 + x) (4096 + y) (top + 1) 0 (λ r. n (omega arith)) ∙ h .words y k ∙ sym (word-snoc-other 0 names x y n)
       ]
 
-  pub named-now : (x : ℕ) → x < 2048 → 12288 ≤ length s → at s (4096 + x) ≡ 0 → Named s (set s (4096 + x) (top + 1)) (next-top top x) (appear names (var x))
+  pub named-now : (x : ℕ) → x < 2048 → layout-words ≤ length s → at s (4096 + x) ≡ 0 → Named s (set s (4096 + x) (top + 1)) (next-top top x) (appear names (var x))
   named-now x l long z = by-choose (Named s (set s (4096 + x) (top + 1)) (next-top top x)) (member x names) _ _
       (λ e. absurd (word-some 0 names x e (sym (h .words x l) ∙ z))) (λ e. named-more x l long e)
 
@@ -192,3 +192,6 @@ named-trans h i = record { given = i .given; below = λ k l. i .below k l ∙ h 
 -- names are where a trial stores nothing
 pub names-apart : {s s′ : List ℕ} {top : ℕ} {names : List ℕ} → Apart s s′ → Names s top names → Names s′ top names
 names-apart a h = record { top-is = h .top-is; words = λ y l. a .middle (4096 + y) (omega arith) (omega arith) ∙ h .words y l; distinct = h .distinct }
+
+pub given-apart : {s s′ : List ℕ} {names : List ℕ} → Apart s s′ → NamesGiven s names → NamesGiven s′ names
+given-apart a g = record { long = omega (arith, g .long, a .long); top = g .top; named = names-apart a (g .named) }

@@ -1,5 +1,5 @@
 -- Naming the variables of a term, asking whether all have names, and taking names back: one law for each way in which the code returns or goes on.
-use Prim.Native.Nat.{ℕ, suc, _+_, _%_, _/_, _-_, _<_, _≤_}
+use Prim.Native.Nat.{ℕ, _+_, _%_, _/_, _-_, _<_, _≤_}
 use mathlib.Core.Path.{_≡_, refl, sym, ap, subst, _∙_}
 use mathlib.Core.Bool.{Bool, true, false, _&&_}
 use mathlib.Core.List.{List, [], _∷_, _++_}
@@ -9,61 +9,60 @@ use lib.Seq.{getD-set-same, getD-set-other}
 use Rattle.rules.specs.Syntax.{Term, var, pair}
 use Rattle.semantics.specs.Answer.{appear, vars-in}
 use Rattle.semantics.proofs.Basics.{compared, same, other}
-use Rattle.semantics.proofs.TermLaws.{term-size}
 use Rattle.engine.specs.Reference.{at}
-use Rattle.engine.specs.Follow.{Resolves, Shaped}
-use Rattle.engine.specs.Names.{next-top, top-from, Names, Named}
-use Rattle.engine.specs.declared.follow.Shape.{Shape}
-use Rattle.engine.specs.declared.follow.Shape.the-variants.{Open, Atom as Leaf, Pair}
+use Rattle.engine.specs.Walk.{Resolves, Shaped}
+use Rattle.engine.specs.Names.{next-top, top-from, Names, NamesGiven, Named}
+use Rattle.engine.specs.Memory.{layout-words}
+use Rattle.engine.specs.declared.terms.walk.Shape.{Shape}
+use Rattle.engine.specs.declared.terms.walk.Shape.the-variants.{Open, Atom as Leaf, Pair}
 use Rattle.engine.proofs.FollowLaws.{resolves-same}
+use Rattle.engine.proofs.SizeLaws.{followed-size, first-reach, second-reach}
 use Rattle.engine.proofs.NameLaws.{top-snoc, word-none, word-snoc-same, word-snoc-other, distinct-init, names-few, has-name, no-name, named-still, named-trans}
 
 -- what `follow` tells
-abbrev pub Told : List ℕ → List ℕ → ℕ → Shape → Type 0
-Told ws s w r = (t : Term) → Resolves ws s w t → Shaped ws s r t
+abbrev pub FollowedAs : List ℕ → List ℕ → ℕ → Shape → Type 0
+FollowedAs ws s w r = (t : Term) → Resolves ws s w t → Shaped ws s r t
 
 -- by cases, where the answer is known
-pub told-open : {ws s : List ℕ} {w x : ℕ} {r : Shape} (t : Term) → Told ws s w r → r ≡ Open x → Resolves ws s w t → (t ≡ var x) × (x < 2048)
+pub told-open : {ws s : List ℕ} {w x : ℕ} {r : Shape} (t : Term) → FollowedAs ws s w r → r ≡ Open x → Resolves ws s w t → (t ≡ var x) × (x < 2048)
 unfolding Shaped
 told-open {ws} {s} t f e h = rw e at (f t h)
 
-pub told-leaf : {ws s : List ℕ} {w v : ℕ} {r : Shape} (t : Term) → Told ws s w r → r ≡ Leaf v → Resolves ws s w t → Shaped ws s (Leaf v) t
+pub told-leaf : {ws s : List ℕ} {w v : ℕ} {r : Shape} (t : Term) → FollowedAs ws s w r → r ≡ Leaf v → Resolves ws s w t → Shaped ws s (Leaf v) t
 told-leaf t f e h = rw e at (f t h)
 
-pub told-pair : {ws s : List ℕ} {w a b : ℕ} {r : Shape} (t : Term) → Told ws s w r → r ≡ Pair a b → Resolves ws s w t → Shaped ws s (Pair a b) t
+pub told-pair : {ws s : List ℕ} {w a b : ℕ} {r : Shape} (t : Term) → FollowedAs ws s w r → r ≡ Pair a b → Resolves ws s w t → Shaped ws s (Pair a b) t
 told-pair t f e h = rw e at (f t h)
 
--- a pair and its parts
-pub record Halves (ws s : List ℕ) (a b left : ℕ) (t : Term) : Type 0 where
+-- a pair and its parts, each smaller when followed; names may be given before the second is gone into
+pub record Halves (ws s : List ℕ) (w a b : ℕ) (t : Term) : Type 0 where
   pub first : Term
   pub second : Term
   pub first-here : Resolves ws s a first
   pub second-here : Resolves ws s b second
   pub is : t ≡ pair first second
-  pub some-left : 1 ≤ left
-  pub first-small : term-size first ≤ left - 1
-  pub second-small : term-size second ≤ left - 1
+  pub first-falls : followed-size ws s a < followed-size ws s w
+  pub second-falls : {s′ : List ℕ} → Resolves ws s′ b second → followed-size ws s′ b < followed-size ws s w
 
-pub halved : {ws s : List ℕ} {w a b left : ℕ} {r : Shape} (t : Term) → Told ws s w r → r ≡ Pair a b → Resolves ws s w t → term-size t ≤ left → Halves ws s a b left t
+pub halved : {ws s : List ℕ} {w a b : ℕ} {r : Shape} (t : Term) → FollowedAs ws s w r → r ≡ Pair a b → Resolves ws s w t → Halves ws s w a b t
 unfolding Shaped
-halved {left = left} t f e h l =
+halved {ws} {s} {w} t f e h =
     let p = told-pair t f e h in
-    let z : suc (term-size (p .0) + term-size (p .1)) ≤ left = subst (λ u. term-size u ≤ left) (p .2) l in
-    record { first = p .0; second = p .1; first-here = p .3; second-here = p .4; is = p .2; some-left = omega arith; first-small = omega arith; second-small = omega arith }
+    let q : Resolves ws s w (pair (p .0) (p .1)) = subst (Resolves ws s w) (p .2) h in
+    record { first = p .0; second = p .1; first-here = p .3; second-here = p .4; is = p .2; first-falls = first-reach q (p .3); second-falls = λ i. second-reach q i }
 
 -- naming: what is left to name, and what was given
-pub record Naming (ws s₀ s : List ℕ) (w top left : ℕ) (goal : List ℕ) : Type 0 where
+pub record Naming (ws s₀ s : List ℕ) (w top : ℕ) (goal : List ℕ) : Type 0 where
   pub term : Term
   pub names : List ℕ
   pub here : Resolves ws s w term
   pub named : Named s₀ s top names
-  pub small : term-size term ≤ left
   pub same : appear names term ≡ goal
 
-pub naming-start : {ws s : List ℕ} {w top left : ℕ} (t : Term) (names : List ℕ) → Resolves ws s w t → Names s top names → term-size t ≤ left → Naming ws s s w top left (appear names t)
-naming-start t names h g l = record { term = t; names = names; here = h; named = named-still g; small = l; same = refl }
+pub naming-start : {ws s : List ℕ} {w top : ℕ} (t : Term) (names : List ℕ) → Resolves ws s w t → Names s top names → Naming ws s s w top (appear names t)
+naming-start t names h g = record { term = t; names = names; here = h; named = named-still g; same = refl }
 
-module _ {ws s₀ s : List ℕ} {w top left : ℕ} {goal : List ℕ} {r : Shape} (g : Naming ws s₀ s w top left goal) (f : Told ws s w r) where
+module _ {ws s₀ s : List ℕ} {w top : ℕ} {goal : List ℕ} {r : Shape} (g : Naming ws s₀ s w top goal) (f : FollowedAs ws s w r) where
   pub naming-low : {x : ℕ} → r ≡ Open x → x < 2048
   naming-low e = told-open (g .term) f e (g .here) .1
 
@@ -76,55 +75,60 @@ module _ {ws s₀ s : List ℕ} {w top left : ℕ} {goal : List ℕ} {r : Shape}
   unfolding Shaped
   naming-leaf e = subst (Named s₀ s top) (ap (appear (g .names)) (sym (told-leaf (g .term) f e (g .here) .1)) ∙ g .same) (g .named)
 
-  pub naming-pair : {a b : ℕ} → r ≡ Pair a b → Halves ws s a b left (g .term)
-  naming-pair e = halved (g .term) f e (g .here) (g .small)
+  pub naming-pair : {a b : ℕ} → r ≡ Pair a b → Halves ws s w a b (g .term)
+  naming-pair e = halved (g .term) f e (g .here)
 
-  pub naming-next : {a b top′ : ℕ} {s′ : List ℕ} → r ≡ Pair a b → ((t : Term) (names : List ℕ) → Resolves ws s a t → Names s top names → term-size t ≤ left - 1 → Named s s′ top′ (appear names t)) → Naming ws s₀ s′ b top′ (left - 1) goal
-  naming-next {a} {b} {top′} {s′} e n =
-      let p = naming-pair e in
-      let d = n (p .first) (g .names) (p .first-here) (g .named .given) (p .first-small) in
-      record {
-        term = p .second;
-        names = appear (g .names) (p .first);
-        here = resolves-same (d .below) (d .long) (p .second-here);
-        named = named-trans (g .named) d;
-        small = p .second-small;
-        same = ap (appear (g .names)) (sym (p .is)) ∙ g .same;
-      }
+  module _ {a b top′ : ℕ} {s′ : List ℕ} (e : r ≡ Pair a b) (n : (t : Term) (names : List ℕ) → Resolves ws s a t → Names s top names → Named s s′ top′ (appear names t)) where
+    first-named : Named s s′ top′ (appear (g .names) (naming-pair e .first))
+    first-named = n (naming-pair e .first) (g .names) (naming-pair e .first-here) (g .named .given)
+
+    second-still : Resolves ws s′ b (naming-pair e .second)
+    second-still = resolves-same (first-named .below) (first-named .long) (naming-pair e .second-here)
+
+    pub naming-falls : followed-size ws s′ b < followed-size ws s w
+    naming-falls = naming-pair e .second-falls second-still
+
+    pub naming-next : Naming ws s₀ s′ b top′ goal
+    naming-next = record {
+      term = naming-pair e .second;
+      names = appear (g .names) (naming-pair e .first);
+      here = second-still;
+      named = named-trans (g .named) first-named;
+      same = ap (appear (g .names)) (sym (naming-pair e .is)) ∙ g .same;
+    }
 
 -- asking: what is left to ask about
-pub record Asking (ws s : List ℕ) (w left : ℕ) (names : List ℕ) (goal : Bool) : Type 0 where
+pub record Asking (ws s : List ℕ) (w : ℕ) (names : List ℕ) (goal : Bool) : Type 0 where
   pub term : Term
   pub here : Resolves ws s w term
-  pub small : term-size term ≤ left
   pub same : vars-in names term ≡ goal
 
-module _ {ws s : List ℕ} {w top left : ℕ} {names : List ℕ} {goal : Bool} {r : Shape} (given : Names s top names) (g : Asking ws s w left names goal) (f : Told ws s w r) where
+module _ {ws s : List ℕ} {w : ℕ} {names : List ℕ} {goal : Bool} {r : Shape} (given : NamesGiven s names) (g : Asking ws s w names goal) (f : FollowedAs ws s w r) where
   pub asking-low : {x : ℕ} → r ≡ Open x → x < 2048
   asking-low e = told-open (g .term) f e (g .here) .1
 
   pub asking-yes : {x : ℕ} → r ≡ Open x → ¬ (at s (4096 + x) ≡ 0) → true ≡ goal
-  asking-yes {x} e n = let o = told-open (g .term) f e (g .here) in sym (has-name given x (o .1) n) ∙ ap (vars-in names) (sym (o .0)) ∙ g .same
+  asking-yes {x} e n = let o = told-open (g .term) f e (g .here) in sym (has-name (given .named) x (o .1) n) ∙ ap (vars-in names) (sym (o .0)) ∙ g .same
 
   pub asking-no : {x : ℕ} → r ≡ Open x → at s (4096 + x) ≡ 0 → false ≡ goal
-  asking-no {x} e z = let o = told-open (g .term) f e (g .here) in sym (no-name given x (o .1) z) ∙ ap (vars-in names) (sym (o .0)) ∙ g .same
+  asking-no {x} e z = let o = told-open (g .term) f e (g .here) in sym (no-name (given .named) x (o .1) z) ∙ ap (vars-in names) (sym (o .0)) ∙ g .same
 
   pub asking-leaf : {v : ℕ} → r ≡ Leaf v → true ≡ goal
   unfolding Shaped
   asking-leaf e = ap (vars-in names) (sym (told-leaf (g .term) f e (g .here) .1)) ∙ g .same
 
-  pub asking-pair : {a b : ℕ} → r ≡ Pair a b → Halves ws s a b left (g .term)
-  asking-pair e = halved (g .term) f e (g .here) (g .small)
+  pub asking-pair : {a b : ℕ} → r ≡ Pair a b → Halves ws s w a b (g .term)
+  asking-pair e = halved (g .term) f e (g .here)
 
-  module _ {a b : ℕ} {q : Bool} (e : r ≡ Pair a b) (n : (t : Term) (top : ℕ) (names : List ℕ) → Resolves ws s a t → Names s top names → term-size t ≤ left - 1 → q ≡ vars-in names t) where
+  module _ {a b : ℕ} {q : Bool} (e : r ≡ Pair a b) (n : (t : Term) (names : List ℕ) → Resolves ws s a t → NamesGiven s names → q ≡ vars-in names t) where
     both : (q && vars-in names (asking-pair e .second)) ≡ goal
-    both = let p = asking-pair e in ap (λ k. k && vars-in names (p .second)) (n (p .first) top names (p .first-here) given (p .first-small)) ∙ ap (vars-in names) (sym (p .is)) ∙ g .same
+    both = let p = asking-pair e in ap (λ k. k && vars-in names (p .second)) (n (p .first) names (p .first-here) given) ∙ ap (vars-in names) (sym (p .is)) ∙ g .same
 
     pub asking-not-first : q ≡ false → false ≡ goal
     asking-not-first z = rw z at both
 
-    pub asking-next : q ≡ true → Asking ws s b (left - 1) names goal
-    asking-next z = let p = asking-pair e in record { term = p .second; here = p .second-here; small = p .second-small; same = rw z at both }
+    pub asking-next : q ≡ true → Asking ws s b names goal
+    asking-next z = let p = asking-pair e in record { term = p .second; here = p .second-here; same = rw z at both }
 
 -- taking names back
 data Snoc : List ℕ → Type 0 where
@@ -153,7 +157,7 @@ pub record Popped (s : List ℕ) (top : ℕ) : Type 0 where
   pub falls : (at s (4096 + (top / 4096 - 1)) - 1) % 4096 < top % 4096
 
 -- the last name
-popped : {s : List ℕ} {top : ℕ} (xs : List ℕ) (x : ℕ) → 12288 ≤ length s → Names s top (xs ++ (x ∷ [])) → Popped s top
+popped : {s : List ℕ} {top : ℕ} (xs : List ℕ) (x : ℕ) → layout-words ≤ length s → Names s top (xs ++ (x ∷ [])) → Popped s top
 popped {s} {top} xs x long h =
     let d = distinct-init xs x (h .distinct) in
     let low : x < 2048 = d .1 in
@@ -185,7 +189,7 @@ popped {s} {top} xs x long h =
       falls = omega arith;
     }
 
-pub pop : {s : List ℕ} {top : ℕ} (names : List ℕ) → 12288 ≤ length s → Names s top names → ¬ (top ≡ 0) → Popped s top
+pub pop : {s : List ℕ} {top : ℕ} (names : List ℕ) → layout-words ≤ length s → Names s top names → ¬ (top ≡ 0) → Popped s top
 unfolding top-from
 pop {s} {top} names long h n = go (snoc names) h
   where

@@ -7,23 +7,21 @@ use native.Mathlib.Omega.{arith}
 use Rattle.rules.specs.Syntax.{var}
 use Rattle.rules.specs.Written.{term-words, terms-words}
 use Rattle.semantics.specs.Substitution.{Substitution, resolve}
-use Rattle.semantics.specs.Answer.{appear, appear-all, reify, parameters, query-terms, names-of}
-use Rattle.semantics.proofs.Basics.{same}
-use Rattle.engine.specs.Reference.{at}
+use Rattle.semantics.specs.Answer.{appear, appear-all, reify, vars-in, parameters, query-terms, names-of}
 use Rattle.engine.specs.Walk.{Binds}
 use Rattle.engine.specs.Names.{Names, Named}
-use Rattle.engine.specs.Put.{Laid, Missing, Placed, all-laid, some-missing}
+use Rattle.engine.specs.Term.{Room, Puts, Laid, Missing, Placed, all-laid, some-missing}
 use Rattle.engine.specs.Look.{LookedAs, ThroughAs}
-use Rattle.engine.specs.Query.{query-words}
-use Rattle.engine.specs.declared.look.Looked.{Looked}
-use Rattle.engine.specs.declared.look.Looked.the-variants as looked
-use Rattle.engine.specs.declared.put.Put.{Put}
-use Rattle.engine.specs.declared.put.Put.the-variants.{End, Missed}
+use Rattle.engine.specs.Query.{Query, query-words}
+use Rattle.engine.specs.declared.writer.look.LookedThrough.{LookedThrough}
+use Rattle.engine.specs.declared.writer.look.LookedThrough.the-variants as looked
+use Rattle.engine.specs.declared.writer.term.Put.{Put}
+use Rattle.engine.specs.declared.writer.term.Put.the-variants.{End, Missed}
 use Rattle.engine.proofs.TrailLaws.{fresh-few}
 use Rattle.engine.proofs.FrameLaws.{bindings-same}
 use Rattle.engine.proofs.LookLaws.{Looking, looking-start, looking-end, looking-steps, looking-path, looking-on}
 use Rattle.engine.proofs.NameLaws.{named-still, named-trans}
-use Rattle.engine.proofs.PutLaws.{laid-none, laid-then, missing-then, missing-more, laid-of, missing-of}
+use Rattle.engine.proofs.TermLaws.{room-same, laid-none, laid-then, missing-then, missing-more, laid-of, missing-of}
 
 -- the parameters that are left
 parameters-next : (x n : ℕ) → x < n → parameters x (n - x) ≡ var x ∷ parameters (x + 1) (n - (x + 1))
@@ -46,14 +44,14 @@ module _ {bs : Substitution} {n steps x left : ℕ} (g : LookingFrom bs n steps 
   pub from-end : n ≤ x → ThroughAs bs (parameters 0 n) steps (looked.Done left)
   from-end l = looking-end g (parameters-over x n l)
 
-  module _ (r : Looked) (l : x < n) (h : LookedAs bs (var x) left r) where
+  module _ (r : LookedThrough) (l : x < n) (h : LookedAs bs (var x) left r) where
     pub from-next : {rest : ℕ} → r ≡ looked.Done rest → LookingFrom bs n steps (x + 1) rest
     from-next e = looking-on g (var x) (parameters (x + 1) (n - (x + 1))) (parameters-next x n l) r h e
 
     pub from-steps : r ≡ looked.StepsOut → ThroughAs bs (parameters 0 n) steps looked.StepsOut
     from-steps e = looking-steps g (var x) (parameters (x + 1) (n - (x + 1))) (parameters-next x n l) r h e
 
-    pub from-path : {rest : ℕ} → r ≡ looked.PathOut rest → ThroughAs bs (parameters 0 n) steps (looked.PathOut rest)
+    pub from-path : {rest : ℕ} → r ≡ looked.WaitingOut rest → ThroughAs bs (parameters 0 n) steps (looked.WaitingOut rest)
     from-path e = looking-path g (var x) (parameters (x + 1) (n - (x + 1))) (parameters-next x n l) r h e
 
 -- naming: what is left to name
@@ -87,6 +85,10 @@ module _ {ws s₀ s : List ℕ} {bs : Substitution} {n x top : ℕ} (g : NamingA
     binds = binds-named m (g .binds);
     is = ap (λ ts. appear-all (g .names) (map (resolve bs) ts)) (sym (parameters-next x n l)) ∙ g .is;
   }
+
+-- one of them is put next
+pub query-puts : {ws s o₀ o : List ℕ} {start place end x n : ℕ} {v names : List ℕ} {bs : Substitution} → Room o₀ end → Query ws s n bs names → Laid o₀ o start end true v place → x < n → Puts s o place end names (vars-in names (resolve bs (var x)))
+query-puts {x = x} r q d l = record { from = d .fits; room = room-same (d .touched .long) r; given = q .given; known = q .known x l }
 
 -- putting: what is put already, and what is left
 pub record PuttingAll (o₀ o : List ℕ) (bs : Substitution) (names : List ℕ) (n start end x place : ℕ) : Type 0 where

@@ -10,13 +10,14 @@ use Rattle.rules.specs.Written.{part, atom-word, sort-kind, term-words, terms-w
 use Rattle.rules.specs.Reading.{kind-at, payload-at, after}
 use Rattle.rules.specs.WellFormed.{AtomGood, TermGood, TermsGood, TagGood, ConstraintGood, GoalGood, GoalsGood, RelationGood}
 use Rattle.rules.specs.Inner as inner
-use Rattle.rules.proofs.Stands.{stands-at, stands-split}
+use Rattle.rules.proofs.Spelled.{stands-at, stands-split}
 use Rattle.engine.specs.Reference.{at, Is, AtomIs, TermAt, TermsAt, ConstraintAt, GoalAt, GoalsAt, RelationAt}
+use Rattle.rules.specs.Settings.{most-words}
 
 -- the words of `xs` stand at a place, and are so few that each count is a payload
 pub record Written (ws : List ℕ) (pos : ℕ) (xs : List ℕ) : Type 0 where
-  pub stands : inner.Stands ws pos xs
-  pub few : length xs ≤ 16384
+  pub stands : inner.Spells ws pos xs
+  pub few : length xs ≤ most-words
 
 pub written-here : (ws : List ℕ) (pos to : ℕ) (xs ys : List ℕ) → Written ws pos (xs ++ ys) → to ≡ pos + length xs → Written ws pos xs × Written ws to ys
 written-here ws pos to xs ys h e =
@@ -25,7 +26,7 @@ written-here ws pos to xs ys h e =
     (record { stands = d .0; few = omega (arith, h .few) }, record { stands = stands-at ws _ to ys (sym e) (d .1); few = omega (arith, h .few) })
 
 pub written-first : (ws : List ℕ) (pos x : ℕ) (xs : List ℕ) → Written ws pos (x ∷ xs) → (at ws pos ≡ x) × Written ws (pos + 1) xs
-unfolding inner.Stands
+unfolding inner.Spells
 written-first ws pos x xs h = (h .stands .0, record { stands = h .stands .1; few = omega (arith, h .few) })
 
 is-word : (w k p : ℕ) → w ≡ word k p → p < 268435456 → Is w k p
@@ -124,7 +125,7 @@ mutual
       let q = goal-at ws v pos g lv (good .0) (d .0) in
       (q .0, subst (λ i. GoalsAt ws i to gs) (sym (q .1)) (goals-at ws v mid to gs lv (good .1) (d .1) (omega (arith, e))))
 
-pub relation-at : (ws : List ℕ) (pos : ℕ) (R : Relation) → RelationGood R → Written ws pos (relation-words R) → pos + length (relation-words R) ≤ length ws → length ws ≤ 16384 → RelationAt ws pos R
+pub relation-at : (ws : List ℕ) (pos : ℕ) (R : Relation) → RelationGood R → Written ws pos (relation-words R) → pos + length (relation-words R) ≤ length ws → length ws ≤ most-words → RelationAt ws pos R
 relation-at ws pos R g h within short =
     let lv : R .vars ≤ 255 = g .vars-bound in
     let lp : R .params ≤ R .vars = g .params-bound in

@@ -9,30 +9,32 @@ use lib.ListN.{length}
 use borrow.Author.Tests.{eqb-true, eqb-false}
 use Rattle.word.specs.Word.{kind}
 use Rattle.rules.specs.Reading.{kind-at, payload-at, after}
-use Rattle.rules.specs.Syntax.{Atom, symbol, number, empty, Term, var, atom, pair}
+use Rattle.rules.specs.Written.{sort-kind}
+use Rattle.rules.specs.Syntax.{Atom, symbol, number, empty, Term, var, atom, pair, Sort, symbols, numbers}
 use Rattle.semantics.specs.Substitution.{same-atom}
 use Rattle.semantics.proofs.TermLaws.{same-atom-true, same-atom-refl, term-size}
 use Rattle.engine.specs.Walk.{NodeAt}
-use Rattle.engine.specs.Reference.{at, AtomIs, TermAt, TermsAt, refer, pos-of, base-of, beyond, Vars, Stands}
+use Rattle.engine.specs.Reference.{at, AtomIs, TermAt, TermsAt, refer, pos-of, base-of, beyond, Vars, Stands, positions}
+use Rattle.rules.specs.Settings.{most-words}
 
 -- references
-pub pos-refer : (pos base : ℕ) → pos < 16384 → pos-of (refer pos base) ≡ pos
+pub pos-refer : (pos base : ℕ) → pos < positions → pos-of (refer pos base) ≡ pos
 pos-refer pos base lt = omega arith
 
-pub base-refer : (pos base : ℕ) → pos < 16384 → base-of (refer pos base) ≡ base
+pub base-refer : (pos base : ℕ) → pos < positions → base-of (refer pos base) ≡ base
 base-refer pos base lt = omega arith
 
 -- a reference moves with its position
-pub pos-plus : (w d : ℕ) → pos-of w + d < 16384 → pos-of (w + d) ≡ pos-of w + d
+pub pos-plus : (w d : ℕ) → pos-of w + d < positions → pos-of (w + d) ≡ pos-of w + d
 pos-plus w d lt = omega arith
 
-pub base-plus : (w d : ℕ) → pos-of w + d < 16384 → base-of (w + d) ≡ base-of w
+pub base-plus : (w d : ℕ) → pos-of w + d < positions → base-of (w + d) ≡ base-of w
 base-plus w d lt = omega arith
 
-pub pos-beyond : (ws : List ℕ) (w : ℕ) → after ws (pos-of w) < 16384 → pos-of (beyond ws w) ≡ after ws (pos-of w)
+pub pos-beyond : (ws : List ℕ) (w : ℕ) → after ws (pos-of w) < positions → pos-of (beyond ws w) ≡ after ws (pos-of w)
 pos-beyond ws w lt = omega arith
 
-pub base-beyond : (ws : List ℕ) (w : ℕ) → after ws (pos-of w) < 16384 → base-of (beyond ws w) ≡ base-of w
+pub base-beyond : (ws : List ℕ) (w : ℕ) → after ws (pos-of w) < positions → base-of (beyond ws w) ≡ base-of w
 base-beyond ws w lt = omega arith
 
 -- a term takes more words than it has pairs
@@ -49,24 +51,42 @@ terms-longer ws base from to (t ∷ ts) h = omega (arith, term-longer ws base fr
 pub stands-inside : {ws : List ℕ} {w : ℕ} {t : Term} → Stands ws w t → pos-of w < length ws
 stands-inside {ws} {w} {t} h = omega (arith, term-longer ws (base-of w) (pos-of w) (h .to) t (h .reads), h .inside)
 
-pub stands-short : {ws : List ℕ} {w : ℕ} {t : Term} → Stands ws w t → term-size t < 16384
+pub stands-short : {ws : List ℕ} {w : ℕ} {t : Term} → Stands ws w t → term-size t < positions
 stands-short {ws} {w} {t} h = omega (arith, term-longer ws (base-of w) (pos-of w) (h .to) t (h .reads), h .small)
 
--- a reference whose position and base are known
-pub stands-as : (ws : List ℕ) (base from to w : ℕ) (t : Term) → pos-of w ≡ from → base-of w ≡ base → TermAt ws base from to t → to ≤ length ws → to ≤ 16384 → base ≤ 2048 → Vars (λ x. x < 2048) t → Stands ws w t
-stands-as ws base from to w t is-pos is-base h in-ws le lt v = record {
-  to = to;
-  reads = subst (λ b. TermAt ws b (pos-of w) to t) (sym is-base) (subst (λ k. TermAt ws base k to t) (sym is-pos) h);
-  inside = in-ws;
-  small = le;
-  below = omega arith;
-  in-range = v;
-}
-
-pub stands-at : (ws : List ℕ) (base from to : ℕ) (t : Term) → TermAt ws base from to t → to ≤ length ws → to ≤ 16384 → base ≤ 2048 → Vars (λ x. x < 2048) t → Stands ws (refer from base) t
-stands-at ws base from to t h in-ws le lt v =
+-- The one law over the offset: a term at a place of the program stands for the place's reference in its environment, however the code came there.
+unfoldable pub stands-at : (ws : List ℕ) (base from to q : ℕ) (t : Term) → q ≡ refer from base → TermAt ws base from to t → to ≤ length ws → to ≤ most-words → base ≤ 2048 → Vars (λ x. x < 2048) t → Stands ws q t
+stands-at ws base from to q t e h inside small low v =
     let l : from + term-size t < to = term-longer ws base from to t h in
-    stands-as ws base from to (refer from base) t (pos-refer from base (omega arith)) (base-refer from base (omega arith)) h in-ws le lt v
+    let is-pos : pos-of q ≡ from = omega arith in
+    let is-base : base-of q ≡ base = omega arith in
+    record {
+      to = to;
+      reads = subst (λ b. TermAt ws b (pos-of q) to t) (sym is-base) (subst (λ k. TermAt ws base k to t) (sym is-pos) h);
+      inside = inside;
+      small = small;
+      below = omega arith;
+      in-range = v;
+    }
+
+-- two terms behind a goal's word, one after the other
+pub record TwoAt (ws : List ℕ) (w : ℕ) (u v : Term) : Type 0 where
+  pub first : Stands ws (w + 1) u
+  pub second : (q : ℕ) → q + pos-of (w + 1) ≡ w + 1 + first .to → Stands ws q v
+
+pub two-terms : {ws : List ℕ} {w : ℕ} (base to : ℕ) (u v : Term) → base-of w ≡ base → TermsAt ws base (pos-of w + 1) to (u ∷ v ∷ []) → to ≤ length ws → to ≤ most-words → w < 33570816
+    → Vars (λ x. x < 2048) u → Vars (λ x. x < 2048) v → TwoAt ws w u v
+unfolding stands-at
+two-terms {ws} {w} base to u v is-base h inside small below in-u in-v =
+    let mid : ℕ = h .0 in
+    let l : pos-of w + 1 + term-size u < mid = term-longer ws base (pos-of w + 1) mid u (h .1) in
+    let m : mid + term-size v < h .2 .0 = term-longer ws base mid (h .2 .0) v (h .2 .1) in
+    let e : h .2 .0 ≡ to = h .2 .2 in
+    let low : base ≤ 2048 = omega arith in
+    record {
+      first = stands-at ws base (pos-of w + 1) mid (w + 1) u (omega arith) (h .1) (omega arith) (omega arith) low in-u;
+      second = λ q z. stands-at ws base mid (h .2 .0) q v (omega arith) (h .2 .1) (omega arith) (omega arith) low in-v;
+    }
 
 -- the parts of a pair are where the code looks for them
 pub record Parts (ws : List ℕ) (w : ℕ) (s t : Term) : Type 0 where
@@ -81,18 +101,23 @@ parts ws w s t h =
     let mid : ℕ = p + 1 + payload-at ws p in
     let l : mid + term-size t < h .to = term-longer ws b mid (h .to) t (h .reads .2) in
     let i : h .to ≤ length ws = h .inside in
-    let e : h .to ≤ 16384 = h .small in
+    let e : h .to ≤ most-words = h .small in
     let lt : b ≤ 2048 = omega (arith, h .below) in
     record {
       is-pair = h .reads .0;
-      first = stands-as ws b (p + 1) mid (w + 1) s (pos-plus w 1 (omega arith)) (base-plus w 1 (omega arith)) (h .reads .1) (omega arith) (omega arith) lt (h .in-range .0);
-      second = stands-as ws b mid (h .to) (beyond ws w) t (pos-beyond ws w (omega arith)) (base-beyond ws w (omega arith)) (h .reads .2) i e lt (h .in-range .1);
+      first = stands-at ws b (p + 1) mid (w + 1) s (omega arith) (h .reads .1) (omega arith) (omega arith) lt (h .in-range .0);
+      second = stands-at ws b mid (h .to) (beyond ws w) t (omega arith) (h .reads .2) i e lt (h .in-range .1);
     }
 
 pub atom-low : (w : ℕ) (a : Atom) → AtomIs w a → (0 < kind w) × (kind w < 4)
 atom-low w (symbol p) h = omega (arith, h .0)
 atom-low w (number p) h = omega (arith, h .0)
 atom-low w empty h = omega (arith, h .0)
+
+-- the kinds of types
+pub sort-low : (k : Sort) → (6 < sort-kind k) × (sort-kind k < 9)
+sort-low symbols = omega arith
+sort-low numbers = omega arith
 
 -- past a term: a pair ends where its second part does
 pub record Skips (ws : List ℕ) (w to w′ : ℕ) : Type 0 where
@@ -103,25 +128,18 @@ pub record Skips (ws : List ℕ) (w to w′ : ℕ) : Type 0 where
   pub forward : pos-of w < pos-of w′
 
 pub skip-pair : {ws : List ℕ} {w bits k p : ℕ} → NodeAt ws w bits k p → (t : Term) (h : Stands ws w t) → k ≡ 4 → Skips ws w (h .to) (w + 1 + p)
+unfolding stands-at
 skip-pair {ws} {w} node (var x) h e = absurd (omega (arith, h .reads .0, node .is-kind))
 skip-pair {ws} {w} node (atom a) h e = let l = atom-low (at ws (pos-of w)) a (h .reads .0) in absurd (omega (arith, l .1, node .is-kind))
 skip-pair {ws} {w} {p = p} node (pair s t) h e =
     let q : p ≡ payload-at ws (pos-of w) = node .is-payload in
     let mid : ℕ = after ws (pos-of w) in
     let l : mid + term-size t < h .to = term-longer ws (base-of w) mid (h .to) t (h .reads .2) in
-    let small : h .to ≤ 16384 = h .small in
-    let is-pos : pos-of (w + 1 + p) ≡ mid = omega arith in
+    let small : h .to ≤ most-words = h .small in
     let is-base : base-of (w + 1 + p) ≡ base-of w = omega arith in
     record {
       term = t;
-      stands = record {
-        to = h .to;
-        reads = subst (λ b. TermAt ws b (pos-of (w + 1 + p)) (h .to) t) (sym is-base) (subst (λ i. TermAt ws (base-of w) i (h .to) t) (sym is-pos) (h .reads .2));
-        inside = h .inside;
-        small = small;
-        below = omega (arith, h .below);
-        in-range = h .in-range .1;
-      };
+      stands = stands-at ws (base-of w) mid (h .to) (w + 1 + p) t (omega arith) (h .reads .2) (h .inside) small (omega (arith, h .below)) (h .in-range .1);
       ends = refl;
       same-base = is-base;
       forward = omega arith;

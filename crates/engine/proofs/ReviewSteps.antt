@@ -15,20 +15,20 @@ use Rattle.semantics.specs.Substitution.{Substitution, walk}
 use Rattle.semantics.specs.Steps.{waiting, no-steps, at-bound, Outcome, done, stop, and-then}
 use Rattle.semantics.specs.Unify.{scan, is-var, is-atom, unify-terms}
 use Rattle.semantics.specs.Review.{other-sort, reaches, clashes, sort-fails, trial-fails, reviewed, review, review-all}
-use Rattle.engine.specs.Reference.{at, AtomIs, TermAt, pos-of, base-of, Stands, KeepsAt}
+use Rattle.engine.specs.Reference.{at, AtomIs, pos-of, base-of, Stands, KeepsAt}
 use Rattle.engine.specs.Memory.{BindingsIn, KeptIn}
 use Rattle.engine.specs.Walk.{NodeAt, Binds, Follows}
 use Rattle.engine.specs.Trail.{Trailed, Undone, Apart}
 use Rattle.engine.specs.Scan.{ScanAs, scan-says}
-use Rattle.engine.specs.Unify.{Meets, Went, UnifiedAs}
-use Rattle.engine.specs.Review.{atom-kind, other-kind, Kept, review-says, ReviewedAs}
-use Rattle.engine.specs.declared.scan.Scanned.{Scanned}
-use Rattle.engine.specs.declared.scan.Scanned.the-variants as scanned
-use Rattle.engine.specs.declared.unify.Unified.{Unified}
-use Rattle.engine.specs.declared.unify.Unified.the-variants as unified
-use Rattle.engine.specs.declared.review.Reviewed.{Reviewed}
-use Rattle.engine.specs.declared.review.Reviewed.the-variants.{Fails, Holds, StepsOut, PathOut}
-use Rattle.engine.proofs.ReferenceLaws.{term-longer}
+use Rattle.engine.specs.Unify.{TwoTerms, Went, UnifiedAs}
+use Rattle.engine.specs.Review.{atom-kind, other-kind, ConstraintsHeld, review-says, ReviewedAs}
+use Rattle.engine.specs.declared.terms.scan.Scanned.{Scanned}
+use Rattle.engine.specs.declared.terms.scan.Scanned.the-variants as scanned
+use Rattle.engine.specs.declared.terms.unify.Unified.{Unified}
+use Rattle.engine.specs.declared.terms.unify.Unified.the-variants as unified
+use Rattle.engine.specs.declared.terms.review.Reviewed.{Reviewed}
+use Rattle.engine.specs.declared.terms.review.Reviewed.the-variants.{Fails, Holds, StepsOut, WaitingOut}
+use Rattle.engine.proofs.ReferenceLaws.{sort-low, term-longer, stands-at, two-terms}
 use Rattle.engine.proofs.ScanSteps.{open-at, atom-sought}
 use Rattle.engine.proofs.FrameLaws.{kept-same}
 use Rattle.engine.proofs.TrailLaws.{apart-same, apart-trans, undone-apart}
@@ -37,42 +37,17 @@ use Rattle.engine.proofs.TrailLaws.{apart-same, apart-trans, undone-apa
 
 pub typed-term : (ws : List ℕ) (w : ℕ) (k : Sort) (t : Term) → KeepsAt ws w (typed k t) → Stands ws (w + 1) t
 typed-term ws w k t h =
-    let mid : ℕ = h .reads .1 .0 in
-    let l : pos-of w + 1 + 0 < mid = omega (arith, term-longer ws (base-of w) (pos-of w + 1) mid t (h .reads .1 .1)) in
-    let e : mid ≡ after ws (pos-of w) = h .reads .1 .2 in
-    let small : after ws (pos-of w) ≤ 16384 = h .small in
-    let is-pos : pos-of (w + 1) ≡ pos-of w + 1 = omega arith in
-    let is-base : base-of (w + 1) ≡ base-of w = omega arith in
-    record {
-      to = mid;
-      reads = subst (λ b. TermAt ws b (pos-of (w + 1)) mid t) (sym is-base) (subst (λ i. TermAt ws (base-of w) i mid t) (sym is-pos) (h .reads .1 .1));
-      inside = omega (arith, h .inside);
-      small = omega arith;
-      below = omega (arith, h .below);
-      in-range = h .in-range;
-    }
+    let e : h .reads .1 .0 ≡ after ws (pos-of w) = h .reads .1 .2 in
+    stands-at ws (base-of w) (pos-of w + 1) (h .reads .1 .0) (w + 1) t (omega arith) (h .reads .1 .1) (omega (arith, h .inside)) (omega (arith, h .small)) (omega (arith, h .below)) (h .in-range)
 
 pub absento-term : (ws : List ℕ) (w : ℕ) (a : Atom) (t : Term) → KeepsAt ws w (absento a t) → Stands ws (w + 2) t
 absento-term ws w a t h =
-    let mid : ℕ = h .reads .2 .0 in
-    let l : pos-of w + 2 + 0 < mid = omega (arith, term-longer ws (base-of w) (pos-of w + 2) mid t (h .reads .2 .1)) in
-    let e : mid ≡ after ws (pos-of w) = h .reads .2 .2 in
-    let small : after ws (pos-of w) ≤ 16384 = h .small in
-    let is-pos : pos-of (w + 2) ≡ pos-of w + 2 = omega arith in
-    let is-base : base-of (w + 2) ≡ base-of w = omega arith in
-    record {
-      to = mid;
-      reads = subst (λ b. TermAt ws b (pos-of (w + 2)) mid t) (sym is-base) (subst (λ i. TermAt ws (base-of w) i mid t) (sym is-pos) (h .reads .2 .1));
-      inside = omega (arith, h .inside);
-      small = omega arith;
-      below = omega (arith, h .below);
-      in-range = h .in-range;
-    }
+    let e : h .reads .2 .0 ≡ after ws (pos-of w) = h .reads .2 .2 in
+    stands-at ws (base-of w) (pos-of w + 2) (h .reads .2 .0) (w + 2) t (omega arith) (h .reads .2 .1) (omega (arith, h .inside)) (omega (arith, h .small)) (omega (arith, h .below)) (h .in-range)
 
 -- the tag is the word before it
 pub absento-tag : (ws : List ℕ) (w : ℕ) (a : Atom) (t : Term) {bits k p : ℕ} → KeepsAt ws w (absento a t) → NodeAt ws (w + 1) bits k p → AtomIs bits a
 absento-tag ws w a t h node =
-    let s = absento-term ws w a t h in
     let l : pos-of w + 2 + 0 < h .reads .2 .0 = omega (arith, term-longer ws (base-of w) (pos-of w + 2) (h .reads .2 .0) t (h .reads .2 .1)) in
     let is-pos : pos-of (w + 1) ≡ pos-of w + 1 = omega (arith, h .reads .2 .2, h .small) in
     subst (λ z. AtomIs z a) (sym (node .is-bits ∙ ap (at ws) is-pos)) (h .reads .1)
@@ -92,42 +67,10 @@ pub record DifferAt (ws : List ℕ) (w : ℕ) (c : Constraint) : Type 0 where
 
 differ-terms : (ws : List ℕ) (w : ℕ) (u v : Term) → KeepsAt ws w (differ u v) → DifferAt ws w (differ u v)
 differ-terms ws w u v h =
-    let mid : ℕ = h .reads .1 .0 in
-    let end : ℕ = h .reads .1 .2 .0 in
-    let l : pos-of w + 1 + 0 < mid = omega (arith, term-longer ws (base-of w) (pos-of w + 1) mid u (h .reads .1 .1)) in
-    let m : mid + 0 < end = omega (arith, term-longer ws (base-of w) mid end v (h .reads .1 .2 .1)) in
-    let e : end ≡ after ws (pos-of w) = h .reads .1 .2 .2 in
-    let small : after ws (pos-of w) ≤ 16384 = h .small in
-    let is-pos : pos-of (w + 1) ≡ pos-of w + 1 = omega arith in
-    let is-base : base-of (w + 1) ≡ base-of w = omega arith in
-    let below : w < 33570816 = h .below in
-    record {
-      left = u;
-      right = v;
-      is = refl;
-      first = record {
-        to = mid;
-        reads = subst (λ b. TermAt ws b (pos-of (w + 1)) mid u) (sym is-base) (subst (λ i. TermAt ws (base-of w) i mid u) (sym is-pos) (h .reads .1 .1));
-        inside = omega (arith, h .inside);
-        small = omega arith;
-        below = omega arith;
-        in-range = h .in-range .0;
-      };
-      second = λ q z. let p : pos-of q ≡ mid = omega arith in let b : base-of q ≡ base-of w = omega arith in record {
-        to = end;
-        reads = subst (λ b. TermAt ws b (pos-of q) end v) (sym b) (subst (λ i. TermAt ws (base-of w) i end v) (sym p) (h .reads .1 .2 .1));
-        inside = omega (arith, h .inside);
-        small = omega arith;
-        below = omega arith;
-        in-range = h .in-range .1;
-      };
-    }
+    let two = two-terms (base-of w) (after ws (pos-of w)) u v refl (h .reads .1) (h .inside) (h .small) (h .below) (h .in-range .0) (h .in-range .1) in
+    record { left = u; right = v; is = refl; first = two .first; second = two .second }
 
 -- Which constraint it is, by the kind of its word
-
-sort-low : (k : Sort) → (6 < sort-kind k) × (sort-kind k < 9)
-sort-low symbols = omega arith
-sort-low numbers = omega arith
 
 pub record TypedAt (ws : List ℕ) (w : ℕ) (c : Constraint) (kind : ℕ) : Type 0 where
   pub sort : Sort
@@ -228,7 +171,7 @@ pub record Clashing (ws s : List ℕ) (bs : Substitution) (cs : List Constraint)
   pub count : i + length later ≡ kept
   pub same : clashes bs k x cs ≡ clashes bs k x later
 
-pub clashing-start : {ws s : List ℕ} {bs : Substitution} {cs : List Constraint} {trail kept : ℕ} (k : Sort) (x : ℕ) → Kept ws s bs cs trail kept → Clashing ws s bs cs k x kept 0
+pub clashing-start : {ws s : List ℕ} {bs : Substitution} {cs : List Constraint} {trail kept : ℕ} (k : Sort) (x : ℕ) → ConstraintsHeld ws s bs cs trail kept → Clashing ws s bs cs k x kept 0
 clashing-start {cs = cs} k x h = record { later = cs; kept-in = h .kept-in; count = omega (arith, h .kept-is); same = refl }
 
 pub record ClashNext (ws s : List ℕ) (bs : Substitution) (cs : List Constraint) (k : Sort) (x kept i : ℕ) : Type 0 where
@@ -320,7 +263,7 @@ module _ {ws s : List ℕ} {w bits kind p : ℕ} (left : ℕ) (node : NodeAt ws 
   unfolding scan-says review-says
   absento-steps e = rw e at absento-is
 
-  pub absento-path : {rest : ℕ} → r ≡ scanned.PathOut rest → scan (is-atom a) bs [] t left ≡ review-says (PathOut rest)
+  pub absento-path : {rest : ℕ} → r ≡ scanned.WaitingOut rest → scan (is-atom a) bs [] t left ≡ review-says (WaitingOut rest)
   unfolding scan-says review-says
   absento-path e = rw e at absento-is
 
@@ -334,7 +277,7 @@ pub record Trial (ws s₁ : List ℕ) (bs : Substitution) (trail n : ℕ) : Type
 went-trial : {ws s : List ℕ} {bs : Substitution} {s₁ : List ℕ} {trail n : ℕ} → trail ≡ length bs → Went ws s bs s₁ n → Trial ws s₁ bs trail n
 went-trial {ws} {s} {bs} {s₁} e w = record { new = w .new; trailed = record { long = w .held .long; bindings-in = subst (BindingsIn ws s₁) (w .grows) (w .held .bindings-in); mark-is = e; trail-is = w .trail-is ∙ ap length (w .grows) } }
 
-module _ {ws s : List ℕ} {bs : Substitution} {a : ℕ} {u : Term} {b : ℕ} {v : Term} {trail : ℕ} (left : ℕ) (m : Meets ws s bs a u b v trail) (s₁ : List ℕ) (r : Unified) (told : UnifiedAs ws s s₁ bs (unify-terms bs u v left) r) where
+module _ {ws s : List ℕ} {bs : Substitution} {a : ℕ} {u : Term} {b : ℕ} {v : Term} {trail : ℕ} (left : ℕ) (m : TwoTerms ws s bs a u b v trail) (s₁ : List ℕ) (r : Unified) (told : UnifiedAs ws s s₁ bs (unify-terms bs u v left) r) where
   pub trial-joined : {n rest : ℕ} → r ≡ unified.Joined n rest → Trial ws s₁ bs trail n
   unfolding UnifiedAs
   trial-joined e = went-trial (m .trail-is) ((rw e at told) .0)
@@ -347,7 +290,7 @@ module _ {ws s : List ℕ} {bs : Substitution} {a : ℕ} {u : Term} {b : ℕ} {v
   unfolding UnifiedAs
   trial-stepped e = went-trial (m .trail-is) ((rw e at told) .0)
 
-  pub trial-pathed : {n rest : ℕ} → r ≡ unified.PathOut n rest → Trial ws s₁ bs trail n
+  pub trial-pathed : {n rest : ℕ} → r ≡ unified.WaitingOut n rest → Trial ws s₁ bs trail n
   unfolding UnifiedAs
   trial-pathed e = went-trial (m .trail-is) ((rw e at told) .0)
 
@@ -388,7 +331,7 @@ module _ {ws s : List ℕ} {bs : Substitution} {a : ℕ} {u : Term} {b : ℕ} {v
         let o = back (trial-stepped e) in
         record { says = rw (q .1); bindings-in = o .bindings-in; apart = apart-trans (q .0 .apart) (undone-apart o) }
 
-    pub differ-path : {rest : ℕ} → r ≡ unified.PathOut n rest → says (PathOut rest) s₂
+    pub differ-path : {rest : ℕ} → r ≡ unified.WaitingOut n rest → says (WaitingOut rest) s₂
     unfolding UnifiedAs review-says
     differ-path {rest} e =
         let q : (w : Went ws s bs s₁ n) × (unify-terms bs u v left ≡ stop (at-bound waiting) rest) = rw e at told in
@@ -397,7 +340,7 @@ module _ {ws s : List ℕ} {bs : Substitution} {a : ℕ} {u : Term} {b : ℕ} {v
 
 -- One review, whatever its kind
 
-module _ {ws s : List ℕ} {bs : Substitution} {cs : List Constraint} {trail kept : ℕ} (h : Kept ws s bs cs trail kept) (c : Constraint) (steps : ℕ) where
+module _ {ws s : List ℕ} {bs : Substitution} {cs : List Constraint} {trail kept : ℕ} (h : ConstraintsHeld ws s bs cs trail kept) (c : Constraint) (steps : ℕ) where
   pub review-none : steps ≡ 0 → ReviewedAs ws s s bs (review bs cs c steps) StepsOut
   unfolding review-says
   review-none z = record { says = ap (review bs cs c) z; bindings-in = h .held .bindings-in; apart = apart-same s }
@@ -417,7 +360,7 @@ module _ {ws s : List ℕ} {bs : Substitution} {cs : List Constraint} {trail kep
 -- All reviews
 
 -- after what leaves constraints alone and gives the bindings back
-pub kept-again : {ws s s′ : List ℕ} {bs : Substitution} {cs : List Constraint} {trail kept : ℕ} → Apart s s′ → BindingsIn ws s′ bs → Kept ws s bs cs trail kept → Kept ws s′ bs cs trail kept
+pub kept-again : {ws s s′ : List ℕ} {bs : Substitution} {cs : List Constraint} {trail kept : ℕ} → Apart s s′ → BindingsIn ws s′ bs → ConstraintsHeld ws s bs cs trail kept → ConstraintsHeld ws s′ bs cs trail kept
 kept-again {ws} {s} {s′} {bs} {cs} a b h = record {
   held = record { short = h .held .short; long = omega (arith, a .long, h .held .long); bindings-in = b; good = h .held .good };
   kept-in = kept-same ws s s′ 0 cs (λ i lo hi. a .middle i (omega arith) (omega (arith, h .kept-is, h .few))) (h .kept-in);
@@ -427,14 +370,14 @@ kept-again {ws} {s} {s′} {bs} {cs} a b h = record {
 }
 
 pub record Reviewing (ws s₀ : List ℕ) (bs : Substitution) (cs : List Constraint) (trail kept steps : ℕ) (s : List ℕ) (i left : ℕ) : Type 0 where
-  pub whole : Kept ws s bs cs trail kept
+  pub whole : ConstraintsHeld ws s bs cs trail kept
   pub apart : Apart s₀ s
   pub later : List Constraint
   pub kept-in : KeptIn ws s i later
   pub count : i + length later ≡ kept
   pub same : review-all bs cs cs steps ≡ review-all bs cs later left
 
-pub reviewing-start : {ws s : List ℕ} {bs : Substitution} {cs : List Constraint} {trail kept : ℕ} (steps : ℕ) → Kept ws s bs cs trail kept → Reviewing ws s bs cs trail kept steps s 0 steps
+pub reviewing-start : {ws s : List ℕ} {bs : Substitution} {cs : List Constraint} {trail kept : ℕ} (steps : ℕ) → ConstraintsHeld ws s bs cs trail kept → Reviewing ws s bs cs trail kept steps s 0 steps
 reviewing-start {s = s} {cs = cs} steps h = record { whole = h; apart = apart-same s; later = cs; kept-in = h .kept-in; count = omega (arith, h .kept-is); same = refl }
 
 module _ {ws s₀ : List ℕ} {bs : Substitution} {cs : List Constraint} {trail kept steps : ℕ} {s : List ℕ} {i left : ℕ} (g : Reviewing ws s₀ bs cs trail kept steps s i left) where
@@ -474,9 +417,9 @@ module _ {ws s₀ : List ℕ} {bs : Substitution} {cs : List Constraint} {trail 
     unfolding review-says
     review-stops e = still (stop no-steps 0) StepsOut refl (then-is (stop no-steps 0) (rw e at (told .says)))
 
-    pub review-bound : {rest : ℕ} → r ≡ PathOut rest → ReviewedAs ws s₀ s′ bs (review-all bs cs cs steps) (PathOut rest)
+    pub review-bound : {rest : ℕ} → r ≡ WaitingOut rest → ReviewedAs ws s₀ s′ bs (review-all bs cs cs steps) (WaitingOut rest)
     unfolding review-says
-    review-bound {rest} e = still (stop (at-bound waiting) rest) (PathOut rest) refl (then-is (stop (at-bound waiting) rest) (rw e at (told .says)))
+    review-bound {rest} e = still (stop (at-bound waiting) rest) (WaitingOut rest) refl (then-is (stop (at-bound waiting) rest) (rw e at (told .says)))
 
     pub review-again : {rest : ℕ} → r ≡ Holds rest → Reviewing ws s₀ bs cs trail kept steps s′ (i + 1) rest
     unfolding review-says

@@ -4,27 +4,28 @@ use mathlib.Core.Path.{_≡_, refl, sym, ap, _∙_, subst}
 use mathlib.Core.Option.{some}
 use mathlib.Core.List.{List, [], _++_}
 use native.Mathlib.Omega.{arith}
-use lib.ListN.{length, replicate, getElem?}
+use lib.ListN.{length, replicate, getElem?, length-replicate, getD-replicate}
 use borrow.Author.Tests.{le-leb, lt-leb}
 use Rattle.rules.specs.Syntax.{Program, Relation}
 use Rattle.rules.specs.Accept.{Accept, accepted, refused, read}
 use Rattle.rules.specs.Verdict.{yes-said, no-said, said}
 use Rattle.rules.specs.Inner.{RelationsAt}
-use Rattle.rules.proofs.Stands.{stands-self}
+use Rattle.rules.proofs.Spelled.{stands-self}
 use Rattle.rules.proofs.Checked.{refused-said}
 use Rattle.rules.proofs.Accepted.{read-is-written, accepted-query}
 use Rattle.semantics.specs.Round.{Result, rounds}
 use Rattle.semantics.specs.Run.{Report, refusal, ran, returns, report-program, leave, run, run-as-written, usable, page}
 use Rattle.semantics.proofs.SameRuns.{run-same}
 use Rattle.semantics.proofs.Words.{demands-run}
-use Rattle.engine.specs.declared.Report as code
-use Rattle.engine.specs.Report.{ended, Kept, Says}
-use Rattle.engine.specs.Running.{cleared, Turned, Admitted}
-use Rattle.engine.specs.Rounds.{Ready, ResultAs}
+use Rattle.engine.specs.declared.report.Report as code
+use Rattle.engine.specs.Report.{end-says, RunPromise, RunAs}
+use Rattle.engine.specs.Run.{cleared, RefusalReport, Admitted}
+use Rattle.engine.specs.Rounds.{RunReady, ResultAs}
 use Rattle.engine.specs.Reference.{at}
-use Rattle.engine.specs.Memory.{TableIn}
+use Rattle.engine.specs.Memory.{TableIn, layout-words}
 use Rattle.engine.specs.Trail.{Same}
-use Rattle.engine.proofs.ClearLaws.{cleared-length, cleared-zero}
+use Rattle.rules.specs.Settings.{scratch-words}
+use Rattle.engine.proofs.ClearLaws.{cleared-rest, cleared-all}
 
 -- what was said, back to the reading
 pub accepted-said : (r : Accept) → yes-said ≡ said r → (P : Program) × (r ≡ accepted P)
@@ -42,30 +43,30 @@ module _ (words : List ℕ) (round-limit step-limit : ℕ) (output scratch : Lis
   comes-to = returns words round-limit step-limit (length output) (length scratch)
 
   -- What says the run by the code's passing of arguments says document 01's run, and the demands hold of that.
-  kept-said : (r : code.Report) (output′ scratch′ : List ℕ) → Says (run words round-limit step-limit output scratch) r output′ scratch′ → Kept words round-limit step-limit output scratch r output′ scratch′
+  kept-said : (r : code.Report) (output′ scratch′ : List ℕ) → RunAs (run words round-limit step-limit output scratch) r output′ scratch′ → RunPromise words round-limit step-limit output scratch r output′ scratch′
   kept-said r output′ scratch′ s =
-      let t : Says (run-as-written words round-limit step-limit output scratch) r output′ scratch′ = rw (run-same words round-limit step-limit output scratch) at s in
+      let t : RunAs (run-as-written words round-limit step-limit output scratch) r output′ scratch′ = rw (run-same words round-limit step-limit output scratch) at s in
       record { says = t; demands = rw (t .is-output, t .is-scratch) (demands-run words round-limit step-limit output scratch) }
 
-  kept-refusal : (c p : ℕ) (r : code.Report) → Turned c p r → comes-to ≡ refusal c p → Kept words round-limit step-limit output scratch r output scratch
+  kept-refusal : (c p : ℕ) (r : code.Report) → RefusalReport c p r → comes-to ≡ refusal c p → RunPromise words round-limit step-limit output scratch r output scratch
   unfolding comes-to
   kept-refusal c p r t e =
       let z : run words round-limit step-limit output scratch ≡ leave (refusal c p) output scratch = ap (λ x. leave x output scratch) e in
-      kept-said r output scratch (rw z (record { is-end = ap ended (t .is-end); is-round = t .is-round; is-steps = t .is-steps; is-answers = t .is-answers; is-words = t .is-words; is-output = refl; is-scratch = refl }))
+      kept-said r output scratch (rw z (record { is-end = ap end-says (t .is-end); is-round = t .is-round; is-steps = t .is-steps; is-answers = t .is-answers; is-words = t .is-words; is-output = refl; is-scratch = refl }))
 
-  pub rounds-refused : (r : code.Report) → Turned 9 0 r → 255 < round-limit → Kept words round-limit step-limit output scratch r output scratch
+  pub rounds-refused : (r : code.Report) → RefusalReport 9 0 r → 255 < round-limit → RunPromise words round-limit step-limit output scratch r output scratch
   unfolding comes-to
   rounds-refused r t h = kept-refusal 9 0 r t (simp (lt-leb round-limit 255 h))
 
-  pub scratch-refused : (r : code.Report) → Turned 9 0 r → round-limit ≤ 255 → length scratch < 16384 → Kept words round-limit step-limit output scratch r output scratch
+  pub scratch-refused : (r : code.Report) → RefusalReport 9 0 r → round-limit ≤ 255 → length scratch < scratch-words → RunPromise words round-limit step-limit output scratch r output scratch
   unfolding comes-to
-  scratch-refused r t h k = kept-refusal 9 0 r t (simp (le-leb round-limit 255 h, lt-leb 16384 (length scratch) k))
+  scratch-refused r t h k = kept-refusal 9 0 r t (simp (le-leb round-limit 255 h, lt-leb scratch-words (length scratch) k))
 
-  pub program-refused : (c p : ℕ) (r : code.Report) → Turned c p r → round-limit ≤ 255 → 16384 ≤ length scratch → no-said c p ≡ said (read words) → Kept words round-limit step-limit output scratch r output scratch
+  pub program-refused : (c p : ℕ) (r : code.Report) → RefusalReport c p r → round-limit ≤ 255 → scratch-words ≤ length scratch → no-said c p ≡ said (read words) → RunPromise words round-limit step-limit output scratch r output scratch
   unfolding comes-to
-  program-refused c p r t h k e = kept-refusal c p r t (simp (le-leb round-limit 255 h, le-leb 16384 (length scratch) k, refused-said (read words) c p e))
+  program-refused c p r t h k e = kept-refusal c p r t (simp (le-leb round-limit 255 h, le-leb scratch-words (length scratch) k, refused-said (read words) c p e))
 
-  pub admitted : round-limit ≤ 255 → 16384 ≤ length scratch → yes-said ≡ said (read words) → Admitted words round-limit scratch
+  pub admitted : round-limit ≤ 255 → scratch-words ≤ length scratch → yes-said ≡ said (read words) → Admitted words round-limit scratch
   admitted h k e = let q = accepted-said (read words) e in record { program = q .0; is-read = q .1; few-rounds = h; long = k }
 
   -- the result of an accepted program
@@ -80,46 +81,45 @@ module _ (words : List ℕ) (round-limit step-limit : ℕ) (output scratch : Lis
     unfolding comes-to
     comes-to-run =
         let q = accepted-query words (a .program) (a .is-read) in
-        simp (le-leb round-limit 255 (a .few-rounds), le-leb 16384 (length scratch) (a .long), a .is-read)
+        simp (le-leb round-limit 255 (a .few-rounds), le-leb scratch-words (length scratch) (a .long), a .is-read)
         (subst (λ (P : Program). report-program P round-limit step-limit (length output) ≡ ran (rounds step-limit P (q .0) round-limit 0 (usable (length output)) step-limit [])) (sym (q .2)) refl)
 
-    pub filling : (s : List ℕ) → s ≡ cleared scratch 0 → (P : Program) × RelationsAt words 0 P × (length P ≤ 256) × (12288 ≤ length s)
+    pub filling : (s : List ℕ) → s ≡ cleared scratch 0 (length scratch) → (P : Program) × RelationsAt words 0 P × (length P ≤ 256) × (layout-words ≤ length s)
     filling s e =
-        let n : length s ≡ length scratch = ap length e ∙ cleared-length scratch 0 in
+        let n : length s ≡ length scratch = ap length (e ∙ cleared-all scratch) ∙ length-replicate (length scratch) 0 in
         let r = relations-there words (a .program) (a .is-read) in
         (a .program, r .0, r .1, omega (arith, a .long))
 
     -- the table filled, in a scratch that was all 0
-    pub ready : (s s′ : List ℕ) → s ≡ cleared scratch 0 → length s′ ≡ length s → ((P : Program) → RelationsAt words 0 P → length P ≤ 256 → TableIn words s′ P) → Same s s′ 0 11776
-        → Ready words s′ (a .program) query-of round-limit
+    pub ready : (s s′ : List ℕ) → s ≡ cleared scratch 0 (length scratch) → length s′ ≡ length s → ((P : Program) → RelationsAt words 0 P → length P ≤ 256 → TableIn words s′ P) → Same s s′ 0 11776
+        → RunReady words s′ (a .program) 0 query-of round-limit
     ready s s′ e l table low =
-        let n : length s ≡ length scratch = ap length e ∙ cleared-length scratch 0 in
+        let n : length s ≡ length scratch = ap length (e ∙ cleared-all scratch) ∙ length-replicate (length scratch) 0 in
         let r = relations-there words (a .program) (a .is-read) in
-        let zeros : (i : ℕ) → i < 11776 → at s′ i ≡ 0 = λ i h. low i (omega arith) h ∙ ap (λ (ws : List ℕ). at ws i) e ∙ cleared-zero scratch i (omega (arith, a .long)) in
+        let zeros : (i : ℕ) → i < 11776 → at s′ i ≡ 0 = λ i h. low i (omega arith) h ∙ ap (λ (ws : List ℕ). at ws i) (e ∙ cleared-all scratch) ∙ getD-replicate (length scratch) i 0 0 (omega (arith, a .long)) in
         record {
           is-read = a .is-read;
-          query = is-query;
+          query-is = is-query;
           clean = record { long = omega (arith, a .long); table = table (a .program) (r .0) (r .1); open-all = λ x h. zeros x (omega arith); nameless = λ i h k. zeros i (omega arith) };
           few-rounds = a .few-rounds;
         }
 
-    pub kept-run : (s t s′ output′ : List ℕ) (r : code.Report) → t ≡ cleared scratch 0 → length s ≡ length t
-        → ResultAs s output s′ output′ (rounds step-limit (a .program) query-of round-limit 0 (usable (length output)) step-limit []) r
-        → Kept words round-limit step-limit output scratch r (cleared output′ (r .words)) (cleared s′ 0)
+    pub kept-run : (s′ output′ : List ℕ) (r : code.Report) → length s′ ≡ length scratch → length output′ ≡ length output
+        → ResultAs output′ (rounds step-limit (a .program) query-of round-limit 0 (usable (length output)) step-limit []) r
+        → RunPromise words round-limit step-limit output scratch r (cleared output′ (r .words) (length output′)) (cleared s′ 0 (length scratch))
     unfolding comes-to
-    kept-run s t s′ output′ r c n h =
-        let m : length s ≡ length scratch = n ∙ ap length c ∙ cleared-length scratch 0 in
+    kept-run s′ output′ r f g h =
         let x : Result = rounds step-limit (a .program) query-of round-limit 0 (usable (length output)) step-limit [] in
         let z : run words round-limit step-limit output scratch ≡ leave (ran x) output scratch = ap (λ y. leave y output scratch) comes-to-run in
-        let o : cleared output′ (r .words) ≡ page (x .answers) ++ replicate (length output - length (page (x .answers))) 0 =
-        ap (λ p. p ++ replicate (length output′ - r .words) 0) (h .page-is) ∙ ap (λ m. page (x .answers) ++ replicate m 0) (ap (λ m. m - r .words) (h .lengths .output-length) ∙ ap (λ m. length output - m) (h .is-words)) in
-        let y : length s′ - 0 ≡ length scratch = omega (arith, h .lengths .scratch-length) in
-        kept-said r (cleared output′ (r .words)) (cleared s′ 0) (rw z (record {
+        let o : cleared output′ (r .words) (length output′) ≡ page (x .answers) ++ replicate (length output - length (page (x .answers))) 0 =
+        cleared-rest output′ (r .words) ∙ ap (λ p. p ++ replicate (length output′ - r .words) 0) (h .page-is) ∙ ap (λ m. page (x .answers) ++ replicate m 0) (ap (λ m. m - r .words) g ∙ ap (λ m. length output - m) (h .is-words)) in
+        let y : cleared s′ 0 (length scratch) ≡ replicate (length scratch) 0 = ap (cleared s′ 0) (sym f) ∙ cleared-all s′ ∙ ap (λ n. replicate n 0) f in
+        kept-said r (cleared output′ (r .words) (length output′)) (cleared s′ 0 (length scratch)) (rw z (record {
           is-end = h .is-end;
           is-round = h .is-round;
           is-steps = h .is-steps;
           is-answers = h .is-answers;
           is-words = h .is-words;
           is-output = o;
-          is-scratch = ap (λ m. replicate m 0) y;
+          is-scratch = y;
         }))

@@ -7,20 +7,20 @@ use native.Mathlib.Omega.{arith}
 use lib.Dec.{eqb}
 use lib.ListN.{length}
 use borrow.Author.Tests.{eq-eqb, ne-eqb, eqb-true, eqb-false, lt-ltb, le-ltb}
-use Rattle.word.specs.Word.{kind}
 use Rattle.rules.specs.Syntax.{Atom, Term, var, atom, pair}
 use Rattle.semantics.specs.Substitution.{Substitution, walk}
 use Rattle.semantics.specs.Steps.{waiting, at-bound, Outcome, stop}
 use Rattle.semantics.specs.Unify.{scan, is-var, is-atom}
-use Rattle.semantics.proofs.SubstitutionLaws.{Good, followed-follow, walk-followed, size, size-walk, size-parts}
+use Rattle.semantics.specs.Invariant.{Good}
+use Rattle.semantics.proofs.SubstitutionLaws.{followed-follow, walk-followed, size, size-walk, size-parts}
 use Rattle.semantics.proofs.ScanLaws.{Leaf}
 use Rattle.engine.specs.Reference.{at, AtomIs, pos-of, base-of, Stands}
 use Rattle.engine.specs.Walk.{NodeAt, Follows}
 use Rattle.engine.specs.Scan.{LeafWord, TestAs, ScanAs, scan-says}
-use Rattle.engine.specs.declared.scan.Scanned.{Scanned}
-use Rattle.engine.specs.declared.scan.Scanned.the-variants.{Found, Clear, StepsOut, PathOut}
+use Rattle.engine.specs.declared.terms.scan.Scanned.{Scanned}
+use Rattle.engine.specs.declared.terms.scan.Scanned.the-variants.{Found, Clear, StepsOut, WaitingOut}
 use Rattle.engine.proofs.ReferenceLaws.{atom-low, atom-test, parts}
-use Rattle.engine.proofs.SizeLaws.{reach, reach-size}
+use Rattle.engine.proofs.SizeLaws.{followed-size, reach-size}
 
 -- what stands at a followed reference, by the kind of its word
 module _ {ws : List ℕ} {w : ℕ} {bits k p : ℕ} (node : NodeAt ws w bits k p) where
@@ -90,7 +90,7 @@ module _ (test : Term → Bool) (bs : Substitution) (vs : List Term) (u : Term) 
   step-leaf (atom a) e l q = ap (scan test bs vs u) one-more ∙ rw (e, q)
   step-leaf (pair a b) e l q = absurd l
 
-  step-full : (a b : Term) → walk bs u ≡ pair a b → test (pair a b) ≡ false → 512 ≤ length vs → scan test bs vs u left ≡ scan-says (PathOut left) vs Next
+  step-full : (a b : Term) → walk bs u ≡ pair a b → test (pair a b) ≡ false → 512 ≤ length vs → scan test bs vs u left ≡ scan-says (WaitingOut left) vs Next
   unfolding scan-says
   step-full a b e q le = ap (scan test bs vs u) one-more ∙ rw (e, q, le-ltb (length vs) 512 le) (ap (stop (at-bound waiting)) (sym one-more))
 
@@ -120,7 +120,7 @@ pub record Parting (ws s : List ℕ) (sought n steps : ℕ) (bs : Substitution) 
   pub second-follows : Follows ws s bs y second
   pub first-smaller : size bs first < size bs t
   pub second-smaller : size bs second < size bs t
-  pub second-falls : size bs second < reach ws s w
+  pub second-falls : size bs second < followed-size ws s w
   pub same : (test : Term → Bool) (vs : List Term) → TestAs sought test → length vs ≡ n → scan test bs vs t steps ≡ scan test bs (second ∷ vs) first left
 
 module _ {ws s : List ℕ} {sought n steps : ℕ} {bs : Substitution} {t : Term} {w left : ℕ} (g : Scanning ws s sought n steps bs t w left) where
@@ -139,7 +139,7 @@ module _ {ws s : List ℕ} {sought n steps : ℕ} {bs : Substitution} {t : Term}
         let o = leaf-at node (walk bs (g .here)) at-q m l in
         g .same test vs is e ∙ step-leaf test bs vs (g .here) left some-left (walk bs (g .here)) refl (o .is) (o .tested is ∙ ne-eqb r sought z)
 
-    pub scan-full : k ≡ 4 → 512 ≤ n → ScanAs sought bs t n steps (PathOut left)
+    pub scan-full : k ≡ 4 → 512 ≤ n → ScanAs sought bs t n steps (WaitingOut left)
     scan-full e le test vs is m =
         let o = pair-at node (walk bs (g .here)) at-q e in
         g .same test vs is m ∙ step-full test bs vs (g .here) left some-left (o .left) (o .right) (o .is) (is .on-pair (o .left) (o .right)) (omega arith)
@@ -168,13 +168,13 @@ module _ {ws s : List ℕ} {sought n steps : ℕ} {bs : Substitution} {t : Term}
   pub first-walked : {v : ℕ} → Stands ws v (walk bs (g .first)) → Follows ws s bs v (walk bs (g .first))
   first-walked h = record { binds = g .first-follows .binds; stands = h }
 
-  pub first-falls : {v w₀ : ℕ} → Stands ws v (walk bs (g .first)) → Follows ws s bs w₀ t → reach ws s v < reach ws s w₀
+  pub first-falls : {v w₀ : ℕ} → Stands ws v (walk bs (g .first)) → Follows ws s bs w₀ t → followed-size ws s v < followed-size ws s w₀
   first-falls h f = omega (arith, g .first-smaller, size-walk bs (g .first-follows .binds .good) (g .first), reach-size (first-walked h), reach-size f)
 
   pub first-says : {v : ℕ} (r : Scanned) → Stands ws v (walk bs (g .first)) → ((bs : Substitution) (t : Term) → Follows ws s bs v t → ScanAs sought bs t (n + 1) left r) → ScanAs sought bs (g .first) (n + 1) left r
   first-says r h says test vs is m = scan-walked test bs (g .first-follows .binds .good) vs (g .first) left ∙ says bs (walk bs (g .first)) (first-walked h) test vs is m
 
-  pub second-less : reach ws s y < reach ws s w
+  pub second-less : followed-size ws s y < followed-size ws s w
   second-less = omega (arith, g .second-falls, reach-size (g .second-follows))
 
   -- what it says, then the rest
@@ -194,7 +194,7 @@ module _ {ws s : List ℕ} {sought n steps : ℕ} {bs : Substitution} {t : Term}
     unfolding scan-says
     first-out z test vs is l = rw z at (after-first test vs is l)
 
-    pub first-full : (m : ℕ) → r ≡ PathOut m → ScanAs sought bs t n steps (PathOut m)
+    pub first-full : (m : ℕ) → r ≡ WaitingOut m → ScanAs sought bs t n steps (WaitingOut m)
     unfolding scan-says
     first-full m z test vs is l = rw z at (after-first test vs is l)
 

@@ -1,6 +1,6 @@
 -- A measure of the code that goes into followed terms, from the lists alone: the size of the resolved term. It is counted with fuel, of which there is enough as the bindings are acyclic.
 use Prim.Native.Nat.{ℕ, zero, suc, _+_, _-_, _≤_, _<_}
-use mathlib.Core.Path.{_≡_, refl, ap, ap₂, subst}
+use mathlib.Core.Path.{_≡_, refl, ap, ap₂, subst, _∙_}
 use mathlib.Core.Option.{Option, none, some}
 use mathlib.Core.List.{List, [], _∷_}
 use native.Mathlib.Omega.{arith}
@@ -9,14 +9,15 @@ use lib.ListN.{length, set, length-set}
 use borrow.Author.Tests.{eq-eqb, ne-eqb}
 use Rattle.rules.specs.Reading.{choose, kind-at}
 use Rattle.rules.specs.Syntax.{Term, var, atom, pair}
-use Rattle.semantics.specs.Shows.{Each}
+use Rattle.rules.specs.Lists.{Each}
 use Rattle.semantics.specs.Substitution.{Substitution, lookup, resolve}
+use Rattle.semantics.specs.Invariant.{Without, Open, Good}
 use Rattle.semantics.proofs.Basics.{compared, same, other}
-use Rattle.semantics.proofs.TermLaws.{Without, term-size}
-use Rattle.semantics.proofs.SubstitutionLaws.{Open, Good, lookup-same, lookup-other, resolve-atom, resolve-pair, resolve-open, resolve-lookup, size}
-use Rattle.engine.specs.Reference.{at, pos-of, beyond, Stands}
-use Rattle.engine.specs.Memory.{Bound, Entry, BindingsIn}
-use Rattle.engine.specs.Walk.{Follows}
+use Rattle.semantics.proofs.SubstitutionLaws.{lookup-same, lookup-other, resolve-atom, resolve-pair, resolve-open, resolve-lookup, size}
+use Rattle.semantics.proofs.TermLaws.{term-size}
+use Rattle.engine.specs.Reference.{at, pos-of, beyond, Stands, positions}
+use Rattle.engine.specs.Memory.{BoundTo, Entry, BindingsIn}
+use Rattle.engine.specs.Walk.{Follows, Resolves}
 use Rattle.engine.proofs.ReferenceLaws.{atom-low, parts, stands-short}
 use Rattle.engine.proofs.TrailLaws.{fresh-few, unbind-in}
 use Rattle.engine.proofs.WalkLaws.{var-of}
@@ -100,7 +101,7 @@ levels-more zero n = let e : 0 + n ≡ n = omega arith in rw e (omega arith)
 levels-more (suc d) n = let e : suc d + n ≡ suc (d + n) = omega arith in rw e (omega (arith, levels-more d n))
 
 abbrev Short : Term → Type 0
-Short t = term-size t < 16384
+Short t = term-size t < positions
 
 fine-all : (bs : Substitution) → Good bs → Each (λ (b : ℕ × Term). Short (b .1)) bs → (t : Term) → Short t → Fine (levels (length bs)) bs t
 unfolding levels
@@ -114,18 +115,18 @@ fine-all (b ∷ bs) g es t lt =
 shorts : (ws s : List ℕ) (bs : Substitution) → 4096 ≤ length s → BindingsIn ws s bs → Each (λ (b : ℕ × Term). Short (b .1)) bs
 shorts ws s [] long h = tt
 shorts ws s (b ∷ bs) long h =
-    let i : Bound ws (at s (b .0)) (b .1) = subst (Entry ws (at s (b .0))) (lookup-same (b .0) (b .1) bs (b .0) (eq-eqb (b .0) (b .0) refl)) (h .words (b .0) (h .fresh .0)) in
+    let i : BoundTo ws (at s (b .0)) (b .1) = subst (Entry ws (at s (b .0))) (lookup-same (b .0) (b .1) bs (b .0) (eq-eqb (b .0) (b .0) refl)) (h .words (b .0) (h .fresh .0)) in
     (stands-short (i .stands), shorts ws (set s (b .0) 0) bs (rw length-set long) (unbind-in ws s b bs long h))
 
 -- the size of the resolved term, read off the words
-unfoldable pub nodes : ℕ → List ℕ → List ℕ → ℕ → ℕ
-nodes zero ws s w = 0
-nodes (suc n) ws s w = choose (eqb (kind-at ws (pos-of w)) 0)
-    (λ _. choose (eqb (at s (var-of ws w)) 0) (λ _. 0) (λ _. nodes n ws s (at s (var-of ws w) - 1)))
-    (λ _. choose (eqb (kind-at ws (pos-of w)) 4) (λ _. suc (nodes n ws s (w + 1) + nodes n ws s (beyond ws w))) (λ _. 0))
+unfoldable pub pair-count : ℕ → List ℕ → List ℕ → ℕ → ℕ
+pair-count zero ws s w = 0
+pair-count (suc n) ws s w = choose (eqb (kind-at ws (pos-of w)) 0)
+    (λ _. choose (eqb (at s (var-of ws w)) 0) (λ _. 0) (λ _. pair-count n ws s (at s (var-of ws w) - 1)))
+    (λ _. choose (eqb (kind-at ws (pos-of w)) 4) (λ _. suc (pair-count n ws s (w + 1) + pair-count n ws s (beyond ws w))) (λ _. 0))
 
-nodes-size : (ws s : List ℕ) (bs : Substitution) → Good bs → BindingsIn ws s bs → (n w : ℕ) (t : Term) → Fine n bs t → Stands ws w t → nodes n ws s w ≡ size bs t
-unfolding nodes
+nodes-size : (ws s : List ℕ) (bs : Substitution) → Good bs → BindingsIn ws s bs → (n w : ℕ) (t : Term) → Fine n bs t → Stands ws w t → pair-count n ws s w ≡ size bs t
+unfolding pair-count
 nodes-size ws s bs g b zero w t f h = absurd f
 nodes-size ws s bs g b (suc n) w (atom a) f h =
     let l = atom-low (at ws (pos-of w)) a (h .reads .0) in
@@ -143,19 +144,19 @@ nodes-size ws s bs g b (suc n) w (var x) f h = go (lookup bs x) refl (b .words x
     e : var-of ws w ≡ x
     e = h .reads .1
 
-    go : (o : Option Term) → lookup bs x ≡ o → Entry ws (at s x) (lookup bs x) → fine-hop o (λ u. Fine n bs u) → ((w : ℕ) (t : Term) → Fine n bs t → Stands ws w t → nodes n ws s w ≡ size bs t) → nodes (suc n) ws s w ≡ size bs (var x)
+    go : (o : Option Term) → lookup bs x ≡ o → Entry ws (at s x) (lookup bs x) → fine-hop o (λ u. Fine n bs u) → ((w : ℕ) (t : Term) → Fine n bs t → Stands ws w t → pair-count n ws s w ≡ size bs t) → pair-count (suc n) ws s w ≡ size bs (var x)
     go none q i f ih =
         let z : at s x ≡ 0 = subst (Entry ws (at s x)) q i in
         rw (eq-eqb (kind-at ws (pos-of w)) 0 k, e, eq-eqb (at s x) 0 z, resolve-open bs x q)
     go (some u) q i f ih =
-        let y : Bound ws (at s x) u = subst (Entry ws (at s x)) q i in
+        let y : BoundTo ws (at s x) u = subst (Entry ws (at s x)) q i in
         rw (eq-eqb (kind-at ws (pos-of w)) 0 k, e, ne-eqb (at s x) 0 (omega (arith, y .some-word)), resolve-lookup bs g x u q) (ih (at s x - 1) u f (y .stands))
 
 -- the measure
-abbrev pub reach : List ℕ → List ℕ → ℕ → ℕ
-reach ws s w = nodes (levels 2048) ws s w
+abbrev pub followed-size : List ℕ → List ℕ → ℕ → ℕ
+followed-size ws s w = pair-count (levels 2048) ws s w
 
-pub reach-size : {ws s : List ℕ} {bs : Substitution} {w : ℕ} {t : Term} → Follows ws s bs w t → reach ws s w ≡ size bs t
+pub reach-size : {ws s : List ℕ} {bs : Substitution} {w : ℕ} {t : Term} → Follows ws s bs w t → followed-size ws s w ≡ size bs t
 reach-size {ws} {s} {bs} {w} {t} f = nodes-size ws s bs (f .binds .good) (f .binds .bindings-in) (levels 2048) w t (enough 2048 (fresh-few bs (f .binds .bindings-in .fresh))) (f .stands)
   where
     enough : (m : ℕ) → length bs ≤ m → Fine (levels m) bs t
@@ -163,3 +164,14 @@ reach-size {ws} {s} {bs} {w} {t} f = nodes-size ws s bs (f .binds .good) (f .bin
         let d : m - length bs + length bs ≡ m = omega arith in
         let l : levels (length bs) ≤ levels m = rw d at (levels-more (m - length bs) (length bs)) in
         fine-le (levels (length bs)) (levels m) bs t l (fine-all bs (f .binds .good) (shorts ws s bs (omega (arith, f .binds .long)) (f .binds .bindings-in)) t (stands-short (f .stands)))
+
+pub resolves-size : {ws s : List ℕ} {w : ℕ} {t : Term} → Resolves ws s w t → followed-size ws s w ≡ term-size t
+resolves-size h = reach-size (h .follows) ∙ ap term-size (h .is)
+
+-- the parts of a pair are smaller when followed, also in a scratch that has changed since, as long as it binds the same
+module _ {ws s s′ : List ℕ} {w v : ℕ} {a b : Term} (h : Resolves ws s w (pair a b)) where
+  pub first-reach : Resolves ws s′ v a → followed-size ws s′ v < followed-size ws s w
+  first-reach i = omega (arith, resolves-size h, resolves-size i)
+
+  pub second-reach : Resolves ws s′ v b → followed-size ws s′ v < followed-size ws s w
+  second-reach i = omega (arith, resolves-size h, resolves-size i)

@@ -4,19 +4,19 @@ use mathlib.Core.Path.{_≡_, refl, sym, ap, subst, _∙_}
 use mathlib.Core.Logic.{_≢_}
 use mathlib.Core.List.{List, [], _∷_, _++_}
 use native.Mathlib.Omega.{arith}
-use lib.ListN.{length, getD, set, length-set, length-append}
+use lib.ListN.{length, set, length-set, length-append}
 use lib.Seq.{sets, length-sets, getD-set-same, getD-set-other}
 use Rattle.rules.specs.Syntax.{Constraint, Goal, Goals, one, more, Program}
 use Rattle.semantics.specs.Substitution.{Substitution}
-use Rattle.semantics.specs.Path.{Task, Path, ChoicePoint, waiting-on}
+use Rattle.semantics.specs.Path.{Path, ChoicePoint, waiting-on}
 use Rattle.rules.specs.Reading.{after}
 use Rattle.engine.specs.Reference.{at, beyond, pos-of, TaskAt, RestAt}
-use Rattle.engine.specs.Memory.{goal-at, next-at, point-at, Registers, saved, BindingsIn, KeptIn, PathIn, Grown, ChoiceIn, Stored, cell, point}
+use Rattle.engine.specs.Memory.{goal-at, next-at, point-at, Registers, saved, BindingsIn, KeptIn, PathIn, Grown, ChoiceIn, Stored, cell, point, layout-words}
 use Rattle.engine.proofs.FrameLaws.{Untouched, frame, Outside, store, path-same, table-same, names-same, kept-same, choices-same}
 use Rattle.engine.specs.Trail.{Trailed, Undone}
 use Rattle.engine.proofs.TrailLaws.{fresh-few}
 use Rattle.engine.proofs.GoalLaws.{Then, task-one, task-more}
-use Rattle.engine.proofs.ClaimLaws.{stays, claim, counted, waited, count, claim-cell, claim-point}
+use Rattle.engine.proofs.ClaimLaws.{counted, waited, count, claim-cell, claim-point}
 
 -- A run of stores
 pub sets-other : (vs l : List ℕ) (i k : ℕ) → ((j : ℕ) → i ≤ j → j < i + length vs → k ≢ j) → at (sets l i vs) k ≡ at l k
@@ -34,10 +34,10 @@ sets-here (a ∷ vs) l i (suc j) lt le =
 
 module _ {P : Program} {ws s : List ℕ} {r : Registers} {n : ℕ} {p : Path} {cs : List ChoicePoint} where
   -- A goal is put to wait: two stores.
-  pub wait-one : (base : ℕ) (g : Goal) (w : ℕ) → r .put < 1024 → TaskAt ws w (base, g) → Stored P ws s r n p cs → Stored P ws (cell s (r .put + 1) w (r .head)) (waited r) n (waiting-on p ((base, g) ∷ p .stack) (suc (p .put))) cs
+  pub wait-one : (base : ℕ) (g : Goal) (w : ℕ) → r .goals < 1024 → TaskAt ws w (base, g) → Stored P ws s r n p cs → Stored P ws (cell s (r .goals + 1) w (r .head)) (waited r) n (waiting-on p ((base, g) ∷ p .stack) (suc (p .put))) cs
   wait-one base g w lt is h =
-      let c : ℕ = r .put + 1 in
-      let long : 12288 ≤ length s = h .roomy .long in
+      let c : ℕ = r .goals + 1 in
+      let long : layout-words ≤ length s = h .roomy .long in
       let few : n ≤ 256 = h .roomy .choices in
       let trail : r .trail ≤ 2048 = h .roomy .trail in
       let k : Stored P ws (cell s c w (r .head)) r n p cs = store (next-at c) (r .head) (omega arith) (store (goal-at c) w (omega arith) h) in
@@ -46,12 +46,12 @@ module _ {P : Program} {ws s : List ℕ} {r : Registers} {n : ℕ} {p : Path} {c
       claim-cell base g lt (rw goal is) next k
 
   -- A choice point is made: eight stores.
-  pub push : (base : ℕ) (rest : Goals) (w to : ℕ) → n < 256 → r .put < 1024 → RestAt ws w to base rest → Stored P ws s r n p cs → Stored P ws (point s n w to r) r (n + 1) p (record { path = p; base = base; rest = rest } ∷ cs)
+  pub push : (base : ℕ) (rest : Goals) (w to : ℕ) → n < 256 → r .goals < 1024 → RestAt ws w to base rest → Stored P ws s r n p cs → Stored P ws (point s n w to r) r (n + 1) p (record { path = p; base = base; rest = rest } ∷ cs)
   push base rest w to lt room is h =
-      let long : 12288 ≤ length s = h .roomy .long in
+      let long : layout-words ≤ length s = h .roomy .long in
       let trail : r .trail ≤ 2048 = h .roomy .trail in
-      let kept : r .kept ≤ 512 = h .roomy .kept in
-      let vs : List ℕ = w ∷ to ∷ r .head ∷ r .trail ∷ r .made ∷ r .put ∷ r .kept ∷ r .calls ∷ [] in
+      let kept : r .constraints ≤ 512 = h .roomy .kept in
+      let vs : List ℕ = w ∷ to ∷ r .head ∷ r .trail ∷ r .variables ∷ r .goals ∷ r .constraints ∷ r .calls ∷ [] in
       let same : (i : ℕ) → ((j : ℕ) → point-at n ≤ j → j < point-at n + 8 → i ≢ j) → at (point s n w to r) i ≡ at s i = λ i out. sets-other vs s (point-at n) i out in
       let u : Untouched s (point s n w to r) r n = record {
         long = rw length-sets (omega arith);
@@ -77,7 +77,7 @@ kept-front ws s n (c ∷ cs) ds k = (k .0, kept-front ws s (suc n) cs ds (k .1))
 pub record Restored (P : Program) (ws s s′ : List ℕ) (m : ℕ) (c : ChoicePoint) (cs : List ChoicePoint) : Type 0 where
   pub stored : Stored P ws s′ (saved s m) m (c .path) cs
   pub rest-at : RestAt ws (at s (point-at m)) (at s (point-at m + 1)) (c .base) (c .rest)
-  pub room : saved s m .put < 1024
+  pub room : saved s m .goals < 1024
   pub above : (i : ℕ) → 2048 ≤ i → at s′ i ≡ at s i
 
 -- the trail as it is taken back
@@ -103,7 +103,7 @@ restore {P} {ws} {s} {r} {p} {c} {cs} m s′ h u =
     let d : ChoiceIn ws s m p c = subst (λ k. ChoiceIn ws s k p c) e (h .choices-in .0) in
     let g : Grown q p = d .grown in
     let i : PathIn ws s (saved s m) q = d .path-in in
-    let long : 12288 ≤ length s = h .roomy .long in
+    let long : layout-words ≤ length s = h .roomy .long in
     let few : m + 1 ≤ 256 = h .roomy .choices in
     let kept-sum : length (p .kept) ≡ length (q .kept) + length (g .later) = ap length (g .kept) ∙ length-append (q .kept) (g .later) in
     record {
@@ -144,8 +144,8 @@ resume-next {P} {ws} {s} {s′} {q} {base} {g} {gs} {cs} m few k =
     let w : ℕ = at s (point-at m) in
     let v : ℕ = beyond ws w in
     let t : Then ws w (at s (point-at m + 1)) base g gs = task-more ws w (at s (point-at m + 1)) base g gs (k .rest-at) in
-    let long : 12288 ≤ length s′ = k .stored .roomy .long in
-    let room : saved s m .put < 1024 = k .room in
+    let long : layout-words ≤ length s′ = k .stored .roomy .long in
+    let room : saved s m .goals < 1024 = k .room in
     let trail : saved s m .trail ≤ 2048 = k .stored .roomy .trail in
     let out : Outside (saved s m) m (point-at m) = omega arith in
     let j : Stored P ws (set s′ (point-at m) v) (saved s m) m q cs = store (point-at m) v out (k .stored) in
@@ -157,13 +157,13 @@ resume-next {P} {ws} {s} {s′} {q} {base} {g} {gs} {cs} m few k =
 
 -- A disjunction is taken. With one alternative it is that goal put to wait (`wait-one`); with more, a choice point is made first.
 abbrev pub disjoined : List ℕ → List ℕ → Registers → ℕ → ℕ → ℕ → List ℕ
-disjoined ws s r n w to = cell (point s n (beyond ws w) to r) (r .put + 1) w (r .head)
+disjoined ws s r n w to = cell (point s n (beyond ws w) to r) (r .goals + 1) w (r .head)
 
 module _ {P : Program} {ws s : List ℕ} {r : Registers} {n : ℕ} {p : Path} {cs : List ChoicePoint} where
-  pub disj-one : (base : ℕ) (g : Goal) (w to : ℕ) → r .put < 1024 → RestAt ws w to base (one g) → Stored P ws s r n p cs → Stored P ws (cell s (r .put + 1) w (r .head)) (waited r) n (waiting-on p ((base, g) ∷ p .stack) (suc (p .put))) cs
+  pub disj-one : (base : ℕ) (g : Goal) (w to : ℕ) → r .goals < 1024 → RestAt ws w to base (one g) → Stored P ws s r n p cs → Stored P ws (cell s (r .goals + 1) w (r .head)) (waited r) n (waiting-on p ((base, g) ∷ p .stack) (suc (p .put))) cs
   disj-one base g w to lt is h = wait-one base g w lt (task-one ws w to base g is .1) h
 
-  pub disj-more : (base : ℕ) (g : Goal) (rest : Goals) (w to : ℕ) → r .put < 1024 → n < 256 → RestAt ws w to base (more g rest) → Stored P ws s r n p cs
+  pub disj-more : (base : ℕ) (g : Goal) (rest : Goals) (w to : ℕ) → r .goals < 1024 → n < 256 → RestAt ws w to base (more g rest) → Stored P ws s r n p cs
       → Stored P ws (disjoined ws s r n w to) (waited r) (n + 1) (waiting-on p ((base, g) ∷ p .stack) (suc (p .put))) (record { path = p; base = base; rest = rest } ∷ cs)
   disj-more base g rest w to lt few is h =
       let t : Then ws w to base g rest = task-more ws w to base g rest is in

@@ -9,14 +9,15 @@ use Rattle.rules.specs.Syntax.{Term, Program}
 use Rattle.semantics.specs.Substitution.{Substitution}
 use Rattle.semantics.specs.Steps.{Outcome}
 use Rattle.semantics.specs.Path.{Path, ChoicePoint, bound-to}
-use Rattle.semantics.proofs.SubstitutionLaws.{Good}
+use Rattle.semantics.specs.Invariant.{Good}
 use Rattle.engine.specs.Reference.{Stands}
 use Rattle.engine.specs.Memory.{Registers, BindingsIn, PathIn, Grown, ChoicesIn, Stored}
 use Rattle.engine.specs.Walk.{Binds}
 use Rattle.engine.specs.Trail.{Apart}
-use Rattle.engine.specs.Unify.{Meets, Went}
-use Rattle.engine.specs.Review.{Kept, ReviewedAs}
-use Rattle.engine.specs.declared.review.Reviewed.{Reviewed}
+use Rattle.engine.specs.Unify.{TwoTerms, Went}
+use Rattle.engine.specs.Review.{ConstraintsHeld, ReviewedAs}
+use Rattle.rules.specs.Settings.{most-words}
+use Rattle.engine.specs.declared.terms.review.Reviewed.{Reviewed}
 use Rattle.engine.proofs.FrameLaws.{kept-same, path-same, choices-same, table-same, names-same}
 use Rattle.engine.proofs.TrailLaws.{fresh-few}
 
@@ -37,17 +38,17 @@ choices-grown ws s p p′ (c ∷ cs) g h = let d = h .0 in (record { grown = gro
 
 -- the registers with so many entries on the trail
 abbrev pub trailed : Registers → ℕ → Registers
-trailed r n = record { head = r .head; trail = n; made = r .made; put = r .put; kept = r .kept; calls = r .calls }
+trailed r n = record { head = r .head; trail = n; variables = r .variables; goals = r .goals; constraints = r .constraints; calls = r .calls }
 
 -- The one law for bindings: whoever binds tells of the bindings, and that the rest is apart.
 pub rebound : {P : Program} {ws s s′ : List ℕ} {r : Registers} {n : ℕ} {p : Path} {cs : List ChoicePoint} (new bs : Substitution) → bs ≡ new ++ p .bindings → Apart s s′ → BindingsIn ws s′ bs
     → Stored P ws s r n p cs → Stored P ws s′ (trailed r (length bs)) n (bound-to p bs) cs
 rebound {P} {ws} {s} {s′} {r} {n} {p} {cs} new bs e a b h =
     let m = h .path-in in
-    let put-is : r .put ≡ p .put = m .put in
-    let put-few : r .put ≤ 1024 = h .roomy .put in
-    let kept-is : r .kept ≡ length (p .kept) = m .kept in
-    let kept-few : r .kept ≤ 512 = h .roomy .kept in
+    let put-is : r .goals ≡ p .put = m .put in
+    let put-few : r .goals ≤ 1024 = h .roomy .put in
+    let kept-is : r .constraints ≡ length (p .kept) = m .kept in
+    let kept-few : r .constraints ≤ 512 = h .roomy .kept in
     let choices-are : n ≡ length cs = h .choices-are in
     let choices-few : n ≤ 256 = h .roomy .choices in
     let q : PathIn ws s′ r p = path-same ws s s′ r p (λ i lo hi. a .middle i (omega arith) (omega arith)) m in
@@ -65,13 +66,13 @@ rebound {P} {ws} {s} {s′} {r} {n} {p} {cs} new bs e a b h =
 
 module _ {P : Program} {ws s : List ℕ} {r : Registers} {n : ℕ} {p : Path} {cs : List ChoicePoint} (h : Stored P ws s r n p cs) where
   -- what `unify` and the reviews ask for
-  pub stored-binds : length ws ≤ 16384 → Good (p .bindings) → Binds ws s (p .bindings)
+  pub stored-binds : length ws ≤ most-words → Good (p .bindings) → Binds ws s (p .bindings)
   stored-binds short good = record { short = short; long = h .roomy .long; bindings-in = h .bindings-in; good = good }
 
-  pub stored-meets : length ws ≤ 16384 → Good (p .bindings) → {a b : ℕ} {u v : Term} → Stands ws a u → Stands ws b v → Meets ws s (p .bindings) a u b v (r .trail)
-  stored-meets short good su sv = record { held = stored-binds short good; left = su; right = sv; trail-is = h .path-in .trail }
+  pub stored-meets : length ws ≤ most-words → Good (p .bindings) → {a b : ℕ} {u v : Term} → Stands ws a u → Stands ws b v → TwoTerms ws s (p .bindings) a u b v (r .trail)
+  stored-meets short good su sv = record { held = stored-binds short good; first = su; second = sv; trail-is = h .path-in .trail }
 
-  pub stored-kept : length ws ≤ 16384 → Good (p .bindings) → Kept ws s (p .bindings) (p .kept) (r .trail) (r .kept)
+  pub stored-kept : length ws ≤ most-words → Good (p .bindings) → ConstraintsHeld ws s (p .bindings) (p .kept) (r .trail) (r .constraints)
   stored-kept short good = record { held = stored-binds short good; kept-in = h .kept-in; kept-is = h .path-in .kept; few = h .roomy .kept; trail-is = h .path-in .trail }
 
   -- what they give back: a path with more bindings, also where unification failed or stopped ..

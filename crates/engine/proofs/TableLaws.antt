@@ -1,7 +1,7 @@
 -- The table of relations: filled from relation to relation, and read.
 use Prim.Native.Nat.{ℕ, zero, suc, _+_, _-_, _≤_, _<_}
 use mathlib.Core.Path.{_≡_, refl, sym, ap, subst, _∙_}
-use mathlib.Core.Option.{Option, Option·some-injective, none, some}
+use mathlib.Core.Option.{Option·some-injective, some}
 use mathlib.Core.List.{List, [], _∷_, _++_}
 use native.Mathlib.Omega.{arith}
 use lib.ListN.{length, set, getElem?, length-set, length-append}
@@ -9,15 +9,15 @@ use lib.Seq.{getD-set-same, getD-set-other}
 use Rattle.rules.specs.Syntax.{Relation, Program}
 use Rattle.rules.specs.Written.{relation-words, written}
 use Rattle.rules.specs.WellFormed.{RelationsGood}
-use Rattle.rules.specs.Inner as inner
 use Rattle.rules.specs.Inner.{PartAt, RelationsAt}
 use Rattle.rules.proofs.Pass.{relations-split, relations-some, relations-none, lookup-none}
 use Rattle.semantics.proofs.Basics.{clash, compared, same, other}
-use Rattle.engine.specs.Reference.{at, pos-of, RelationAt}
-use Rattle.engine.specs.Memory.{table-at, TableIn}
+use Rattle.engine.specs.Reference.{at, pos-of, RelationAt, positions}
+use Rattle.engine.specs.Memory.{table-at, TableIn, layout-words}
 use Rattle.engine.specs.Walk.{NodeAt}
 use Rattle.engine.specs.Trail.{Same}
-use Rattle.engine.specs.Taking.{RelationIs}
+use Rattle.engine.specs.Take.{RelationIs}
+use Rattle.rules.specs.Settings.{most-words}
 use Rattle.engine.proofs.ReadLaws.{Written, written-here, relation-at}
 
 -- the first of written relations
@@ -37,10 +37,10 @@ pub record Filling (ws s₀ s : List ℕ) (P : Program) (pos r : ℕ) : Type 0 w
   pub filled : (k : ℕ) (R : Relation) → k < r → getElem? P k ≡ some R → RelationAt ws (at s (table-at k)) R
   pub few : length P ≤ 256
   pub long : length s ≡ length s₀
-  pub long-enough : 12288 ≤ length s₀
+  pub long-enough : layout-words ≤ length s₀
   pub low : Same s₀ s 0 11776
 
-pub fill-start : (ws s : List ℕ) (P : Program) → RelationsAt ws 0 P → length P ≤ 256 → 12288 ≤ length s → Filling ws s s P 0 0
+pub fill-start : (ws s : List ℕ) (P : Program) → RelationsAt ws 0 P → length P ≤ 256 → layout-words ≤ length s → Filling ws s s P 0 0
 fill-start ws s P h few long = record {
   rest = P;
   there = h;
@@ -54,14 +54,14 @@ fill-start ws s P h few long = record {
 }
 
 -- the place of a relation's word, as a reference
-part-of : (ws : List ℕ) (pos b k p : ℕ) → pos < 16384 → NodeAt ws pos b k p → PartAt ws pos k p
+part-of : (ws : List ℕ) (pos b k p : ℕ) → pos < positions → NodeAt ws pos b k p → PartAt ws pos k p
 part-of ws pos b k p lt i = let e : pos-of pos ≡ pos = omega arith in record { is-kind = rw e at (i .is-kind); is-size = rw e at (i .is-payload) }
 
 -- what the code needs of the next relation
-pub fill-few : (ws s₀ s : List ℕ) (P : Program) (pos r : ℕ) → Filling ws s₀ s P pos r → pos < length ws → (r < 256) × (pos-of pos < length ws) × (length ws ≤ 16384)
+pub fill-few : (ws s₀ s : List ℕ) (P : Program) (pos r : ℕ) → Filling ws s₀ s P pos r → pos < length ws → (r < 256) × (pos-of pos < length ws) × (length ws ≤ most-words)
 fill-few ws s₀ s P pos r f lt =
     let q = relations-some ws pos (f .rest) (f .there) lt in
-    let short : length ws ≤ 16384 = f .there .short in
+    let short : length ws ≤ most-words = f .there .short in
     let many : length (f .rest) ≡ suc (length (q .1)) = ap length (q .2) in
     let e : pos-of pos ≡ pos = omega arith in
     (omega (arith, f .count, f .few), omega arith, short)
@@ -70,7 +70,7 @@ pub fill-step : (ws s₀ s : List ℕ) (P : Program) (pos r b k p : ℕ) → Fil
     → Filling ws s₀ (set s (11776 + r) pos) P (pos + 1 + p) (r + 1) × (pos + 1 + p ≤ length ws)
 fill-step ws s₀ s P pos r b k p f lt i = go (f .rest) (f .there) (f .left-are) (f .count)
   where
-    short : length ws ≤ 16384
+    short : length ws ≤ most-words
     short = f .there .short
 
     go : (Rs : List Relation) → RelationsAt ws pos Rs → ((j : ℕ) → getElem? Rs j ≡ getElem? P (r + j)) → r + length Rs ≡ length P
@@ -79,7 +79,7 @@ fill-step ws s₀ s P pos r b k p f lt i = go (f .rest) (f .there) (f .left-are)
     go (R ∷ Rs) h l c =
         let a = relations-split ws pos k p R Rs h (part-of ws pos b k p (omega arith) i) in
         let few : r < 256 = omega (arith, c, f .few) in
-        let long : 12288 ≤ length s = omega (arith, f .long, f .long-enough) in
+        let long : layout-words ≤ length s = omega (arith, f .long, f .long-enough) in
         let s′ : List ℕ = set s (11776 + r) pos in (
           record {
             rest = Rs;
@@ -120,7 +120,7 @@ module _ (P : Program) (ws s : List ℕ) (n : ℕ) (R : Relation) (table : Table
   pub row-few : n < 256
   row-few = table n R is-R .0
 
-  pub row-place : (at s (11776 + n) + 4 ≤ length ws) × (at s (11776 + n) + 4 ≤ 16384)
+  pub row-place : (at s (11776 + n) + 4 ≤ length ws) × (at s (11776 + n) + 4 ≤ most-words)
   row-place = let h = table n R is-R .1 in (omega (arith, h .inside), omega (arith, h .small))
 
   pub row-inside : (d : ℕ) → d < 4 → pos-of (at s (11776 + n) + d) < length ws

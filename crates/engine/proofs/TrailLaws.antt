@@ -12,7 +12,7 @@ use Rattle.semantics.specs.Substitution.{Substitution, lookup}
 use Rattle.semantics.proofs.Basics.{same, other, compared}
 use Rattle.semantics.proofs.SubstitutionLaws.{lookup-same, lookup-other}
 use Rattle.engine.specs.Reference.{at, Stands}
-use Rattle.engine.specs.Memory.{trail-at, Bound, Entry, Fresh, BindingsIn, bound}
+use Rattle.engine.specs.Memory.{trail-at, BoundTo, Entry, Fresh, BindingsIn, bound}
 use Rattle.engine.specs.Trail.{Same, Trailed, Undone, Apart}
 use Rattle.engine.proofs.FrameLaws.{trail-same}
 
@@ -93,7 +93,7 @@ bind-in ws s bs x w t long lt o st b = record { words = words; trail = (getD-set
     back : w + 1 - 1 ≡ w
     back = omega arith
 
-    entry : Bound ws (w + 1) t
+    entry : BoundTo ws (w + 1) t
     entry = record { some-word = omega arith; stands = rw back st }
 
     words : (y : ℕ) → y < 2048 → Entry ws (at (bound s x w n) y) (lookup ((x, t) ∷ bs) y)

@@ -7,25 +7,24 @@ use native.Mathlib.Omega.{arith}
 use lib.Dec.{eqb}
 use borrow.Author.Tests.{eq-eqb, ne-eqb}
 use Rattle.rules.specs.Syntax.{Program}
-use Rattle.semantics.specs.Steps as steps
-use Rattle.semantics.specs.Steps.{Outcome, done, stop}
-use Rattle.semantics.specs.Path.{Task, Path, ChoicePoint, Taken, leaves, cut, goes, waiting-on, take-goal}
+use Rattle.semantics.specs.Steps.{Outcome, done}
+use Rattle.semantics.specs.Path.{Task, Path, ChoicePoint, Taken, goes, waiting-on}
 use Rattle.semantics.specs.Answer.{answer}
 use Rattle.semantics.specs.Round as round
-use Rattle.semantics.specs.Round.{Tally, Next, going, over, completed, spend, count-cut, back, give, go-on, after, turn}
-use Rattle.engine.specs.Reference.{at, TaskAt}
+use Rattle.semantics.specs.Round.{Tally, Next, spend, backtrack, give, go-on, after, turn}
+use Rattle.engine.specs.Reference.{at}
 use Rattle.engine.specs.Memory.{goal-at, next-at, TasksIn, Stored}
-use Rattle.engine.specs.Taking.{registers, Holds, TookAs, BackAs, stop-of}
-use Rattle.engine.specs.Turning.{tallied, NextAs}
-use Rattle.engine.specs.declared.state.State.{State}
-use Rattle.engine.specs.declared.state.Stop.{Stop}
-use Rattle.engine.specs.declared.state.Way.{Way}
-use Rattle.engine.specs.declared.state.Way.the-variants as way
-use Rattle.engine.specs.declared.state.Resumed.{Resumed}
-use Rattle.engine.specs.declared.state.Resumed.the-variants as resumed
-use Rattle.engine.specs.declared.state.Lead.{Lead}
-use Rattle.engine.specs.declared.state.Lead.the-variants.{Goal, Over, Answer, Stops}
-use Rattle.engine.specs.declared.state.Turned.{Turned}
+use Rattle.engine.specs.Take.{registers, PathHeld, took-says, TookHolds, TookAs, OverAs, ResumedAs, BacktrackAs}
+use Rattle.engine.specs.Turn.{took-goal, tallied, NextAs, TurnedAs}
+use Rattle.engine.specs.declared.search.state.State.{State}
+use Rattle.engine.specs.declared.search.state.Stop.{Stop}
+use Rattle.engine.specs.declared.search.state.Way.{Way}
+use Rattle.engine.specs.declared.search.state.Way.the-variants as way
+use Rattle.engine.specs.declared.search.state.Resumed.{Resumed}
+use Rattle.engine.specs.declared.search.state.Resumed.the-variants as resumed
+use Rattle.engine.specs.declared.search.state.Lead.{Lead}
+use Rattle.engine.specs.declared.search.state.Lead.the-variants.{Goal, Over, Answer, Stops}
+use Rattle.engine.specs.declared.search.state.Turned.{Turned}
 use Rattle.engine.proofs.ClaimLaws.{pop}
 
 -- The path is left.
@@ -35,36 +34,34 @@ tally-left : (t : Tally) (l m c : ℕ) → m ≡ l → tallied t l c ≡ tallied
 tally-left t l m c e = ap (λ x. tallied t x c) (sym e)
 
 module _ (P : Program) (n k : ℕ) (ws s : List ℕ) (st : State) (t : Tally) (o : Outcome Taken) (c : ℕ) where
-  pub left-over : (x : Next) {r : Resumed} → r ≡ resumed.Over → BackAs P ws s st (tallied t (st .left) c) x r → NextAs P n k ws s t o x Over st 0 c
-  unfolding BackAs NextAs
-  left-over (over d) e b = let q : (d ≡ completed (tallied t (st .left) c)) × ((p : Path) × Holds P ws s st p []) = rw e at b in (ap over (q .0), q .1)
-  left-over (going d) e b = absurd (rw e at b)
+  pub left-over : (x : Next) {r : Resumed} → r ≡ resumed.Over → BacktrackAs P ws s st (tallied t (st .steps) c) x r → NextAs P n k ws s t o x Over st 0 c
+  unfolding BacktrackAs NextAs
+  left-over x e b = let q : OverAs P ws s st (tallied t (st .steps) c) x = rw e at b in (q .says, (q .path, q .held))
 
-  pub left-goal : (x : Next) {r : Resumed} {next : State} {w : ℕ} → r ≡ resumed.Goal next w → BackAs P ws s st (tallied t (st .left) c) x r → NextAs P n k ws s t o x Goal next w c
-  unfolding BackAs NextAs
-  left-goal (over d) e b = absurd (rw e at b)
-  left-goal (going d) {next = next} {w = w} e b =
-      let q : TaskAt ws w (d .task) × Holds P ws s next (d .path) (d .choices) × (next .left ≡ st .left) × (d .tally ≡ tallied t (st .left) c) = rw e at b in
-      (d, refl, q .0, q .1, q .3 ∙ tally-left t (st .left) (next .left) c (q .2))
+  pub left-goal : (x : Next) {r : Resumed} {next : State} {w : ℕ} → r ≡ resumed.Goal next w → BacktrackAs P ws s st (tallied t (st .steps) c) x r → NextAs P n k ws s t o x Goal next w c
+  unfolding BacktrackAs NextAs
+  left-goal x {next = next} {w = w} e b =
+      let q : ResumedAs P ws s st (tallied t (st .steps) c) x next w = rw e at b in
+      (record { task = q .task; path = q .path; choices = q .choices; tally = tallied t (st .steps) c }, q .says, q .task-at, q .held, tally-left t (st .steps) (next .steps) c (q .left-is))
 
 -- The path goes on.
 
 -- its first cell is in the area
-pub cell-there : {P : Program} {ws s : List ℕ} (st : State) {p : Path} {cs : List ChoicePoint} → Holds P ws s st p cs → (st .head ≡ 0 → ⊥) → st .head ≤ 1024
+pub cell-there : {P : Program} {ws s : List ℕ} (st : State) {p : Path} {cs : List ChoicePoint} → PathHeld P ws s st p cs → (st .head ≡ 0 → ⊥) → st .head ≤ 1024
 cell-there {P} {ws} {s} st {p} h e = go (p .stack) (h .path-in .tasks)
   where
-    go : (ts : List Task) → TasksIn ws s (st .put) (st .head) ts → st .head ≤ 1024
+    go : (ts : List Task) → TasksIn ws s (st .goals) (st .head) ts → st .head ≤ 1024
     go [] q = absurd (e q)
     go (x ∷ xs) q = omega (arith, q .0 .low, h .roomy .put)
 
-module _ (P : Program) (n k : ℕ) (ws s : List ℕ) (st : State) (p : Path) (cs : List ChoicePoint) (t : Tally) (h : Holds P ws s st p cs) where
+module _ (P : Program) (n k : ℕ) (ws s : List ℕ) (st : State) (p : Path) (cs : List ChoicePoint) (t : Tally) (h : PathHeld P ws s st p cs) where
   abbrev pub goes-to : List ℕ → Lead → State → ℕ → ℕ → Type 0
-  goes-to s′ lead next w c = NextAs P n k ws s′ t (done (goes p cs) (st .left)) (go-on P n k p (p .stack) cs (spend t (st .left))) lead next w c
+  goes-to s′ lead next w c = NextAs P n k ws s′ t (done (goes p cs) (st .steps)) (go-on P n k p (p .stack) cs (spend t (st .steps))) lead next w c
 
   no-stack : st .head ≡ 0 → p .stack ≡ []
   no-stack e = go (p .stack) (h .path-in .tasks)
     where
-      go : (ts : List Task) → TasksIn ws s (st .put) (st .head) ts → ts ≡ []
+      go : (ts : List Task) → TasksIn ws s (st .goals) (st .head) ts → ts ≡ []
       go [] q = refl
       go (x ∷ xs) q = absurd (omega (arith, q .0 .is-cell))
 
@@ -73,109 +70,80 @@ module _ (P : Program) (n k : ℕ) (ws s : List ℕ) (st : State) (p : Path) (cs
   goes-answer e f =
       let calls : p .calls ≡ k = sym (h .path-in .calls) ∙ f in
       let y : eqb (p .calls) k ≡ true = eq-eqb (p .calls) k calls in
-      let x : go-on P n k p [] cs (spend t (st .left)) ≡ give P n k cs (spend t (st .left)) (answer p n (st .left)) = rw y refl in
-      (p, cs, ap (λ ts. go-on P n k p ts cs (spend t (st .left))) (no-stack e) ∙ x, h, no-stack e, calls, refl)
+      let x : go-on P n k p [] cs (spend t (st .steps)) ≡ give P n k cs (spend t (st .steps)) (answer p n (st .steps)) = rw y refl in
+      (p, cs, ap (λ ts. go-on P n k p ts cs (spend t (st .steps))) (no-stack e) ∙ x, h, no-stack e, calls, refl)
 
   pub goes-fewer : (s′ : List ℕ) (r : Turned) → st .head ≡ 0 → (st .calls ≡ k → ⊥)
-      → ((Q : Program) (m j : ℕ) (q : Path) (ds : List ChoicePoint) (u : Tally) (o : Outcome Taken) → Holds Q ws s st q ds → NextAs Q m j ws s′ u o (back ds (tallied u (st .left) 0)) (r .lead) (r .state) (r .goal) (r .cuts)) → goes-to s′ (r .lead) (r .state) (r .goal) (r .cuts)
+      → ((Q : Program) (m j : ℕ) (q : Path) (ds : List ChoicePoint) (u : Tally) (o : Outcome Taken) → PathHeld Q ws s st q ds → TurnedAs Q m j ws s′ u o (backtrack ds (tallied u (st .steps) 0)) r) → goes-to s′ (r .lead) (r .state) (r .goal) (r .cuts)
   goes-fewer s′ r e f left =
       let y : eqb (p .calls) k ≡ false = ne-eqb (p .calls) k (λ q. f (h .path-in .calls ∙ q)) in
-      let x : go-on P n k p [] cs (spend t (st .left)) ≡ back cs (spend t (st .left)) = rw y refl in
-      subst (λ z. NextAs P n k ws s′ t (done (goes p cs) (st .left)) z (r .lead) (r .state) (r .goal) (r .cuts)) (sym (ap (λ ts. go-on P n k p ts cs (spend t (st .left))) (no-stack e) ∙ x)) (left P n k p cs t (done (goes p cs) (st .left)) h)
+      let x : go-on P n k p [] cs (spend t (st .steps)) ≡ backtrack cs (spend t (st .steps)) = rw y refl in
+      subst (λ z. TurnedAs P n k ws s′ t (done (goes p cs) (st .steps)) z r) (sym (ap (λ ts. go-on P n k p ts cs (spend t (st .steps))) (no-stack e) ∙ x)) (left P n k p cs t (done (goes p cs) (st .steps)) h)
 
   pub goes-goal : (st .head ≡ 0 → ⊥)
-      → goes-to s Goal (record { head = at s (next-at (st .head)); trail = st .trail; made = st .made; put = st .put; kept = st .kept; calls = st .calls; choices = st .choices; left = st .left }) (at s (goal-at (st .head))) 0
+      → goes-to s Goal (record { head = at s (next-at (st .head)); trail = st .trail; variables = st .variables; goals = st .goals; constraints = st .constraints; calls = st .calls; choices = st .choices; steps = st .steps }) (at s (goal-at (st .head))) 0
   unfolding NextAs
   goes-goal e = go (p .stack) refl
     where
-      go : (ts : List Task) → p .stack ≡ ts → goes-to s Goal (record { head = at s (next-at (st .head)); trail = st .trail; made = st .made; put = st .put; kept = st .kept; calls = st .calls; choices = st .choices; left = st .left }) (at s (goal-at (st .head))) 0
-      go [] q = absurd (e (subst (TasksIn ws s (st .put) (st .head)) q (h .path-in .tasks)))
+      go : (ts : List Task) → p .stack ≡ ts → goes-to s Goal (record { head = at s (next-at (st .head)); trail = st .trail; variables = st .variables; goals = st .goals; constraints = st .constraints; calls = st .calls; choices = st .choices; steps = st .steps }) (at s (goal-at (st .head))) 0
+      go [] q = absurd (e (subst (TasksIn ws s (st .goals) (st .head)) q (h .path-in .tasks)))
       go (x ∷ xs) q =
           let g : Stored P ws s (registers st) (st .choices) (waiting-on p (x ∷ xs) (p .put)) cs = subst (λ ts. Stored P ws s (registers st) (st .choices) (waiting-on p ts (p .put)) cs) q h in
           let o = pop p x xs g in
-          (record { task = x; path = waiting-on p xs (p .put); choices = cs; tally = spend t (st .left) }, ap (λ ts. go-on P n k p ts cs (spend t (st .left))) q, o .1, o .2, refl)
+          (record { task = x; path = waiting-on p xs (p .put); choices = cs; tally = spend t (st .steps) }, ap (λ ts. go-on P n k p ts cs (spend t (st .steps))) q, o .1, o .2, refl)
 
 -- The turn.
 
-module _ (P : Program) (ws s : List ℕ) (cs : List ChoicePoint) where
-  -- what is held when the goal was taken
-  pub record Holding (st : State) : Type 0 where
-    pub path : Path
-    pub choices : List ChoicePoint
-    pub held : Holds P ws s st path choices
+-- what the state holds when the goal was taken
+module _ {P : Program} {ws s : List ℕ} {cs : List ChoicePoint} {o : Outcome Taken} {y : Way} {st : State} (b : TookAs P ws s cs o y st) where
+  pub held-goes : y ≡ way.Goes → PathHeld P ws s st (b .path) (b .choices)
+  unfolding TookHolds
+  held-goes e = rw e at (b .held)
 
-  pub turn-left : (o : Outcome Taken) {y : Way} {st : State} → y ≡ way.Leaves → TookAs P ws s cs o y st → Holding st
-  unfolding TookAs
-  turn-left (done leaves m) {st = st} e b = let c : (st .left ≡ m) × ((p : Path) × Holds P ws s st p cs) = rw e at b in record { path = c .1 .0; choices = cs; held = c .1 .1 }
-  turn-left (done cut m) e b = absurd (rw e at b)
-  turn-left (done (goes x y) m) e b = absurd (rw e at b)
-  turn-left (stop y m) e b = absurd (rw e at b)
+  pub held-left : y ≡ way.Leaves → PathHeld P ws s st (b .path) cs
+  unfolding TookHolds
+  held-left e = rw e at (b .held)
 
-  pub turn-cut : (o : Outcome Taken) {y : Way} {st : State} → y ≡ way.Cut → TookAs P ws s cs o y st → Holding st
-  unfolding TookAs
-  turn-cut (done cut m) {st = st} e b = let c : (st .left ≡ m) × ((p : Path) × Holds P ws s st p cs) = rw e at b in record { path = c .1 .0; choices = cs; held = c .1 .1 }
-  turn-cut (done leaves m) e b = absurd (rw e at b)
-  turn-cut (done (goes x y) m) e b = absurd (rw e at b)
-  turn-cut (stop y m) e b = absurd (rw e at b)
-
-  pub turn-goes : (o : Outcome Taken) {y : Way} {st : State} → y ≡ way.Goes → TookAs P ws s cs o y st → Holding st
-  unfolding TookAs
-  turn-goes (done (goes x y) m) {st = st} e b = let c : (st .left ≡ m) × Holds P ws s st x y = rw e at b in record { path = x; choices = y; held = c .1 }
-  turn-goes (done leaves m) e b = absurd (rw e at b)
-  turn-goes (done cut m) e b = absurd (rw e at b)
-  turn-goes (stop y m) e b = absurd (rw e at b)
+  pub held-cut : y ≡ way.Cut → PathHeld P ws s st (b .path) cs
+  unfolding TookHolds
+  held-cut e = rw e at (b .held)
 
 module _ (P : Program) (n k : ℕ) (ws s s′ : List ℕ) (state : round.State) (left : ℕ) (same : state .tally .left ≡ left) where
-  abbrev pub took-goal : Outcome Taken
-  took-goal = take-goal k P (state .path) (state .choices) (state .task .0) (state .task .1) left
+  abbrev pub turns-to : Turned → Type 0
+  turns-to r = TurnedAs P n k ws s′ (state .tally) (took-goal k P state left) (turn P n k state) r
 
-  abbrev pub turns-to : Lead → State → ℕ → ℕ → Type 0
-  turns-to lead st w c = NextAs P n k ws s′ (state .tally) took-goal (turn P n k state) lead st w c
+  turn-is : {o : Outcome Taken} → (took-goal k P state left) ≡ o → turn P n k state ≡ after P n k state o
+  turn-is e = ap (λ l. after P n k state (took-goal k P state l)) same ∙ ap (after P n k state) e
 
-  turn-is : (o : Outcome Taken) → took-goal ≡ o → turn P n k state ≡ after P n k state o
-  turn-is o e = ap (λ l. after P n k state (take-goal k P (state .path) (state .choices) (state .task .0) (state .task .1) l)) same ∙ ap (after P n k state) e
+  module _ {y : Way} {st : State} (b : TookAs P ws s (state .choices) (took-goal k P state left) y st) where
+    took-as : {z : Way} → y ≡ z → (took-goal k P state left) ≡ took-says (b .path) (b .choices) z (st .steps)
+    took-as e = b .says ∙ ap (λ z. took-says (b .path) (b .choices) z (st .steps)) e
 
-  -- what taking the goal came to
-  pub turn-stops : (o : Outcome Taken) {y : Way} {why : Stop} {l : ℕ} (st : State) (w c : ℕ) → y ≡ way.Stops why l → TookAs P ws s (state .choices) o y st → took-goal ≡ o → turns-to (Stops why l) st w c
-  unfolding TookAs NextAs
-  turn-stops (stop y m) {why = why} {l = l} st w c e b q =
-      let d : (stop-of why ≡ y) × (l ≡ m) = rw e at b in
-      turn-is (stop y m) q ∙ rw (sym (d .0), sym (d .1)) refl
-  turn-stops (done leaves m) st w c e b q = absurd (rw e at b)
-  turn-stops (done cut m) st w c e b q = absurd (rw e at b)
-  turn-stops (done (goes x y) m) st w c e b q = absurd (rw e at b)
+    pub turn-stops : {why : Stop} {l : ℕ} (w c : ℕ) → y ≡ way.Stops why l → turns-to (record { lead = Stops why l; state = st; goal = w; cuts = c })
+    unfolding took-says NextAs
+    turn-stops w c e = turn-is (took-as e)
 
-  -- and what comes of it
-  module _ (st : State) (said : Turned) where
-    abbrev Leaves-as : ℕ → Type 0
-    Leaves-as c = (Q : Program) (m j : ℕ) (q : Path) (ds : List ChoicePoint) (u : Tally) (o : Outcome Taken) → Holds Q ws s st q ds → NextAs Q m j ws s′ u o (back ds (tallied u (st .left) c)) (said .lead) (said .state) (said .goal) (said .cuts)
+    -- and what comes of it
+    module _ (said : Turned) where
+      abbrev Leaves-as : ℕ → Type 0
+      Leaves-as c = (Q : Program) (m j : ℕ) (q : Path) (ds : List ChoicePoint) (u : Tally) (o : Outcome Taken) → PathHeld Q ws s st q ds → TurnedAs Q m j ws s′ u o (backtrack ds (tallied u (st .steps) c)) said
 
-    pub turn-leaves : (o : Outcome Taken) {y : Way} → y ≡ way.Leaves → TookAs P ws s (state .choices) o y st → took-goal ≡ o → Leaves-as 0 → turns-to (said .lead) (said .state) (said .goal) (said .cuts)
-    unfolding TookAs
-    turn-leaves (done leaves m) e b q f =
-        let c : (st .left ≡ m) × ((p : Path) × Holds P ws s st p (state .choices)) = rw e at b in
-        subst (λ x. NextAs P n k ws s′ (state .tally) took-goal x (said .lead) (said .state) (said .goal) (said .cuts)) (sym (turn-is (done leaves m) q ∙ ap (λ l. back (state .choices) (spend (state .tally) l)) (sym (c .0)))) (f P n k (c .1 .0) (state .choices) (state .tally) took-goal (c .1 .1))
-    turn-leaves (done cut m) e b q f = absurd (rw e at b)
-    turn-leaves (done (goes x y) m) e b q f = absurd (rw e at b)
-    turn-leaves (stop y m) e b q f = absurd (rw e at b)
+      leaves-to : (c : ℕ) → turn P n k state ≡ backtrack (state .choices) (tallied (state .tally) (st .steps) c) → PathHeld P ws s st (b .path) (state .choices) → Leaves-as c → turns-to said
+      leaves-to c q h f = subst (λ x. TurnedAs P n k ws s′ (state .tally) (took-goal k P state left) x said) (sym q) (f P n k (b .path) (state .choices) (state .tally) (took-goal k P state left) h)
 
-    pub turn-cuts : (o : Outcome Taken) {y : Way} → y ≡ way.Cut → TookAs P ws s (state .choices) o y st → took-goal ≡ o → Leaves-as 1 → turns-to (said .lead) (said .state) (said .goal) (said .cuts)
-    unfolding TookAs
-    turn-cuts (done cut m) e b q f =
-        let c : (st .left ≡ m) × ((p : Path) × Holds P ws s st p (state .choices)) = rw e at b in
-        subst (λ x. NextAs P n k ws s′ (state .tally) took-goal x (said .lead) (said .state) (said .goal) (said .cuts)) (sym (turn-is (done cut m) q ∙ ap (λ l. back (state .choices) (count-cut (state .tally) l)) (sym (c .0)))) (f P n k (c .1 .0) (state .choices) (state .tally) took-goal (c .1 .1))
-    turn-cuts (done leaves m) e b q f = absurd (rw e at b)
-    turn-cuts (done (goes x y) m) e b q f = absurd (rw e at b)
-    turn-cuts (stop y m) e b q f = absurd (rw e at b)
+      pub turn-leaves : y ≡ way.Leaves → Leaves-as 0 → turns-to said
+      unfolding took-says
+      turn-leaves e = leaves-to 0 (turn-is (took-as e)) (held-left b e)
 
-    pub turn-onward : (o : Outcome Taken) {y : Way} → y ≡ way.Goes → TookAs P ws s (state .choices) o y st → took-goal ≡ o
-        → ((Q : Program) (m : ℕ) (q : Path) (ds : List ChoicePoint) (u : Tally) → Holds Q ws s st q ds → NextAs Q m k ws s′ u (done (goes q ds) (st .left)) (go-on Q m k q (q .stack) ds (spend u (st .left))) (said .lead) (said .state) (said .goal) (said .cuts))
-        → turns-to (said .lead) (said .state) (said .goal) (said .cuts)
-    unfolding TookAs
-    turn-onward (done (goes x y) m) e b q f =
-        let c : (st .left ≡ m) × Holds P ws s st x y = rw e at b in
-        let is : took-goal ≡ done (goes x y) (st .left) = q ∙ ap (done (goes x y)) (sym (c .0)) in
-        subst (λ z. NextAs P n k ws s′ (state .tally) took-goal z (said .lead) (said .state) (said .goal) (said .cuts)) (sym (turn-is (done (goes x y) (st .left)) is)) (subst (λ z. NextAs P n k ws s′ (state .tally) z (go-on P n k x (x .stack) y (spend (state .tally) (st .left))) (said .lead) (said .state) (said .goal) (said .cuts)) (sym is) (f P n x y (state .tally) (c .1)))
-    turn-onward (done leaves m) e b q f = absurd (rw e at b)
-    turn-onward (done cut m) e b q f = absurd (rw e at b)
-    turn-onward (stop y m) e b q f = absurd (rw e at b)
+      pub turn-cuts : y ≡ way.Cut → Leaves-as 1 → turns-to said
+      unfolding took-says
+      turn-cuts e = leaves-to 1 (turn-is (took-as e)) (held-cut b e)
+
+      pub turn-onward : y ≡ way.Goes
+          → ((Q : Program) (m : ℕ) (q : Path) (ds : List ChoicePoint) (u : Tally) → PathHeld Q ws s st q ds → TurnedAs Q m k ws s′ u (done (goes q ds) (st .steps)) (go-on Q m k q (q .stack) ds (spend u (st .steps))) said)
+          → turns-to said
+      unfolding took-says
+      turn-onward e f =
+          let is : (took-goal k P state left) ≡ done (goes (b .path) (b .choices)) (st .steps) = took-as e in
+          subst (λ z. TurnedAs P n k ws s′ (state .tally) (took-goal k P state left) z said) (sym (turn-is is))
+          (subst (λ z. TurnedAs P n k ws s′ (state .tally) z (go-on P n k (b .path) (b .path .stack) (b .choices) (spend (state .tally) (st .steps))) said) (sym is) (f P n (b .path) (b .choices) (state .tally) (held-goes b e)))

@@ -13,12 +13,12 @@ use Rattle.semantics.specs.Substitution.{Substitution}
 use Rattle.semantics.specs.Steps.{waiting, no-steps, at-bound, done, stop}
 use Rattle.semantics.specs.Unify.{Pairs, unify-next, unify, unify-terms}
 use Rattle.engine.specs.Reference.{at, Stands}
-use Rattle.engine.specs.Memory.{BindingsIn}
+use Rattle.engine.specs.Memory.{BindingsIn, layout-words}
 use Rattle.engine.specs.Trail.{Same}
-use Rattle.engine.specs.Unify.{Meets, MetGoes, MetParts, MetEnds, MetAs, Went, UnifiedAs}
-use Rattle.engine.specs.declared.unify.Met.{Met}
-use Rattle.engine.specs.declared.unify.Met.the-variants as met
-use Rattle.engine.specs.declared.unify.Unified.the-variants as unified
+use Rattle.engine.specs.Unify.{TwoTerms, PairGoes, PairParts, PairEnds, PairUnifiedAs, Went, UnifiedAs}
+use Rattle.engine.specs.declared.terms.unify.PairUnified.{PairUnified}
+use Rattle.engine.specs.declared.terms.unify.PairUnified.the-variants as met
+use Rattle.engine.specs.declared.terms.unify.Unified.the-variants as unified
 use Rattle.engine.proofs.FrameLaws.{bindings-same}
 use Rattle.engine.proofs.TrailLaws.{fresh-few, apart-same, apart-trans}
 
@@ -49,7 +49,7 @@ pub record Unifying (ws s₀ : List ℕ) (bs₀ : Substitution) (u₀ v₀ : Ter
   pub enough : rest ≤ fuel
   pub same : unify-terms bs₀ u₀ v₀ steps ≡ unify fuel (went .next) pairs left right rest
 
-pub unifying-start : {ws s : List ℕ} {bs : Substitution} {a : ℕ} {u : Term} {b : ℕ} {v : Term} {mark steps : ℕ} → Meets ws s bs a u b v mark → Unifying ws s bs u v steps s a b 0 mark steps
+pub unifying-start : {ws s : List ℕ} {bs : Substitution} {a : ℕ} {u : Term} {b : ℕ} {v : Term} {mark steps : ℕ} → TwoTerms ws s bs a u b v mark → Unifying ws s bs u v steps s a b 0 mark steps
 unifying-start {s = s} {bs = bs} {u = u} {v = v} {steps = steps} m = record {
   went = record { next = bs; new = []; grows = refl; held = m .held; trail-is = m .trail-is; apart = apart-same s };
   pairs = [];
@@ -58,16 +58,16 @@ unifying-start {s = s} {bs = bs} {u = u} {v = v} {steps = steps} m = record {
   few = omega arith;
   left = u;
   right = v;
-  stands-left = m .left;
-  stands-right = m .right;
+  stands-left = m .first;
+  stands-right = m .second;
   fuel = steps;
   enough = omega arith;
   same = refl;
 }
 
 module _ {ws s₀ : List ℕ} {bs₀ : Substitution} {u₀ v₀ : Term} {steps : ℕ} {s : List ℕ} {a b top trail rest : ℕ} (g : Unifying ws s₀ bs₀ u₀ v₀ steps s a b top trail rest) where
-  pub unifying-meets : Meets ws s (g .went .next) a (g .left) b (g .right) trail
-  unifying-meets = record { held = g .went .held; left = g .stands-left; right = g .stands-right; trail-is = g .went .trail-is }
+  pub unifying-meets : TwoTerms ws s (g .went .next) a (g .left) b (g .right) trail
+  unifying-meets = record { held = g .went .held; first = g .stands-left; second = g .stands-right; trail-is = g .went .trail-is }
 
   pub unify-out : rest ≡ 0 → UnifiedAs ws s₀ s bs₀ (unify-terms bs₀ u₀ v₀ steps) (unified.StepsOut trail)
   unfolding UnifiedAs
@@ -84,34 +84,34 @@ module _ {ws s₀ : List ℕ} {bs₀ : Substitution} {u₀ v₀ : Term} {steps :
     went-still : {s′ : List ℕ} → s′ ≡ s → Went ws s₀ bs₀ s′ trail
     went-still e = subst (λ z. Went ws s₀ bs₀ z trail) (sym e) (g .went)
 
-    module _ (s′ : List ℕ) (r : Met) (m : MetAs ws s s′ (g .went .next) (g .left) (g .right) rest r) where
+    module _ (s′ : List ℕ) (r : PairUnified) (m : PairUnifiedAs ws s s′ (g .went .next) (g .left) (g .right) rest r) where
       pub met-long : length s′ ≡ length s₀
-      unfolding MetAs
+      unfolding PairUnifiedAs
       met-long = go r m ∙ g .went .apart .long
         where
-          go : (r : Met) → MetAs ws s s′ (g .went .next) (g .left) (g .right) rest r → length s′ ≡ length s
+          go : (r : PairUnified) → PairUnifiedAs ws s s′ (g .went .next) (g .left) (g .right) rest r → length s′ ≡ length s
           go (met.Fails left) m = ap length (m .untouched)
           go (met.Goes n left) m = m .long
           go (met.Parts c d e f) m = ap length (m .untouched)
           go met.StepsOut m = ap length (m .untouched)
-          go (met.PathOut left) m = ap length (m .untouched)
+          go (met.WaitingOut left) m = ap length (m .untouched)
 
       pub unify-failed : {after : ℕ} → r ≡ met.Fails after → UnifiedAs ws s₀ s′ bs₀ (unify-terms bs₀ u₀ v₀ steps) (unified.Failed trail after)
-      unfolding MetAs UnifiedAs
-      unify-failed {after} e = let q : MetEnds s s′ (g .went .next) (g .left) (g .right) rest (done none after) = rw e at m in (went-still (q .untouched), step-same ∙ q .same (g .fuel - 1) (g .pairs))
+      unfolding PairUnifiedAs UnifiedAs
+      unify-failed {after} e = let q : PairEnds s s′ (g .went .next) (g .left) (g .right) rest (done none after) = rw e at m in (went-still (q .untouched), step-same ∙ q .same (g .fuel - 1) (g .pairs))
 
       pub unify-stepped : r ≡ met.StepsOut → UnifiedAs ws s₀ s′ bs₀ (unify-terms bs₀ u₀ v₀ steps) (unified.StepsOut trail)
-      unfolding MetAs UnifiedAs
-      unify-stepped e = let q : MetEnds s s′ (g .went .next) (g .left) (g .right) rest (stop no-steps 0) = rw e at m in (went-still (q .untouched), step-same ∙ q .same (g .fuel - 1) (g .pairs))
+      unfolding PairUnifiedAs UnifiedAs
+      unify-stepped e = let q : PairEnds s s′ (g .went .next) (g .left) (g .right) rest (stop no-steps 0) = rw e at m in (went-still (q .untouched), step-same ∙ q .same (g .fuel - 1) (g .pairs))
 
-      pub unify-pathed : {after : ℕ} → r ≡ met.PathOut after → UnifiedAs ws s₀ s′ bs₀ (unify-terms bs₀ u₀ v₀ steps) (unified.PathOut trail after)
-      unfolding MetAs UnifiedAs
-      unify-pathed {after} e = let q : MetEnds s s′ (g .went .next) (g .left) (g .right) rest (stop (at-bound waiting) after) = rw e at m in (went-still (q .untouched), step-same ∙ q .same (g .fuel - 1) (g .pairs))
+      pub unify-pathed : {after : ℕ} → r ≡ met.WaitingOut after → UnifiedAs ws s₀ s′ bs₀ (unify-terms bs₀ u₀ v₀ steps) (unified.WaitingOut trail after)
+      unfolding PairUnifiedAs UnifiedAs
+      unify-pathed {after} e = let q : PairEnds s s′ (g .went .next) (g .left) (g .right) rest (stop (at-bound waiting) after) = rw e at m in (went-still (q .untouched), step-same ∙ q .same (g .fuel - 1) (g .pairs))
 
       -- the pair is done with
       module _ {n after : ℕ} (e : r ≡ met.Goes n after) where
-        goes : MetGoes ws s s′ (g .went .next) (g .left) (g .right) rest n after
-        unfolding MetAs
+        goes : PairGoes ws s s′ (g .went .next) (g .left) (g .right) rest n after
+        unfolding PairUnifiedAs
         goes = rw e at m
 
         went-on : Went ws s₀ bs₀ s′ n
@@ -164,11 +164,11 @@ module _ {ws s₀ : List ℕ} {bs₀ : Substitution} {u₀ v₀ : Term} {steps :
 
       -- its parts come next
       module _ {c d e f : ℕ} (y : r ≡ met.Parts c d e f) where
-        splits : MetParts ws s s′ (g .went .next) (g .left) (g .right) rest c d e f
-        unfolding MetAs
+        splits : PairParts ws s s′ (g .went .next) (g .left) (g .right) rest c d e f
+        unfolding PairUnifiedAs
         splits = rw y at m
 
-        pub unify-full : 512 ≤ top → UnifiedAs ws s₀ s′ bs₀ (unify-terms bs₀ u₀ v₀ steps) (unified.PathOut trail rest)
+        pub unify-full : 512 ≤ top → UnifiedAs ws s₀ s′ bs₀ (unify-terms bs₀ u₀ v₀ steps) (unified.WaitingOut trail rest)
         unfolding UnifiedAs
         unify-full le = (went-still (splits .untouched), step-same ∙ splits .same (g .fuel - 1) (g .pairs) ∙ rw (le-ltb (length (g .pairs)) 512 (omega (arith, g .top-is))))
 
@@ -184,7 +184,7 @@ module _ {ws s₀ : List ℕ} {bs₀ : Substitution} {u₀ v₀ : Term} {steps :
             bs : Substitution
             bs = g .went .next
 
-            long : 12288 ≤ length s
+            long : layout-words ≤ length s
             long = g .went .held .long
 
             other : (i : ℕ) → (i < j) ⊎ (j + 1 < i) → at s₁ i ≡ at s i

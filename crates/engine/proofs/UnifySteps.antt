@@ -14,20 +14,21 @@ use Rattle.rules.specs.Syntax.{Atom, Term, var, atom, pair}
 use Rattle.semantics.specs.Substitution.{Substitution, walk}
 use Rattle.semantics.specs.Steps.{waiting, no-steps, at-bound, done, stop}
 use Rattle.semantics.specs.Unify.{scan, is-var, bind, Looked, fails, agrees, binds, parts, look, Pairs, unify-pair, unify}
+use Rattle.semantics.specs.Invariant.{Fits}
 use Rattle.semantics.proofs.ScanLaws.{scan-spent}
-use Rattle.semantics.proofs.SubstitutionLaws.{Fits, walk-followed}
-use Rattle.semantics.proofs.UnifyLaws.{Told, look-ok, bind-ok}
+use Rattle.semantics.proofs.SubstitutionLaws.{walk-followed}
+use Rattle.semantics.proofs.UnifyLaws.{LookRight, look-ok, bind-ok}
 use Rattle.semantics.proofs.UnifyLaws as laws
 use Rattle.engine.specs.Reference.{at, AtomIs, base-of, Stands}
 use Rattle.engine.specs.Memory.{trail-at, BindingsIn, bound}
 use Rattle.engine.specs.Walk.{NodeAt, Binds, Follows}
 use Rattle.engine.specs.Scan.{ScanAs, scan-says}
-use Rattle.engine.specs.Unify.{BindsTo, PartsTo, ComparedAs, Meets, MetGoes, MetAs}
-use Rattle.engine.specs.declared.scan.Scanned.{Scanned}
-use Rattle.engine.specs.declared.scan.Scanned.the-variants as scanned
-use Rattle.engine.specs.declared.unify.Compared.{Compared}
-use Rattle.engine.specs.declared.unify.Compared.the-variants as compared
-use Rattle.engine.specs.declared.unify.Met.the-variants as met
+use Rattle.engine.specs.Unify.{BindsTo, PartsTo, ComparedAs, TwoTerms, PairGoes, PairUnifiedAs}
+use Rattle.engine.specs.declared.terms.scan.Scanned.{Scanned}
+use Rattle.engine.specs.declared.terms.scan.Scanned.the-variants as scanned
+use Rattle.engine.specs.declared.terms.unify.Compared.{Compared}
+use Rattle.engine.specs.declared.terms.unify.Compared.the-variants as compared
+use Rattle.engine.specs.declared.terms.unify.PairUnified.the-variants as met
 use Rattle.engine.proofs.ReferenceLaws.{atom-low, atom-test}
 use Rattle.engine.proofs.TrailLaws.{fresh-room, bind-in}
 use Rattle.engine.proofs.ScanSteps.{open-at, atom-at, pair-at, variable-sought}
@@ -117,12 +118,12 @@ module _ {ws : List ℕ} {a bits k p b bits′ k′ p′ : ℕ} (left : NodeAt w
 
 -- One pair met
 
-module _ {ws s : List ℕ} {bs : Substitution} {a : ℕ} {u : Term} {b : ℕ} {v : Term} {trail steps : ℕ} (some-left : 0 < steps) (m : Meets ws s bs a u b v trail) where
-  pub meets-left : Follows ws s bs a u
-  meets-left = record { binds = m .held; stands = m .left }
+module _ {ws s : List ℕ} {bs : Substitution} {a : ℕ} {u : Term} {b : ℕ} {v : Term} {trail steps : ℕ} (some-left : 0 < steps) (m : TwoTerms ws s bs a u b v trail) where
+  pub meets-first : Follows ws s bs a u
+  meets-first = record { binds = m .held; stands = m .first }
 
-  pub meets-right : Follows ws s bs b v
-  meets-right = record { binds = m .held; stands = m .right }
+  pub meets-second : Follows ws s bs b v
+  meets-second = record { binds = m .held; stands = m .second }
 
   one-more : steps ≡ suc (steps - 1)
   one-more = omega arith
@@ -131,16 +132,16 @@ module _ {ws s : List ℕ} {bs : Substitution} {a : ℕ} {u : Term} {b : ℕ} {v
   looked o e fuel vs = ap (unify (suc fuel) bs vs u v) one-more ∙ rw e
 
   module _ {r : Compared} (cmp : ComparedAs ws (look (walk bs u) (walk bs v)) r) where
-    pub meet-fails : r ≡ compared.Fails → MetAs ws s s bs u v steps (met.Fails (steps - 1))
-    unfolding ComparedAs MetAs
+    pub meet-fails : r ≡ compared.Fails → PairUnifiedAs ws s s bs u v steps (met.Fails (steps - 1))
+    unfolding ComparedAs PairUnifiedAs
     meet-fails e = record { untouched = refl; same = looked fails (rw e at cmp) }
 
-    pub meet-agrees : r ≡ compared.Agrees → MetAs ws s s bs u v steps (met.Goes trail (steps - 1))
-    unfolding ComparedAs MetAs
+    pub meet-agrees : r ≡ compared.Agrees → PairUnifiedAs ws s s bs u v steps (met.Goes trail (steps - 1))
+    unfolding ComparedAs PairUnifiedAs
     meet-agrees e = record { next = bs; new = []; grows = refl; held = m .held; trail-is = m .trail-is; long = refl; above = λ i lo. refl; fewer = omega arith; same = looked agrees (rw e at cmp) }
 
-    pub meet-parts : {c d e f : ℕ} → r ≡ compared.Parts c d e f → MetAs ws s s bs u v steps (met.Parts c d e f)
-    unfolding ComparedAs MetAs
+    pub meet-parts : {c d e f : ℕ} → r ≡ compared.Parts c d e f → PairUnifiedAs ws s s bs u v steps (met.Parts c d e f)
+    unfolding ComparedAs PairUnifiedAs
     meet-parts {c} {d} {e} {f} z =
         let q : PartsTo ws (look (walk bs u) (walk bs v)) c d e f = rw z at cmp in
         record {
@@ -167,7 +168,7 @@ module _ {ws s : List ℕ} {bs : Substitution} {a : ℕ} {u : Term} {b : ℕ} {v
       bound-follows = record { binds = m .held; stands = bound-term .stands }
 
       told : laws.Binds 0 bs (walk bs u) (walk bs v) x (bound-term .term)
-      told = subst (Told 0 bs (walk bs u) (walk bs v)) (bound-term .is) (look-ok 0 bs (walk bs u) (walk bs v) (walk-followed bs (m .held .good) u) (walk-followed bs (m .held .good) v))
+      told = subst (LookRight 0 bs (walk bs u) (walk bs v)) (bound-term .is) (look-ok 0 bs (walk bs u) (walk bs v) (walk-followed bs (m .held .good) u) (walk-followed bs (m .held .good) v))
 
       pub bound-room : (x < 2048) × (trail < 2048) × (w < 33570816)
       bound-room = (bound-term .low, omega (arith, m .trail-is, fresh-room bs x (bound-term .term) (m .held .bindings-in .fresh) (bound-term .low) (told .opens)), bound-term .stands .below)
@@ -176,26 +177,26 @@ module _ {ws s : List ℕ} {bs : Substitution} {a : ℕ} {u : Term} {b : ℕ} {v
         scan-is : scan (is-var x) bs [] (bound-term .term) (steps - 1) ≡ scan-says sr [] (λ us t l. scan (is-var x) bs us t l)
         scan-is = check bs (bound-term .term) bound-follows (is-var x) [] (variable-sought x (bound-term .low)) refl
 
-        pub meet-occurs : {rest : ℕ} → sr ≡ scanned.Found rest → MetAs ws s s bs u v steps (met.Fails rest)
-        unfolding MetAs scan-says
+        pub meet-occurs : {rest : ℕ} → sr ≡ scanned.Found rest → PairUnifiedAs ws s s bs u v steps (met.Fails rest)
+        unfolding PairUnifiedAs scan-says
         meet-occurs {rest} y =
             let e : scan (is-var x) bs [] (bound-term .term) (steps - 1) ≡ done true rest = rw y at scan-is in
             record { untouched = refl; same = λ fuel vs. looked (binds x (bound-term .term)) (bound-term .is) fuel vs ∙ rw e }
 
-        pub meet-steps : sr ≡ scanned.StepsOut → MetAs ws s s bs u v steps met.StepsOut
-        unfolding MetAs scan-says
+        pub meet-steps : sr ≡ scanned.StepsOut → PairUnifiedAs ws s s bs u v steps met.StepsOut
+        unfolding PairUnifiedAs scan-says
         meet-steps y =
             let e : scan (is-var x) bs [] (bound-term .term) (steps - 1) ≡ stop no-steps 0 = rw y at scan-is in
             record { untouched = refl; same = λ fuel vs. looked (binds x (bound-term .term)) (bound-term .is) fuel vs ∙ rw e }
 
-        pub meet-path : {rest : ℕ} → sr ≡ scanned.PathOut rest → MetAs ws s s bs u v steps (met.PathOut rest)
-        unfolding MetAs scan-says
+        pub meet-path : {rest : ℕ} → sr ≡ scanned.WaitingOut rest → PairUnifiedAs ws s s bs u v steps (met.WaitingOut rest)
+        unfolding PairUnifiedAs scan-says
         meet-path {rest} y =
             let e : scan (is-var x) bs [] (bound-term .term) (steps - 1) ≡ stop (at-bound waiting) rest = rw y at scan-is in
             record { untouched = refl; same = λ fuel vs. looked (binds x (bound-term .term)) (bound-term .is) fuel vs ∙ rw e }
 
-        pub meet-binds : {rest n : ℕ} {s′ : List ℕ} → sr ≡ scanned.Clear rest → n ≡ trail + 1 → s′ ≡ bound s x w trail → MetAs ws s s′ bs u v steps (met.Goes n rest)
-        unfolding MetAs scan-says
+        pub meet-binds : {rest n : ℕ} {s′ : List ℕ} → sr ≡ scanned.Clear rest → n ≡ trail + 1 → s′ ≡ bound s x w trail → PairUnifiedAs ws s s′ bs u v steps (met.Goes n rest)
+        unfolding PairUnifiedAs scan-says
         meet-binds {rest} {n} {s′} y n-is s-is =
             let t : Term = bound-term .term in
             let e : scan (is-var x) bs [] t (steps - 1) ≡ done false rest = rw y at scan-is in
@@ -206,7 +207,7 @@ module _ {ws s : List ℕ} {bs : Substitution} {a : ℕ} {u : Term} {b : ℕ} {v
             let lt : x < 2048 = bound-term .low in
             let trail-is : trail ≡ length bs = m .trail-is in
             let b₁ : BindingsIn ws (bound s x w trail) ((x, t) ∷ bs) = subst (λ k. BindingsIn ws (bound s x w k) ((x, t) ∷ bs)) (sym trail-is) (bind-in ws s bs x w t (omega (arith, m .held .long)) lt (told .opens) (bound-term .stands) (m .held .bindings-in)) in
-            subst (λ z. MetGoes ws s z bs u v steps n rest) (sym s-is) (record {
+            subst (λ z. PairGoes ws s z bs u v steps n rest) (sym s-is) (record {
               next = (x, t) ∷ bs;
               new = (x, t) ∷ [];
               grows = refl;

@@ -12,10 +12,11 @@ use Rattle.word.specs.Word.{kind, payload}
 use Rattle.rules.specs.Reading.{choose, kind-at}
 use Rattle.rules.specs.Syntax.{Atom, symbol, number, empty, Term, var, atom, pair}
 use Rattle.semantics.specs.Substitution.{Substitution, lookup, walk-for, walk}
+use Rattle.semantics.specs.Invariant.{Open, Good}
 use Rattle.semantics.proofs.Basics.{clash}
-use Rattle.semantics.proofs.SubstitutionLaws.{Open, Followed, Good, walk-for-open, walk-for-some, followed-follow, walk-for-enough, walk-followed, walk-some}
+use Rattle.semantics.proofs.SubstitutionLaws.{Followed, walk-for-open, walk-for-some, followed-follow, walk-for-enough, walk-followed, walk-some}
 use Rattle.engine.specs.Reference.{at, AtomIs, pos-of, base-of, Stands}
-use Rattle.engine.specs.Memory.{Bound, Entry, BindingsIn}
+use Rattle.engine.specs.Memory.{BoundTo, Entry, BindingsIn}
 use Rattle.engine.specs.Walk.{NodeAt, Follows}
 use Rattle.engine.proofs.TrailLaws.{fresh-few}
 
@@ -61,8 +62,8 @@ meet ws s bs w (var x) b h = go (lookup bs x) refl (b .words x (h .in-range))
         let z : at s (var-of ws w) ≡ 0 = rw e (subst (λ o. Entry ws (at s x) o) q i) in
         free k kb (eq-eqb (at s (var-of ws w)) 0 z) z is-var q (λ n. walk-for-open n bs x q)
     go (some u) q i =
-        let y : Bound ws (at s x) u = subst (λ o. Entry ws (at s x) o) q i in
-        let z : Bound ws (at s (var-of ws w)) u = rw e y in
+        let y : BoundTo ws (at s x) u = subst (λ o. Entry ws (at s x) o) q i in
+        let z : BoundTo ws (at s (var-of ws w)) u = rw e y in
         let nz : ¬ (at s (var-of ws w) ≡ 0) = λ f. omega (arith, z .some-word) in
         hop u k kb (ne-eqb (at s (var-of ws w)) 0 nz) nz is-var (rw e q) (z .stands)
 

@@ -1,10 +1,10 @@
 -- For the whole answer: a variable that stands in a term again adds no line; a trial's equations; query terms, which have no reference of their own.
-use Prim.Native.Nat.{ℕ, zero, suc, _+_, _-_, _<_, _≤_}
+use Prim.Native.Nat.{ℕ, zero, suc, _+_, _-_, _<_}
 use mathlib.Core.Path.{_≡_, refl, sym, ap, subst, _∙_}
 use mathlib.Core.Bool.{Bool, true, false, _&&_, _||_, not, false≢true}
 use mathlib.Core.Option.{Option, none, some}
 use mathlib.Core.Logic.{_⊎_, inl, inr}
-use mathlib.Core.List.{List, [], _∷_, _++_, map, reverse}
+use mathlib.Core.List.{List, [], _∷_, _++_, reverse}
 use native.Mathlib.Omega.{arith}
 use lib.Dec.{eqb}
 use lib.ListN.{length, take, length-append}
@@ -13,28 +13,26 @@ use borrow.Author.Tests.{eqb-true}
 use Rattle.rules.specs.Reading.{choose}
 use Rattle.rules.specs.Syntax.{Atom, Term, var, atom, pair}
 use Rattle.rules.specs.Written.{term-words}
-use Rattle.semantics.specs.Substitution.{Substitution, lookup, resolve, walk}
+use Rattle.semantics.specs.Substitution.{Substitution, lookup, resolve}
 use Rattle.semantics.specs.Steps.{done}
 use Rattle.semantics.specs.Unify.{scan, scan-node, never}
-use Rattle.semantics.specs.Shows.{Each}
 use Rattle.semantics.specs.Answer.{member, index, appear, reify, vars-in, Line, lacks, line-in, line-words, any-same, same-words, lacks-each, trial-bindings, resolve-right}
+use Rattle.semantics.specs.Invariant.{Good}
 use Rattle.semantics.proofs.Basics.{one-of}
-use Rattle.semantics.proofs.TermLaws.{term-size}
-use Rattle.semantics.proofs.SubstitutionLaws.{Good, walk-some, walk-open, resolve-lookup, resolve-open}
+use Rattle.semantics.proofs.SubstitutionLaws.{walk-some, walk-open, resolve-lookup, resolve-open}
 use Rattle.engine.specs.Reference.{at, Stands}
-use Rattle.engine.specs.Memory.{Bound, Entry, BindingsIn}
-use Rattle.engine.specs.Walk.{Binds, Follows}
-use Rattle.engine.specs.Follow.{Resolves}
+use Rattle.engine.specs.Memory.{Entry, BindingsIn}
+use Rattle.engine.specs.Walk.{Binds, Follows, Resolves}
 use Rattle.engine.specs.Names.{Named}
-use Rattle.engine.specs.Put.{Placed}
+use Rattle.engine.specs.Term.{Puts, Placed}
 use Rattle.engine.specs.Look.{LookedAs}
-use Rattle.engine.specs.declared.put.Put.{Put}
-use Rattle.engine.specs.declared.look.Looked.{Looked}
-use Rattle.engine.specs.declared.look.Looked.the-variants as looked
-use Rattle.engine.specs.Lines.{Equation, Equations}
-use Rattle.engine.specs.Keep.{Kept}
-use Rattle.engine.specs.Page.{add-line, add-lines, occurrences}
-use Rattle.engine.proofs.PageLaws.{same-self, any-snoc}
+use Rattle.engine.specs.declared.writer.term.Put.{Put}
+use Rattle.engine.specs.declared.writer.look.LookedThrough.{LookedThrough}
+use Rattle.engine.specs.declared.writer.look.LookedThrough.the-variants as looked
+use Rattle.engine.specs.Line.{Equations}
+use Rattle.engine.specs.Trial.{EquationsKept}
+use Rattle.engine.specs.Lines.{add-line, add-lines, occurrences}
+use Rattle.engine.proofs.AddLineLaws.{same-self, any-snoc}
 use Rattle.engine.proofs.LinesLaws.{lacks-append, add-append}
 
 -- a line that would not be added
@@ -115,13 +113,12 @@ trial-new new bs =
     let z : length (new ++ bs) - length bs ≡ length new = omega arith in
     ap (λ k. reverse (take k (new ++ bs))) z ∙ ap reverse (take-append-seam new bs)
 
-pub equations-kept : {ws s : List ℕ} {bs : Substitution} (pairs mark i : ℕ) (cs : List (ℕ × Term)) → Binds ws s bs → Kept ws s mark i cs → Each (λ (t : Term). term-size (resolve bs t) ≤ pairs) (map (λ (b : ℕ × Term). b .1) cs)
-    → Equations ws s pairs mark i (resolve-right bs cs)
-unfolding Kept Equations
-equations-kept pairs mark i [] h k e = tt
-equations-kept {bs = bs} pairs mark i (b ∷ cs) h k e = (
-  record { variable = k .0 .variable; low = k .0 .low; right = record { bindings = bs; term = b .1; follows = record { binds = h; stands = k .0 .right }; is = refl }; small = e .0 },
-  equations-kept pairs mark (i + 1) cs h (k .1) (e .1),
+pub equations-kept : {ws s : List ℕ} {bs : Substitution} (mark i : ℕ) (cs : List (ℕ × Term)) → Binds ws s bs → EquationsKept ws s mark i cs → Equations ws s mark i (resolve-right bs cs)
+unfolding EquationsKept Equations
+equations-kept mark i [] h k = tt
+equations-kept {bs = bs} mark i (b ∷ cs) h k = (
+  record { variable = k .0 .variable; low = k .0 .low; right = record { bindings = bs; term = b .1; follows = record { binds = h; stands = k .0 .right }; is = refl } },
+  equations-kept mark (i + 1) cs h (k .1),
 )
 
 -- a query term: its variable is open, or it is what the variable is bound to
@@ -168,8 +165,8 @@ module _ {ws s : List ℕ} {bs : Substitution} (x : ℕ) (b : Binds ws s bs) (lo
   pub parameter-named : {s′ : List ℕ} {top : ℕ} (names : List ℕ) → at s x ≡ 0 → Named s s′ top (appear names (var x)) → Named s s′ top (appear names (resolve bs (var x)))
   parameter-named {s′} {top} names z h = subst (λ t. Named s s′ top (appear names t)) (sym (stays z)) h
 
-  pub parameter-member : (names : List ℕ) → at s x ≡ 0 → vars-in names (resolve bs (var x)) ≡ true → member x names ≡ true
-  parameter-member names z e = subst (λ t. vars-in names t ≡ true) (stays z) e
+  pub parameter-puts : {o : List ℕ} {start end : ℕ} {names : List ℕ} → at s x ≡ 0 → Puts s o start end names (vars-in names (resolve bs (var x))) → Puts s o start end names (member x names)
+  parameter-puts {o} {start} {end} {names} z g = subst (λ t. Puts s o start end names (vars-in names t)) (stays z) g
 
   pub parameter-put : {o o′ : List ℕ} {start end : ℕ} {write : Bool} {r : Put} (names : List ℕ) → at s x ≡ 0 → Placed o o′ start end write (term-words (var (index x names))) r → Placed o o′ start end write (term-words (reify names (resolve bs (var x)))) r
   parameter-put {o} {o′} {start} {end} {write} {r} names z h = subst (λ t. Placed o o′ start end write (term-words (reify names t)) r) (sym (stays z)) h
@@ -182,21 +179,8 @@ module _ {ws s : List ℕ} {bs : Substitution} (x : ℕ) (b : Binds ws s bs) (lo
   pub parameter-step : (steps : ℕ) → at s x ≡ 0 → ¬ (steps ≡ 0) → LookedAs bs (var x) steps (looked.Done (steps - 1))
   unfolding LookedAs
   parameter-step zero z n = absurd (n refl)
-  parameter-step (suc m) z n =
-      let k : suc m - 1 ≡ m = omega arith in
-      (scan-open bs x m (parameter-open x (b .bindings-in) low z) ∙ ap (λ l. done false l) (sym k), subst (λ t. term-size t + (suc m - 1) < suc m) (sym (stays z)) (omega arith))
+  parameter-step (suc m) z n = let k : suc m - 1 ≡ m = omega arith in scan-open bs x m (parameter-open x (b .bindings-in) low z) ∙ ap (λ l. done false l) (sym k)
 
-  pub parameter-looked : (steps : ℕ) (r : Looked) (n : ¬ (at s x ≡ 0)) → LookedAs bs (parameter-bound x (b .bindings-in) low n .term) steps r → LookedAs bs (var x) steps r
+  pub parameter-looked : (steps : ℕ) (r : LookedThrough) (n : ¬ (at s x ≡ 0)) → LookedAs bs (parameter-bound x (b .bindings-in) low n .term) steps r → LookedAs bs (var x) steps r
   unfolding LookedAs
-  parameter-looked steps r n h = go r h
-    where
-      p : ParameterBound ws s bs x
-      p = parameter-bound x (b .bindings-in) low n
-
-      e : scan never bs [] (var x) steps ≡ scan never bs [] (p .term) steps
-      e = scan-bound never bs (b .good) [] x (p .term) steps (p .is)
-
-      go : (r : Looked) → LookedAs bs (p .term) steps r → LookedAs bs (var x) steps r
-      go (looked.Done l) h = (e ∙ h .0, subst (λ t. term-size t + l < steps) (sym (resolve-lookup bs (b .good) x (p .term) (p .is))) (h .1))
-      go looked.StepsOut h = e ∙ h
-      go (looked.PathOut l) h = e ∙ h
+  parameter-looked steps r n h = let p = parameter-bound x (b .bindings-in) low n in scan-bound never bs (b .good) [] x (p .term) steps (p .is) ∙ h

@@ -1,45 +1,93 @@
--- Lines of an answer, as the writer holds them: a trial's equations stay in its own entries of the trail (right sides) and in the pairs' area (variables).
-use Prim.Native.Nat.{ℕ, suc, _+_, _/_, _%_, _≤_, _<_}
+-- The lines of an answer under way: which of them stay, and where they stand in the output.
+use Prim.Native.Nat.{ℕ, _+_, _≤_, _<_}
 use mathlib.Core.Path.{_≡_}
+use mathlib.Core.Bool.{true}
 use mathlib.Core.List.{List, [], _∷_, _++_}
-use lib.Dec.{eqb}
 use lib.ListN.{length}
 use Rattle.rules.specs.Reading.{choose}
-use Rattle.rules.specs.Syntax.{Atom, Term, Sort}
-use Rattle.rules.specs.Written.{atom-word, sort-kind, goal-words}
-use Rattle.semantics.specs.Answer.{index, reify, Line, is-sort, lacks, not-all, differ-goal}
-use Rattle.semantics.proofs.TermLaws.{term-size}
-use Rattle.engine.specs.Reference.{at}
-use Rattle.engine.specs.Follow.{Resolves}
-use Rattle.engine.specs.declared.line.Listed.{Listed}
-use Rattle.engine.specs.declared.line.Listed.the-variants.{Typed, Lacks, Differ}
+use Rattle.rules.specs.Syntax.{Atom, Term, var, atom, pair, Sort}
+use Rattle.rules.specs.Written.{part, atom-word, sort-kind}
+use Rattle.rules.specs.Inner.{Spells}
+use Rattle.semantics.specs.Answer.{Line, line-words, stays}
+use Rattle.engine.specs.Walk.{Resolves}
+use Rattle.engine.specs.Names.{NamesGiven}
+use Rattle.engine.specs.Term.{Room, Touched, Laid}
 
--- the variable of equation i: two to a word
-unfoldable pub half : List ℕ → ℕ → ℕ
-half s i = choose (eqb (i % 2) 0) (λ _. at s (10752 + i / 2) % 65536) (λ _. at s (10752 + i / 2) / 65536)
+-- words one after the other
+unfoldable pub joined : List (List ℕ) → List ℕ
+joined [] = []
+joined (w ∷ ws) = w ++ joined ws
 
--- equation i of those above the mark, its right side followed
-pub record Equation (ws s : List ℕ) (pairs mark i : ℕ) (b : ℕ × Term) : Type 0 where
-  pub variable : half s i ≡ b .0
-  pub low : b .0 < 2048
-  pub right : Resolves ws s (at s (2048 + mark + i)) (b .1)
-  pub small : term-size (b .1) ≤ pairs
+-- the words of the lines that stay, after one line more
+unfoldable pub add-line : List ℕ → List (List ℕ) → Line → List (List ℕ)
+add-line names done l = choose (stays names done l) (λ _. done ++ (line-words names l ∷ [])) (λ _. done)
 
--- from equation i on
-unfoldable pub Equations : List ℕ → List ℕ → ℕ → ℕ → ℕ → List (ℕ × Term) → Type 0
-Equations ws s pairs mark i [] = Unit {0}
-Equations ws s pairs mark i (b ∷ cs) = Equation ws s pairs mark i b × Equations ws s pairs mark (i + 1) cs
+-- and after several
+unfoldable pub add-lines : List ℕ → List (List ℕ) → List Line → List (List ℕ)
+add-lines names done [] = done
+add-lines names done (l ∷ ls) = add-lines names (add-line names done l) ls
 
--- the words of an equation, with names
-unfoldable pub equation-words : List ℕ → ℕ × Term → List ℕ
-equation-words names b = goal-words (differ-goal (index (b .0) names, reify names (b .1)))
+-- a line's first word counts the rest
+pub record Whole (w : List ℕ) : Type 0 where
+  pub kind : ℕ
+  pub rest : List ℕ
+  pub is : w ≡ part kind rest
+  pub short : length rest < 268435456
 
-unfoldable pub equations-words : List ℕ → List (ℕ × Term) → List ℕ
-equations-words names [] = []
-equations-words names (b ∷ cs) = equation-words names b ++ equations-words names cs
+unfoldable pub Wholes : List (List ℕ) → Type 0
+Wholes [] = Unit {0}
+Wholes (w ∷ ws) = Whole w × Wholes ws
 
--- what the code's line says
-pub data LineAs (ws s : List ℕ) (pairs : ℕ) : Listed → Line → Type 0 where
-  as-sort : {k x : ℕ} (sort : Sort) → k ≡ sort-kind sort → x < 2048 → LineAs ws s pairs (Typed k x) (is-sort sort x)
-  as-lacks : {tag x : ℕ} (a : Atom) → tag ≡ atom-word a → x < 2048 → LineAs ws s pairs (Lacks tag x) (lacks a x)
-  as-differ : {mark count : ℕ} (b : ℕ × Term) (cs : List (ℕ × Term)) → Equations ws s pairs mark 0 (b ∷ cs) → count ≡ suc (length cs) → mark + count ≤ 2048 → LineAs ws s pairs (Differ mark count) (not-all (b ∷ cs))
+-- words stand from `place` up to `to`
+pub record Stretch (o : List ℕ) (place to : ℕ) (w : List ℕ) : Type 0 where
+  pub words : Spells o place w
+  pub ends : to ≡ place + length w
+
+-- and so do lines
+pub record Rows (o : List ℕ) (place to : ℕ) (ws : List (List ℕ)) : Type 0 where
+  pub stretch : Stretch o place to (joined ws)
+  pub whole : Wholes ws
+
+-- The answer so far, `head` and then lines from `first` on: it stands from `begin` up to `place`, or it does not fit and `place` is beyond `end`.
+pub record AnswerSoFar (o₀ o : List ℕ) (begin first end place : ℕ) (head : List ℕ) (lines : List (List ℕ)) : Type 0 where
+  pub stands : place ≤ end → Laid o₀ o begin end true (head ++ joined lines) place
+  pub whole : place ≤ end → Wholes lines
+  pub begins : place ≤ end → first ≡ begin + length head
+  pub over : end < place → end < begin + length (head ++ joined lines)
+  pub touched : Touched o₀ o begin end
+
+-- an answer under way, with the names of its query terms' variables
+pub record Writing (s out : List ℕ) (first end place : ℕ) : Type 0 where
+  pub before : List ℕ
+  pub begin : ℕ
+  pub head : List ℕ
+  pub lines : List (List ℕ)
+  pub names : List ℕ
+  pub page : AnswerSoFar before out begin first end place head lines
+  pub given : NamesGiven s names
+  pub room : Room out end
+
+-- and with these lines more
+abbrev pub Extended : {s out : List ℕ} {first end place : ℕ} → Writing s out first end place → List ℕ → ℕ → List Line → Type 0
+Extended {first = first} {end = end} g out′ place′ ls = AnswerSoFar (g .before) out′ (g .begin) first end place′ (g .head) (add-lines (g .names) (g .lines) ls)
+
+-- the variables of a term where they stand, also those that stand there again
+unfoldable pub occurrences : Term → List ℕ
+occurrences (var x) = x ∷ []
+occurrences (atom a) = []
+occurrences (pair s t) = occurrences s ++ occurrences t
+
+-- an absence or a type whose lines are to be added
+pub record AddsAbsent (ws s out : List ℕ) (tag w first end place : ℕ) : Type 0 where
+  pub writing : Writing s out first end place
+  pub tag-of : Atom
+  pub is-tag : tag ≡ atom-word tag-of
+  pub term : Term
+  pub here : Resolves ws s w term
+
+pub record AddsTyped (ws s out : List ℕ) (kind w first end place : ℕ) : Type 0 where
+  pub writing : Writing s out first end place
+  pub sort : Sort
+  pub is-kind : kind ≡ sort-kind sort
+  pub term : Term
+  pub here : Resolves ws s w term

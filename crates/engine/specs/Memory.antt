@@ -1,5 +1,5 @@
 -- How a program's words, the lent scratch and a few registers hold a path and its choice points: the memory layout, and the relation that every private function keeps.
-use Prim.Native.Nat.{ℕ, zero, suc, _+_, _*_, _-_, _≤_, _<_}
+use Prim.Native.Nat.{ℕ, suc, _+_, _*_, _-_, _≤_, _<_}
 use mathlib.Core.Path.{_≡_}
 use mathlib.Core.Option.{Option, none, some}
 use mathlib.Core.List.{List, [], _∷_, _++_}
@@ -10,11 +10,15 @@ use Rattle.semantics.specs.Substitution.{Substitution, lookup}
 use Rattle.semantics.specs.Path.{Task, Path, ChoicePoint}
 use Rattle.engine.specs.Reference.{at, Stands, TaskAt, RestAt, KeepsAt, RelationAt}
 
+-- how many words of the scratch the layout may use: it ends at 12,032, and the words up to here are free
+abbrev pub layout-words : ℕ
+layout-words = 12288
+
 -- Places. Bindings 0, trail 2048, names 4096, cells 6144, choice points 8192, constraints 10240, pairs 10752, relations 11776, end 12032.
 abbrev pub trail-at : ℕ → ℕ
 trail-at n = 2048 + n
 
--- a cell is known by its number plus 1, and 0 is no cell
+-- cells are numbered from 1 on, and 0 is no cell
 abbrev pub goal-at : ℕ → ℕ
 goal-at h = 6142 + 2 * h
 
@@ -34,22 +38,22 @@ table-at r = 11776 + r
 pub record Registers : Type 0 where
   pub head : ℕ
   pub trail : ℕ
-  pub made : ℕ
-  pub put : ℕ
-  pub kept : ℕ
+  pub variables : ℕ
+  pub goals : ℕ
+  pub constraints : ℕ
   pub calls : ℕ
 
 abbrev pub saved : List ℕ → ℕ → Registers
-saved s n = record { head = at s (point-at n + 2); trail = at s (point-at n + 3); made = at s (point-at n + 4); put = at s (point-at n + 5); kept = at s (point-at n + 6); calls = at s (point-at n + 7) }
+saved s n = record { head = at s (point-at n + 2); trail = at s (point-at n + 3); variables = at s (point-at n + 4); goals = at s (point-at n + 5); constraints = at s (point-at n + 6); calls = at s (point-at n + 7) }
 
 -- Bindings. The word of a variable says what it is bound to; every word below 2048 is right, of variables not made too.
-pub record Bound (ws : List ℕ) (w : ℕ) (t : Term) : Type 0 where
+pub record BoundTo (ws : List ℕ) (w : ℕ) (t : Term) : Type 0 where
   pub some-word : 0 < w
   pub stands : Stands ws (w - 1) t
 
 abbrev pub Entry : List ℕ → ℕ → Option Term → Type 0
 Entry ws w none = w ≡ 0
-Entry ws w (some t) = Bound ws w t
+Entry ws w (some t) = BoundTo ws w t
 
 -- the trail names the variables in order
 abbrev pub TrailIn : List ℕ → Substitution → Type 0
@@ -66,7 +70,7 @@ pub record BindingsIn (ws s : List ℕ) (bs : Substitution) : Type 0 where
   pub trail : TrailIn s bs
   pub fresh : Fresh bs
 
--- Waiting goals: linked cells, all of them below `put`.
+-- Waiting goals: linked cells, as many as goals were put to wait.
 pub record CellIn (ws s : List ℕ) (put h : ℕ) (task : Task) : Type 0 where
   pub is-cell : 0 < h
   pub low : h ≤ put
@@ -83,11 +87,11 @@ KeptIn ws s n (c ∷ cs) = KeepsAt ws (at s (kept-at n)) c × KeptIn ws s (suc n
 
 -- What the registers say of a path, also those that a choice point saved.
 pub record PathIn (ws s : List ℕ) (r : Registers) (p : Path) : Type 0 where
-  pub tasks : TasksIn ws s (r .put) (r .head) (p .stack)
+  pub tasks : TasksIn ws s (r .goals) (r .head) (p .stack)
   pub trail : r .trail ≡ length (p .bindings)
-  pub made : r .made ≡ p .made
-  pub put : r .put ≡ p .put
-  pub kept : r .kept ≡ length (p .kept)
+  pub made : r .variables ≡ p .made
+  pub put : r .goals ≡ p .put
+  pub kept : r .constraints ≡ length (p .kept)
   pub calls : r .calls ≡ p .calls
 
 -- p has come from q since: a claim about paths, not about memory
@@ -120,12 +124,12 @@ Nameless s = (i : ℕ) → 4096 ≤ i → i < 6144 → at s i ≡ 0
 
 -- the areas do not run over
 pub record Roomy (s : List ℕ) (r : Registers) (n : ℕ) : Type 0 where
-  pub long : 12288 ≤ length s
+  pub long : layout-words ≤ length s
   pub trail : r .trail ≤ 2048
-  pub made : r .made ≤ 2048
-  pub put : r .put ≤ 1024
+  pub made : r .variables ≤ 2048
+  pub put : r .goals ≤ 1024
   pub choices : n ≤ 256
-  pub kept : r .kept ≤ 512
+  pub kept : r .constraints ≤ 512
 
 -- The relation: words, scratch, registers and number of choice points hold the program, the path and the choices.
 pub record Stored (P : Program) (ws s : List ℕ) (r : Registers) (n : ℕ) (p : Path) (cs : List ChoicePoint) : Type 0 where
@@ -144,15 +148,10 @@ pub record Stored (P : Program) (ws s : List ℕ) (r : Registers) (n : ℕ) (p :
 abbrev pub bound : List ℕ → ℕ → ℕ → ℕ → List ℕ
 bound s x w n = set (set s x (w + 1)) (trail-at n) x
 
--- k entries above m are taken off the trail, the last first
-unfoldable pub unwound : ℕ → ℕ → List ℕ → List ℕ
-unwound zero m s = s
-unwound (suc k) m s = unwound k m (set s (at s (trail-at (m + k))) 0)
-
 -- a goal is put to wait in cell h
 abbrev pub cell : List ℕ → ℕ → ℕ → ℕ → List ℕ
 cell s h w next = set (set s (goal-at h) w) (next-at h) next
 
 -- a choice point is written
 abbrev pub point : List ℕ → ℕ → ℕ → ℕ → Registers → List ℕ
-point s n w to r = sets s (point-at n) (w ∷ to ∷ r .head ∷ r .trail ∷ r .made ∷ r .put ∷ r .kept ∷ r .calls ∷ [])
+point s n w to r = sets s (point-at n) (w ∷ to ∷ r .head ∷ r .trail ∷ r .variables ∷ r .goals ∷ r .constraints ∷ r .calls ∷ [])

@@ -8,6 +8,7 @@ use lib.ListN.{length}
 use Rattle.rules.specs.Reading.{choose}
 use Rattle.semantics.specs.Answer.{member}
 use Rattle.engine.specs.Reference.{at}
+use Rattle.engine.specs.Memory.{layout-words}
 
 -- `top` after one name more
 abbrev pub next-top : ℕ → ℕ → ℕ
@@ -33,6 +34,12 @@ pub record Names (s : List ℕ) (top : ℕ) (names : List ℕ) : Type 0 where
   pub top-is : top ≡ top-from 0 names
   pub words : (y : ℕ) → y < 2048 → at s (4096 + y) ≡ word-from 0 names y
   pub distinct : Distinct names
+
+-- names are given, in a scratch that is long enough
+pub record NamesGiven (s : List ℕ) (names : List ℕ) : Type 0 where
+  pub long : layout-words ≤ length s
+  pub top : ℕ
+  pub named : Names s top names
 
 -- these are the names now, and nothing but names was written
 pub record Named (s s′ : List ℕ) (top : ℕ) (names : List ℕ) : Type 0 where

@@ -1,26 +1,16 @@
--- What the loops over a query's parameters promise, and the page that an answer begins with.
-use Prim.Native.Nat.{ℕ, _+_, _≤_, _<_}
+-- What the loops over a query's parameters promise.
+use Prim.Native.Nat.{ℕ, _<_}
 use mathlib.Core.Path.{_≡_}
 use mathlib.Core.Bool.{true}
 use mathlib.Core.List.{List, map}
 use Rattle.rules.specs.Syntax.{var}
-use Rattle.rules.specs.Written.{part, terms-words}
+use Rattle.rules.specs.Written.{terms-words}
 use Rattle.semantics.specs.Substitution.{Substitution, resolve}
 use Rattle.semantics.specs.Answer.{vars-in, reify, query-terms}
-use Rattle.semantics.proofs.TermLaws.{term-size}
 use Rattle.engine.specs.Walk.{Binds}
-use Rattle.engine.specs.Names.{Names}
-use Rattle.engine.specs.Put.{Laid}
-use Rattle.engine.specs.declared.constraints.Added.{Added}
-use Rattle.engine.specs.declared.constraints.Added.the-variants as added
-use Rattle.engine.specs.declared.answer.Answered.{Answered}
-use Rattle.engine.specs.declared.answer.Answered.the-variants as answered
+use Rattle.engine.specs.Names.{NamesGiven}
 
--- the query terms have few pairs
-abbrev pub Small : Substitution → ℕ → ℕ → Type 0
-Small bs n pairs = (x : ℕ) → x < n → term-size (resolve bs (var x)) ≤ pairs
-
--- and their open variables have names
+-- the open variables of the query terms have names
 abbrev pub Known : Substitution → List ℕ → ℕ → Type 0
 Known bs names n = (x : ℕ) → x < n → vars-in names (resolve bs (var x)) ≡ true
 
@@ -29,30 +19,7 @@ abbrev pub query-words : Substitution → List ℕ → ℕ → ℕ → List ℕ
 query-words bs names i n = terms-words (map (reify names) (query-terms bs i n))
 
 -- query terms that are to be put
-pub record Query (ws s : List ℕ) (n pairs : ℕ) (bs : Substitution) (names : List ℕ) : Type 0 where
-  pub top : ℕ
+pub record Query (ws s : List ℕ) (n : ℕ) (bs : Substitution) (names : List ℕ) : Type 0 where
   pub binds : Binds ws s bs
-  pub named : Names s top names
+  pub given : NamesGiven s names
   pub known : Known bs names n
-  pub small : Small bs n pairs
-
--- the words of an answer but its own, from the word after `start` on, if they fit
-unfoldable pub Ends : List ℕ → List ℕ → ℕ → ℕ → List ℕ → Added → Type 0
-Ends o₀ o start end v (added.Done place left) = place ≤ end → Laid o₀ o (start + 1) end true v place
-Ends o₀ o start end v added.StepsOut = Unit {0}
-Ends o₀ o start end v (added.PathOut left) = Unit {0}
-
--- with its own word, where all of it fits
-unfoldable pub EndedAs : List ℕ → List ℕ → List ℕ → ℕ → ℕ → List ℕ → Added → Answered → Type 0
-EndedAs o₀ o o′ start end v (added.Done place left) (answered.Written n l) = (place ≤ end) × (l ≡ left) × Laid o₀ o′ start end true (part 15 v) n
-EndedAs o₀ o o′ start end v (added.Done place left) (answered.Full l) = (end < place) × (l ≡ left) × (o′ ≡ o)
-EndedAs o₀ o o′ start end v (added.Done place left) answered.StepsOut = ⊥
-EndedAs o₀ o o′ start end v (added.Done place left) (answered.PathOut l) = ⊥
-EndedAs o₀ o o′ start end v added.StepsOut (answered.Written n l) = ⊥
-EndedAs o₀ o o′ start end v added.StepsOut (answered.Full l) = ⊥
-EndedAs o₀ o o′ start end v added.StepsOut answered.StepsOut = o′ ≡ o
-EndedAs o₀ o o′ start end v added.StepsOut (answered.PathOut l) = ⊥
-EndedAs o₀ o o′ start end v (added.PathOut left) (answered.Written n l) = ⊥
-EndedAs o₀ o o′ start end v (added.PathOut left) (answered.Full l) = ⊥
-EndedAs o₀ o o′ start end v (added.PathOut left) answered.StepsOut = ⊥
-EndedAs o₀ o o′ start end v (added.PathOut left) (answered.PathOut l) = (l ≡ left) × (o′ ≡ o)

@@ -9,6 +9,7 @@ use Rattle.rules.specs.Reading.{kind-at, payload-at, after}
 use Rattle.rules.specs.Written.{sort-kind}
 use Rattle.rules.specs.Syntax.{Atom, symbol, number, empty, Term, var, atom, pair, Constraint, differ, typed, absento, Goal, Goals, equal, constrain, conj, disj, call, one, more, Relation}
 use Rattle.semantics.specs.Path.{Task}
+use Rattle.rules.specs.Settings.{most-words}
 
 -- the word at a place of a list
 abbrev pub at : List ℕ → ℕ → ℕ
@@ -59,17 +60,21 @@ pub record RelationAt (ws : List ℕ) (pos : ℕ) (R : Relation) : Type 0 where
   pub vars : Is (at ws (pos + 2)) 2 (R .vars)
   pub body : GoalAt ws (pos + 3) (R .body)
   pub inside : after ws (pos + 3) ≤ length ws
-  pub small : after ws (pos + 3) ≤ 16384
+  pub small : after ws (pos + 3) ≤ most-words
+
+-- how many positions a reference can have: those of the longest program
+abbrev pub positions : ℕ
+positions = 16384
 
 -- A reference: a position below 16384 and a base up to 2048. The base 2048 is met: a relation with no variables, called when 2048 are made.
 abbrev pub refer : ℕ → ℕ → ℕ
-refer pos base = pos + 16384 * base
+refer pos base = pos + positions * base
 
 abbrev pub pos-of : ℕ → ℕ
-pos-of w = w % 16384
+pos-of w = w % positions
 
 abbrev pub base-of : ℕ → ℕ
-base-of w = w / 16384
+base-of w = w / positions
 
 -- past a part with its payload's words: references of one base are as far apart as their positions
 abbrev pub beyond : List ℕ → ℕ → ℕ
@@ -86,7 +91,7 @@ pub record Stands (ws : List ℕ) (w : ℕ) (t : Term) : Type 0 where
   pub to : ℕ
   pub reads : TermAt ws (base-of w) (pos-of w) to t
   pub inside : to ≤ length ws
-  pub small : to ≤ 16384
+  pub small : to ≤ most-words
   pub below : w < 33570816
   pub in-range : Vars (λ x. x < 2048) t
 
@@ -95,7 +100,7 @@ pub record TaskAt (ws : List ℕ) (w : ℕ) (task : Task) : Type 0 where
   pub base : base-of w ≡ task .0
   pub goal : GoalAt ws (pos-of w) (task .1)
   pub inside : after ws (pos-of w) ≤ length ws
-  pub small : after ws (pos-of w) ≤ 16384
+  pub small : after ws (pos-of w) ≤ most-words
   pub below : w < 33570816
 
 -- a reference to the first of several goals, which end at `to`
@@ -103,7 +108,7 @@ pub record RestAt (ws : List ℕ) (w to base : ℕ) (gs : Goals) : Type 0 where
   pub is-base : base-of w ≡ base
   pub goals : GoalsAt ws (pos-of w) to gs
   pub inside : to ≤ length ws
-  pub small : to ≤ 16384
+  pub small : to ≤ most-words
   pub below : w < 33570816
 
 abbrev pub VarsC : (ℕ → Type 0) → Constraint → Type 0
@@ -115,6 +120,6 @@ VarsC Q (absento a t) = Vars Q t
 pub record KeepsAt (ws : List ℕ) (w : ℕ) (c : Constraint) : Type 0 where
   pub reads : ConstraintAt ws (base-of w) (pos-of w) c
   pub inside : after ws (pos-of w) ≤ length ws
-  pub small : after ws (pos-of w) ≤ 16384
+  pub small : after ws (pos-of w) ≤ most-words
   pub below : w < 33570816
   pub in-range : VarsC (λ x. x < 2048) c

@@ -1,19 +1,16 @@
 -- What a run returns and leaves, in the words of crate semantics.
 use Prim.Native.Nat.{ℕ}
 use mathlib.Core.Path.{_≡_}
-use mathlib.Core.List.{List, [], _∷_, _++_}
-use lib.Dec.{leb}
-use lib.ListN.{length, drop}
-use Rattle.rules.specs.Reading.{choose}
+use mathlib.Core.List.{List}
 use Rattle.semantics.specs.Steps as steps
 use Rattle.semantics.specs.Round as round
 use Rattle.semantics.specs.Run as run
 use Rattle.semantics.specs.Promise.{Demands}
-use Rattle.engine.specs.declared.Bound.{Bound}
-use Rattle.engine.specs.declared.Bound.the-variants.{Variables, Goals, Disjunctions, Constraints, Waiting}
-use Rattle.engine.specs.declared.End.{End}
-use Rattle.engine.specs.declared.End.the-variants.{Finished, Rounds, Steps, Output, Path, Refused}
-use Rattle.engine.specs.declared.Report.{Report}
+use Rattle.engine.specs.declared.report.Bound.{Bound}
+use Rattle.engine.specs.declared.report.Bound.the-variants.{Variables, Goals, Disjunctions, Constraints, Waiting}
+use Rattle.engine.specs.declared.report.End.{End}
+use Rattle.engine.specs.declared.report.End.the-variants.{Finished, Rounds, Steps, Output, Path, Refused}
+use Rattle.engine.specs.declared.report.Report.{Report}
 
 -- what each case of the code's enums says
 abbrev pub bound-of : Bound → steps.Bound
@@ -26,24 +23,24 @@ bound-of Waiting = steps.waiting
 -- how a call ended: as a run does, or refused by number and place
 pub data Ended : Type 0 where
   ran : round.End → Ended
-  turned-away : ℕ → ℕ → Ended
+  refused : ℕ → ℕ → Ended
 
-abbrev pub ended : End → Ended
-ended Finished = ran round.finished
-ended Rounds = ran round.rounds-used
-ended Steps = ran round.steps-used
-ended Output = ran round.output-full
-ended (Path b) = ran (round.path-limit (bound-of b))
-ended (Refused number place) = turned-away number place
+abbrev pub end-says : End → Ended
+end-says Finished = ran round.finished
+end-says Rounds = ran round.rounds-used
+end-says Steps = ran round.steps-used
+end-says Output = ran round.output-full
+end-says (Path b) = ran (round.path-limit (bound-of b))
+end-says (Refused number place) = refused number place
 
 -- and what the definition's report says
 abbrev pub report-ended : run.Report → Ended
-report-ended (run.refusal number place) = turned-away number place
+report-ended (run.refusal number place) = refused number place
 report-ended (run.ran r) = ran (r .end)
 
 -- result and lent words are those of the definition's run
-pub record Says (x : run.Run) (r : Report) (output-after scratch-after : List ℕ) : Type 0 where
-  pub is-end : ended (r .end) ≡ report-ended (x .report)
+pub record RunAs (x : run.Run) (r : Report) (output-after scratch-after : List ℕ) : Type 0 where
+  pub is-end : end-says (r .end) ≡ report-ended (x .report)
   pub is-round : r .round ≡ run.counts (x .report) .round
   pub is-steps : r .steps ≡ run.counts (x .report) .steps
   pub is-answers : r .answers ≡ run.counts (x .report) .answers
@@ -52,37 +49,6 @@ pub record Says (x : run.Run) (r : Report) (output-after scratch-after : List �
   pub is-scratch : scratch-after ≡ x .scratch
 
 -- The promise of `run`: it says what document 01's run says, and the demands hold of this very result and page.
-pub record Kept (words : List ℕ) (round-limit step-limit : ℕ) (output scratch : List ℕ) (r : Report) (output-after scratch-after : List ℕ) : Type 0 where
-  pub says : Says (run.run-as-written words round-limit step-limit output scratch) r output-after scratch-after
+pub record RunPromise (words : List ℕ) (round-limit step-limit : ℕ) (output scratch : List ℕ) (r : Report) (output-after scratch-after : List ℕ) : Type 0 where
+  pub says : RunAs (run.run-as-written words round-limit step-limit output scratch) r output-after scratch-after
   pub demands : Demands words round-limit step-limit output scratch output-after scratch-after (run.run-as-written words round-limit step-limit output scratch .report)
-
--- For callers in other languages a report is seven numbers: how the call ended (0 to 4 in the order of document 01, "How a run ends", 5 if refused), which bound of a path (1 to 5
--- as "Bounds" lists them) or the refusal's number, the refusal's place, round, steps, answers, words. What does not apply is 0.
-abbrev pub end-numbers : Ended → List ℕ
-end-numbers (ran round.finished) = 0 ∷ 0 ∷ 0 ∷ []
-end-numbers (ran round.rounds-used) = 1 ∷ 0 ∷ 0 ∷ []
-end-numbers (ran round.steps-used) = 2 ∷ 0 ∷ 0 ∷ []
-end-numbers (ran round.output-full) = 3 ∷ 0 ∷ 0 ∷ []
-end-numbers (ran (round.path-limit b)) = 4 ∷ steps.bound-number b ∷ 0 ∷ []
-end-numbers (turned-away number place) = 5 ∷ number ∷ place ∷ []
-
-abbrev pub numbers : run.Report → List ℕ
-numbers x = end-numbers (report-ended x) ++ (run.counts x .round ∷ run.counts x .steps ∷ run.counts x .answers ∷ run.counts x .words ∷ [])
-
--- what such a call returns and leaves
-pub record Call : Type 0 where
-  pub result : ℕ
-  pub output : List ℕ
-  pub scratch : List ℕ
-  pub numbers : List ℕ
-
--- 0, the run, and its numbers at the start of the words lent for them; or 1 if these are fewer than seven, and nothing is run
-abbrev pub call : run.Run → List ℕ → List ℕ → List ℕ → Call
-call x output scratch lent =
-    choose (leb 7 (length lent)) (λ _. record { result = 0; output = x .output; scratch = x .scratch; numbers = numbers (x .report) ++ drop 7 lent })
-    (λ _. record { result = 1; output = output; scratch = scratch; numbers = lent })
-
--- The promise of `kindcanvas_run`, with the demands of what was run.
-pub record Called (words : List ℕ) (round-limit step-limit : ℕ) (output scratch lent : List ℕ) (result : ℕ) (output-after scratch-after lent-after : List ℕ) : Type 0 where
-  pub is-call : call (run.run-as-written words round-limit step-limit output scratch) output scratch lent ≡ record { result = result; output = output-after; scratch = scratch-after; numbers = lent-after }
-  pub demands : result ≡ 0 → Demands words round-limit step-limit output scratch output-after scratch-after (run.run-as-written words round-limit step-limit output scratch .report)

@@ -6,28 +6,34 @@ use mathlib.Core.List.{List}
 use lib.ListN.{length, take, getElem?}
 use Rattle.rules.specs.Syntax.{Program, Relation}
 use Rattle.rules.specs.Accept.{read, accepted}
+use Rattle.semantics.specs.Path.{Path, ChoicePoint}
 use Rattle.semantics.specs.Round as definition
 use Rattle.semantics.specs.Run.{usable, page}
-use Rattle.engine.specs.Reference.{at}
-use Rattle.engine.specs.Memory.{TableIn, Nameless}
-use Rattle.engine.specs.Report.{ran, ended}
-use Rattle.engine.specs.declared.End.{End}
-use Rattle.engine.specs.declared.Report.{Report}
-use Rattle.engine.specs.declared.tally.Tally.{Tally}
-use Rattle.engine.specs.declared.tally.Rounded.{Rounded}
-use Rattle.engine.specs.declared.tally.Rounded.the-variants.{Completed, Broken}
+use Rattle.engine.specs.Reference.{at, TaskAt}
+use Rattle.engine.specs.Memory.{TableIn, Nameless, layout-words}
+use Rattle.engine.specs.Report.{ran, end-says}
+use Rattle.engine.specs.Take.{PathHeld}
+use Rattle.engine.specs.Answer.{Answering}
+use Rattle.engine.specs.declared.report.End.{End}
+use Rattle.engine.specs.declared.report.Report.{Report}
+use Rattle.engine.specs.declared.search.state.State.{State}
+use Rattle.engine.specs.declared.round.AnswerGiven.{AnswerGiven}
+use Rattle.engine.specs.declared.round.AnswerGiven.the-variants.{Ends, Goes}
+use Rattle.engine.specs.declared.round.Tally.{Tally}
+use Rattle.engine.specs.declared.round.Rounded.{Rounded}
+use Rattle.engine.specs.declared.round.Rounded.the-variants.{Completed, Broken}
 
 -- The scratch as a round finds and leaves it: the table of relations filled, no variable bound or named.
 pub record Clean (ws s : List ℕ) (P : Program) : Type 0 where
-  pub long : 12288 ≤ length s
+  pub long : layout-words ≤ length s
   pub table : TableIn ws s P
   pub open-all : (x : ℕ) → x < 2048 → at s x ≡ 0
   pub nameless : Nameless s
 
--- an accepted program with its query, its scratch clean, and a round limit in its bounds
-pub record Ready (ws s : List ℕ) (P : Program) (R : Relation) (limit : ℕ) : Type 0 where
+-- an accepted program with its query relation, its scratch clean, and a round limit in its bounds
+pub record RunReady (ws s : List ℕ) (P : Program) (query : ℕ) (R : Relation) (limit : ℕ) : Type 0 where
   pub is-read : read ws ≡ accepted P
-  pub query : getElem? P 0 ≡ some R
+  pub query-is : getElem? P query ≡ some R
   pub clean : Clean ws s P
   pub few-rounds : limit ≤ 255
 
@@ -41,23 +47,53 @@ pub record TallyAs (output : List ℕ) (t : Tally) (a : definition.Tally) : Type
   -- each answer has taken a step, so that they are few
   pub counted : t .answers + t .left ≤ 4294967295
 
-pub record Starting (ws s output : List ℕ) (P : Program) (R : Relation) (k : ℕ) (t : Tally) (a : definition.Tally) : Type 0 where
-  pub ready : Ready ws s P R k
+pub record Starting (ws s output : List ℕ) (P : Program) (query : ℕ) (R : Relation) (k : ℕ) (t : Tally) (a : definition.Tally) : Type 0 where
+  pub ready : RunReady ws s P query R k
   pub tally : TallyAs output t a
 
--- What each case says of a round, and how it leaves what is lent.
-pub record Left (s output s′ output′ : List ℕ) : Type 0 where
-  pub scratch-length : length s′ ≡ length s
-  pub output-length : length output′ ≡ length output
+-- How a round is completed, and how it is broken off, where the definition's comes to x.
+pub record CompletedAs (ws s′ output′ : List ℕ) (P : Program) (x : definition.Rounded) (t : Tally) (cuts : ℕ) : Type 0 where
+  pub last : definition.Tally
+  pub is-round : x ≡ definition.completed last
+  pub clean : Clean ws s′ P
+  pub tally : TallyAs output′ t last
+  pub cuts-are : cuts ≡ last .cuts
 
-pub data RoundedAs (ws s output s′ output′ : List ℕ) (P : Program) : definition.Rounded → Rounded → Type 0 where
-  completed-as : {a : definition.Tally} {t : Tally} {cuts : ℕ} → Left s output s′ output′ → Clean ws s′ P → TallyAs output′ t a → cuts ≡ a .cuts → RoundedAs ws s output s′ output′ P (definition.completed a) (Completed t cuts)
-  broken-as : {a : definition.Tally} {t : Tally} {e : definition.End} {d : End} → Left s output s′ output′ → TallyAs output′ t a → ended d ≡ ran e → RoundedAs ws s output s′ output′ P (definition.broken e a) (Broken d t)
+pub record BrokenAs (output′ : List ℕ) (x : definition.Rounded) (d : End) (t : Tally) : Type 0 where
+  pub end : definition.End
+  pub last : definition.Tally
+  pub is-round : x ≡ definition.broken end last
+  pub tally : TallyAs output′ t last
+  pub is-end : end-says d ≡ ran end
+
+unfoldable pub RoundedAs : List ℕ → List ℕ → List ℕ → Program → definition.Rounded → Rounded → Type 0
+RoundedAs ws s′ output′ P x (Completed t cuts) = CompletedAs ws s′ output′ P x t cuts
+RoundedAs ws s′ output′ P x (Broken d t) = BrokenAs output′ x d t
+
+-- A path at its end gives its answer. There were so many answers before it, and so many branches cut; one answer more is a number.
+pub record Giving (P : Program) (ws s output : List ℕ) (st : State) (p : Path) (cs : List ChoicePoint) (params used answers cuts : ℕ) (a : definition.Tally) : Type 0 where
+  pub answering : Answering P ws s output st p cs params used
+  pub tally : TallyAs output (record { left = st .steps; used = used; answers = answers }) a
+  pub cuts-are : a .cuts ≡ cuts
+  pub fits : answers + st .steps < 4294967295
+
+-- it is written, and the next goal is to be taken where the newest choice point leads
+pub record GoesAs (P : Program) (ws s′ output′ : List ℕ) (st : State) (answers cuts : ℕ) (x : definition.Next) (next : State) (goal words : ℕ) : Type 0 where
+  pub state : definition.State
+  pub is-next : x ≡ definition.going state
+  pub held : PathHeld P ws s′ next (state .path) (state .choices)
+  pub task-at : TaskAt ws goal (state .task)
+  pub tally : TallyAs output′ (record { left = next .steps; used = words; answers = answers + 1 }) (state .tally)
+  pub cuts-are : state .tally .cuts ≡ cuts
+  pub fewer : next .steps ≤ st .steps
+
+unfoldable pub AnswerGivenAs : Program → List ℕ → List ℕ → List ℕ → State → ℕ → ℕ → definition.Next → AnswerGiven → Type 0
+AnswerGivenAs P ws s′ output′ st answers cuts x (Ends r) = (y : definition.Rounded) × (x ≡ definition.over y) × RoundedAs ws s′ output′ P y r
+AnswerGivenAs P ws s′ output′ st answers cuts x (Goes next goal words) = GoesAs P ws s′ output′ st answers cuts x next goal words
 
 -- a report is that of a result, and the output begins with its answers
-pub record ResultAs (s output s′ output′ : List ℕ) (x : definition.Result) (r : Report) : Type 0 where
-  pub lengths : Left s output s′ output′
-  pub is-end : ended (r .end) ≡ ran (x .end)
+pub record ResultAs (output′ : List ℕ) (x : definition.Result) (r : Report) : Type 0 where
+  pub is-end : end-says (r .end) ≡ ran (x .end)
   pub is-round : r .round ≡ x .round
   pub is-steps : r .steps ≡ x .steps
   pub is-answers : r .answers ≡ length (x .answers)
@@ -65,9 +101,9 @@ pub record ResultAs (s output s′ output′ : List ℕ) (x : definition.Result)
   pub page-is : take (r .words) output′ ≡ page (x .answers)
 
 -- what `report` makes of an end and a tally
-pub record Reported (end : End) (round limit : ℕ) (t : Tally) (r : Report) : Type 0 where
+pub record Reported (end : End) (round steps : ℕ) (t : Tally) (r : Report) : Type 0 where
   pub is-end : r .end ≡ end
   pub is-round : r .round ≡ round
-  pub is-steps : r .steps ≡ limit - t .left
+  pub is-steps : r .steps ≡ steps - t .left
   pub is-answers : r .answers ≡ t .answers
   pub is-words : r .words ≡ t .used

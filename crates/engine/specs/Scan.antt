@@ -10,8 +10,8 @@ use Rattle.semantics.specs.Substitution.{Substitution}
 use Rattle.semantics.specs.Steps.{waiting, no-steps, at-bound, Outcome, done, stop}
 use Rattle.semantics.specs.Unify.{scan, scan-next}
 use Rattle.engine.specs.Reference.{AtomIs, base-of}
-use Rattle.engine.specs.declared.scan.Scanned.{Scanned}
-use Rattle.engine.specs.declared.scan.Scanned.the-variants.{Found, Clear, StepsOut, PathOut}
+use Rattle.engine.specs.declared.terms.scan.Scanned.{Scanned}
+use Rattle.engine.specs.declared.terms.scan.Scanned.the-variants.{Found, Clear, StepsOut, WaitingOut}
 
 -- the word by which a leaf is sought, from what stands at its reference
 pub record LeafWord (w bits k p r : ℕ) : Type 0 where
@@ -29,7 +29,7 @@ unfoldable pub scan-says : Scanned → List Term → (List Term → Term → ℕ
 scan-says (Found left) vs go = done true left
 scan-says (Clear left) vs go = scan-next vs left (λ us u. go us u left)
 scan-says StepsOut vs go = stop no-steps 0
-scan-says (PathOut left) vs go = stop (at-bound waiting) left
+scan-says (WaitingOut left) vs go = stop (at-bound waiting) left
 
 -- the scan of t, whatever the nodes that wait, as many as the code counts, and whatever test agrees with the word sought
 abbrev pub ScanAs : ℕ → Substitution → Term → ℕ → ℕ → Scanned → Type 0

@@ -1,11 +1,11 @@
--- What `bind` and `undo` promise.
+-- What `undo` promises, and how a scratch is left beside bindings and trail.
 use Prim.Native.Nat.{ℕ, _+_, _≤_, _<_}
 use mathlib.Core.Path.{_≡_}
 use mathlib.Core.List.{List, _++_}
 use lib.ListN.{length}
 use Rattle.semantics.specs.Substitution.{Substitution}
 use Rattle.engine.specs.Reference.{at}
-use Rattle.engine.specs.Memory.{BindingsIn}
+use Rattle.engine.specs.Memory.{BindingsIn, layout-words}
 
 -- two scratches are the same from lo up to hi
 abbrev pub Same : List ℕ → List ℕ → ℕ → ℕ → Type 0
@@ -13,7 +13,7 @@ Same s s′ lo hi = (i : ℕ) → lo ≤ i → i < hi → at s′ i ≡ at s i
 
 -- the trail has grown from `mark` entries, those of bs, to `trail`
 pub record Trailed (ws s : List ℕ) (new bs : Substitution) (mark trail : ℕ) : Type 0 where
-  pub long : 12288 ≤ length s
+  pub long : layout-words ≤ length s
   pub bindings-in : BindingsIn ws s (new ++ bs)
   pub mark-is : mark ≡ length bs
   pub trail-is : trail ≡ length (new ++ bs)

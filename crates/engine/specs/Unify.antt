@@ -13,12 +13,12 @@ use Rattle.semantics.specs.Unify.{Looked, fails, agrees, binds, parts, Pairs, u
 use Rattle.engine.specs.Reference.{at, Stands}
 use Rattle.engine.specs.Walk.{Binds}
 use Rattle.engine.specs.Trail.{Apart}
-use Rattle.engine.specs.declared.unify.Compared.{Compared}
-use Rattle.engine.specs.declared.unify.Compared.the-variants as compared
-use Rattle.engine.specs.declared.unify.Met.{Met}
-use Rattle.engine.specs.declared.unify.Met.the-variants as met
-use Rattle.engine.specs.declared.unify.Unified.{Unified}
-use Rattle.engine.specs.declared.unify.Unified.the-variants as unified
+use Rattle.engine.specs.declared.terms.unify.Compared.{Compared}
+use Rattle.engine.specs.declared.terms.unify.Compared.the-variants as compared
+use Rattle.engine.specs.declared.terms.unify.PairUnified.{PairUnified}
+use Rattle.engine.specs.declared.terms.unify.PairUnified.the-variants as pair
+use Rattle.engine.specs.declared.terms.unify.Unified.{Unified}
+use Rattle.engine.specs.declared.terms.unify.Unified.the-variants as unified
 
 -- `compare`: what looking at two followed terms comes to
 
@@ -45,16 +45,16 @@ ComparedAs ws o compared.Agrees = o ≡ agrees
 ComparedAs ws o (compared.Binds x w) = BindsTo ws o x w
 ComparedAs ws o (compared.Parts a b c d) = PartsTo ws o a b c d
 
--- `meet`: one pair looked at, with its occurs check and binding
+-- `unify_pair`: one pair looked at, with its occurs check and binding
 
 -- two terms by reference, with a path's bindings and as many entries on the trail
-pub record Meets (ws s : List ℕ) (bs : Substitution) (a : ℕ) (u : Term) (b : ℕ) (v : Term) (trail : ℕ) : Type 0 where
+pub record TwoTerms (ws s : List ℕ) (bs : Substitution) (a : ℕ) (u : Term) (b : ℕ) (v : Term) (trail : ℕ) : Type 0 where
   pub held : Binds ws s bs
-  pub left : Stands ws a u
-  pub right : Stands ws b v
+  pub first : Stands ws a u
+  pub second : Stands ws b v
   pub trail-is : trail ≡ length bs
 
-pub record MetGoes (ws s s′ : List ℕ) (bs : Substitution) (u v : Term) (steps n left : ℕ) : Type 0 where
+pub record PairGoes (ws s s′ : List ℕ) (bs : Substitution) (u v : Term) (steps n left : ℕ) : Type 0 where
   pub next : Substitution
   pub new : Substitution
   pub grows : next ≡ new ++ bs
@@ -65,7 +65,7 @@ pub record MetGoes (ws s s′ : List ℕ) (bs : Substitution) (u v : Term) (step
   pub fewer : left < steps
   pub same : (fuel : ℕ) (vs : Pairs) → unify (suc fuel) bs vs u v steps ≡ unify-next vs next left (λ bs′ us x y l. unify fuel bs′ us x y l)
 
-pub record MetParts (ws s s′ : List ℕ) (bs : Substitution) (u v : Term) (steps a b c d : ℕ) : Type 0 where
+pub record PairParts (ws s s′ : List ℕ) (bs : Substitution) (u v : Term) (steps a b c d : ℕ) : Type 0 where
   pub untouched : s′ ≡ s
   pub first : Term
   pub second : Term
@@ -77,16 +77,16 @@ pub record MetParts (ws s s′ : List ℕ) (bs : Substitution) (u v : Term) (ste
   pub stands-fourth : Stands ws d fourth
   pub same : (fuel : ℕ) (vs : Pairs) → unify (suc fuel) bs vs u v steps ≡ choose (ltb (length vs) 512) (λ _. unify fuel bs ((second, fourth) ∷ vs) first third (steps - 1)) (λ _. stop (at-bound waiting) steps)
 
-pub record MetEnds (s s′ : List ℕ) (bs : Substitution) (u v : Term) (steps : ℕ) (o : Outcome (Option Substitution)) : Type 0 where
+pub record PairEnds (s s′ : List ℕ) (bs : Substitution) (u v : Term) (steps : ℕ) (o : Outcome (Option Substitution)) : Type 0 where
   pub untouched : s′ ≡ s
   pub same : (fuel : ℕ) (vs : Pairs) → unify (suc fuel) bs vs u v steps ≡ o
 
-unfoldable pub MetAs : List ℕ → List ℕ → List ℕ → Substitution → Term → Term → ℕ → Met → Type 0
-MetAs ws s s′ bs u v steps (met.Fails left) = MetEnds s s′ bs u v steps (done none left)
-MetAs ws s s′ bs u v steps (met.Goes n left) = MetGoes ws s s′ bs u v steps n left
-MetAs ws s s′ bs u v steps (met.Parts a b c d) = MetParts ws s s′ bs u v steps a b c d
-MetAs ws s s′ bs u v steps met.StepsOut = MetEnds s s′ bs u v steps (stop no-steps 0)
-MetAs ws s s′ bs u v steps (met.PathOut left) = MetEnds s s′ bs u v steps (stop (at-bound waiting) left)
+unfoldable pub PairUnifiedAs : List ℕ → List ℕ → List ℕ → Substitution → Term → Term → ℕ → PairUnified → Type 0
+PairUnifiedAs ws s s′ bs u v steps (pair.Fails left) = PairEnds s s′ bs u v steps (done none left)
+PairUnifiedAs ws s s′ bs u v steps (pair.Goes n left) = PairGoes ws s s′ bs u v steps n left
+PairUnifiedAs ws s s′ bs u v steps (pair.Parts a b c d) = PairParts ws s s′ bs u v steps a b c d
+PairUnifiedAs ws s s′ bs u v steps pair.StepsOut = PairEnds s s′ bs u v steps (stop no-steps 0)
+PairUnifiedAs ws s s′ bs u v steps (pair.WaitingOut left) = PairEnds s s′ bs u v steps (stop (at-bound waiting) left)
 
 -- `unify`
 
@@ -103,4 +103,4 @@ unfoldable pub UnifiedAs : List ℕ → List ℕ → List ℕ → Substitution �
 UnifiedAs ws s s′ bs o (unified.Joined n left) = (w : Went ws s bs s′ n) × (o ≡ done (some (w .next)) left)
 UnifiedAs ws s s′ bs o (unified.Failed n left) = (w : Went ws s bs s′ n) × (o ≡ done none left)
 UnifiedAs ws s s′ bs o (unified.StepsOut n) = (w : Went ws s bs s′ n) × (o ≡ stop no-steps 0)
-UnifiedAs ws s s′ bs o (unified.PathOut n left) = (w : Went ws s bs s′ n) × (o ≡ stop (at-bound waiting) left)
+UnifiedAs ws s s′ bs o (unified.WaitingOut n left) = (w : Went ws s bs s′ n) × (o ≡ stop (at-bound waiting) left)

@@ -1,15 +1,19 @@
--- What `node_at`, `skip` and `walk` promise.
-use Prim.Native.Nat.{ℕ, _≤_}
+-- What `node_at`, `walk` and `follow` promise.
+use Prim.Native.Nat.{ℕ, _≤_, _<_}
 use mathlib.Core.Path.{_≡_}
 use mathlib.Core.List.{List}
 use lib.ListN.{length}
 use Rattle.rules.specs.Reading.{kind-at, payload-at}
-use Rattle.rules.specs.Syntax.{Term}
-use Rattle.semantics.specs.Substitution.{Substitution}
-use Rattle.semantics.proofs.SubstitutionLaws.{Good}
+use Rattle.rules.specs.Syntax.{Term, Atom, var, atom, pair}
+use Rattle.semantics.specs.Substitution.{Substitution, walk, resolve}
+use Rattle.semantics.specs.Invariant.{Good}
 use Rattle.engine.specs.Reference.{at, pos-of, Stands}
-use Rattle.engine.specs.Memory.{BindingsIn}
-use Rattle.engine.specs.declared.walk.Walked.{Walked}
+use Rattle.engine.specs.Memory.{BindingsIn, layout-words}
+use Rattle.engine.specs.declared.terms.walk.Walked.{Walked}
+use Rattle.rules.specs.Written.{atom-word}
+use Rattle.rules.specs.Settings.{most-words}
+use Rattle.engine.specs.declared.terms.walk.Shape.{Shape}
+use Rattle.engine.specs.declared.terms.walk.Shape.the-variants.{Open, Atom as Leaf, Pair}
 
 -- the word at a reference, with its kind and payload
 pub record NodeAt (ws : List ℕ) (w bits k p : ℕ) : Type 0 where
@@ -23,8 +27,8 @@ IsNode ws n = NodeAt ws (n .at) (n .bits) (n .kind) (n .payload)
 
 -- the scratch holds a path's bindings, and they are acyclic
 pub record Binds (ws s : List ℕ) (bs : Substitution) : Type 0 where
-  pub short : length ws ≤ 16384
-  pub long : 12288 ≤ length s
+  pub short : length ws ≤ most-words
+  pub long : layout-words ≤ length s
   pub bindings-in : BindingsIn ws s bs
   pub good : Good bs
 
@@ -32,3 +36,21 @@ pub record Binds (ws s : List ℕ) (bs : Substitution) : Type 0 where
 pub record Follows (ws s : List ℕ) (bs : Substitution) (w : ℕ) (t : Term) : Type 0 where
   pub binds : Binds ws s bs
   pub stands : Stands ws w t
+
+-- what `walk` gives: the word at a reference, which stands for the term that the definition walks to
+pub record WalkedTo (ws s : List ℕ) (w : ℕ) (r : Walked) : Type 0 where
+  pub node : IsNode ws r
+  pub stands : (bs : Substitution) (t : Term) → Follows ws s bs w t → Stands ws (r .at) (walk bs t)
+
+-- the reference, with bindings followed, is the term
+pub record Resolves (ws s : List ℕ) (w : ℕ) (r : Term) : Type 0 where
+  pub bindings : Substitution
+  pub term : Term
+  pub follows : Follows ws s bindings w term
+  pub is : resolve bindings term ≡ r
+
+-- what each case says
+unfoldable pub Shaped : List ℕ → List ℕ → Shape → Term → Type 0
+Shaped ws s (Open x) r = (r ≡ var x) × (x < 2048)
+Shaped ws s (Leaf v) r = (a : Atom) × (r ≡ atom a) × (v ≡ atom-word a)
+Shaped ws s (Pair f g) r = (a : Term) × (b : Term) × (r ≡ pair a b) × Resolves ws s f a × Resolves ws s g b

@@ -1,9 +1,16 @@
 // Numbers of the memory and of a path.
+use word::Word;
 
-// A reference is a position in the program and, so many times, the base of its environment.
-pub(crate) const ENVIRONMENT: u32 = 16384;
+// A reference is a position in the program and, so many times as there are positions, the base of its environment.
+pub(crate) const POSITIONS: u32 = 16384;
 
-// Places in the scratch: each area's first word. The whole is below 12,288 words. From word 0 on, a variable's word is 0 while it is open, else the
+// A word of kind pair, which no leaf of a term has.
+pub(crate) const PAIR_WORD: u32 = Word::PAIR * 268435456;
+
+// The least scratch that a run takes: condition 9 of document 01.
+pub const SCRATCH_WORDS: usize = 16384;
+
+// Places in the scratch: each area's first word. The whole ends at 12,032 and is to stay below 12,288: the words between are free. From word 0 on, a variable's word is 0 while it is open, else the
 // reference that it is bound to, plus 1.
 
 // The bound variables in the order of binding.

@@ -1,42 +1,43 @@
 // The rounds of a run, one after the other.
-use crate::End;
-use crate::Report;
+use crate::report::End;
+use crate::report::Report;
+use crate::round::Rounded;
+use crate::round::Tally;
 use crate::round::round;
-use crate::tally::Rounded;
-use crate::tally::Tally;
 ghost use Prim.Native.Nat.{_≤_};
 ghost use mathlib.Core.List.{[]};
 ghost use lib.ListN.{length};
 ghost use Rattle.rules.specs.Syntax.{Program, Relation};
 ghost use Rattle.semantics.specs.Round as definition;
 ghost use Rattle.semantics.specs.Run.{usable};
-ghost use Rattle.engine.specs.Rounds.{Ready, Reported, ResultAs};
+ghost use Rattle.engine.specs.Rounds.{RunReady, Reported, ResultAs};
 
 // The report of a run with this step limit.
-fn report(end: End, round: u32, limit: u32, tally: Tally) -> Report
-    requires { ⌜ tally .left ≤ limit ⌝ }
-    ensures { λ r. ⌜ Reported end round limit tally r ⌝ }
+fn report(end: End, round: u32, steps: u32, tally: Tally) -> Report
+    requires { ⌜ tally .left ≤ steps ⌝ }
+    ensures { λ r. ⌜ Reported end round steps tally r ⌝ }
 {
     Report {
         end,
         round,
-        steps: limit - tally.left,
+        steps: steps - tally.left,
         answers: tally.answers,
         words: tally.used,
     }
 }
 
-// Rounds 0, 1, 2 and so on, up to one that is broken off, that cut no branch, or that is the limit.
+// Rounds 0, 1, 2 and so on of the relation `query`, up to one that is broken off, that cut no branch, or that is the limit.
 pub(crate) fn rounds(
     program: &[u32],
     scratch: &mut [u32],
     output: &mut [u32],
+    query: u32,
     limit: u32,
     steps: u32,
 ) -> Report
-    requires { ⌜ ((P : Program) × (R : Relation) × Ready (now program) (now scratch) P R limit) ⌝ }
-    ensures { λ r. ⌜ ((P : Program) (R : Relation) → Ready (now (program .entry)) (now (scratch .entry)) P R limit
-        → ResultAs (now (scratch .entry)) (now (output .entry)) (now (scratch .exit)) (now (output .exit)) (definition.rounds steps P R limit 0 (usable (length (now (output .entry)))) steps []) r) ⌝ }
+    requires { ⌜ ((P : Program) × (R : Relation) × RunReady (now program) (now scratch) P query R limit) ⌝ }
+    ensures { λ r. ⌜ ((P : Program) (R : Relation) → RunReady (now (program .entry)) (now (scratch .entry)) P query R limit
+        → ResultAs (now (output .exit)) (definition.rounds steps P R limit 0 (usable (length (now (output .entry)))) steps []) r) ⌝ }
 {
     let mut number = 0;
     let mut tally = Tally {
@@ -45,7 +46,7 @@ pub(crate) fn rounds(
         answers: 0,
     };
     loop {
-        match round(program, scratch, output, number, tally) {
+        match round(program, scratch, output, query, number, tally) {
             Rounded::Broken(end, last) => {
                 return report(end, number, steps, last);
             }

@@ -7,6 +7,6 @@ fn main() {
     let mut bytes = [0u8; 65540];
     let got = io::read_full(STDIN_FILENO, &mut bytes);
     let mut out = [0u8; 65536];
-    let count = show::printed_text(&bytes[..got], &mut out);
+    let count = list_text::printed_text(&bytes[..got], &mut out);
     io::write_all(STDOUT_FILENO, &out[..count]);
 }

@@ -15,8 +15,9 @@ use Rattle.rules.specs.Calls.{Fault, sound, fault, relations-fault}
 use Rattle.rules.specs.WellFormed.{WellFormed, RelationsGood, WrittenForm}
 use Rattle.rules.specs.Accept.{accepted, refused, judge, calls-read, read}
 use Rattle.rules.proofs.Combine.{require-found, and-true}
-use Rattle.rules.specs.Inner.{Stands}
-use Rattle.rules.proofs.Stands.{stands-self, stands-whole}
+use Rattle.rules.specs.Inner.{Spells}
+use Rattle.rules.specs.Settings.{most-words}
+use Rattle.rules.proofs.Spelled.{stands-self, stands-whole}
 use Rattle.rules.proofs.Sound.{relations-sound}
 use Rattle.rules.proofs.Complete.{relations-complete}
 use Rattle.rules.proofs.CallLaws.{relations-calls, calls-relations}
@@ -36,10 +37,10 @@ calls-judged (refuse c p) P e = not-accepted P c p e
 
 -- what a reading of conditions 1 to 6 has passed
 pub structure-written : (ws : List ℕ) (P : Program) (n : ℕ) → read-structure ws ≡ found P n
-    → (ws ≡ written P) × (RelationsGood P × (length P ≤ 256)) × (1 ≤ length ws) × (length ws ≤ 16384)
+    → (ws ≡ written P) × (RelationsGood P × (length P ≤ 256)) × (1 ≤ length ws) × (length ws ≤ most-words)
 structure-written ws P n e =
-    let q = require-found (leb 1 (length ws) && leb (length ws) 16384) 1 0 _ P n e in
-    let b = and-true (leb 1 (length ws)) (leb (length ws) 16384) (q .0) in
+    let q = require-found (leb 1 (length ws) && leb (length ws) most-words) 1 0 _ P n e in
+    let b = and-true (leb 1 (length ws)) (leb (length ws) most-words) (q .0) in
     let f = relations-sound (2 * length ws + 4) ws 0 0 P n (omega arith) (omega arith) (q .1) in
     let l : length ws ≡ length (written P) = omega (arith, f .0 .to, f .0 .within, f .1) in
     (stands-whole ws (written P) (f .0 .stands) l, (f .0 .good .0, omega (arith, f .0 .good .1)), leb-true _ _ (b .0), leb-true _ _ (b .1))
@@ -60,10 +61,10 @@ pub written-is-read : (ws : List ℕ) (P : Program) → WrittenForm ws P → rea
 unfolding read
 written-is-read ws P w =
     let l : length ws ≡ length (written P) = ap length (w .is-written) in
-    let s : Stands ws 0 (written P) = rw (sym (w .is-written)) (stands-self ws) in
+    let s : Spells ws 0 (written P) = rw (sym (w .is-written)) (stands-self ws) in
     let f : read-relations (2 * length ws + 4) ws 0 0 ≡ found P (length ws) =
     relations-complete (2 * length ws + 4) ws 0 0 P (w .well-formed .relations) s (omega (arith, w .well-formed .few)) (omega arith) (w .few-words) (omega arith) in
-    simp (le-leb 1 (length ws) (w .some-words), le-leb (length ws) 16384 (w .few-words), f, calls-relations P P 0 (w .well-formed .calls))
+    simp (le-leb 1 (length ws) (w .some-words), le-leb (length ws) most-words (w .few-words), f, calls-relations P P 0 (w .well-formed .calls))
 
 -- a list of words is read as P exactly when it is the written form of P
 pub reading-agrees : (ws : List ℕ) (P : Program) → (read ws ≡ accepted P) ↔ WrittenForm ws P

@@ -14,8 +14,9 @@ use Rattle.rules.specs.Calls.{relations-fault}
 use Rattle.rules.specs.Accept.{Accept, accepted, refused, judge, read}
 use Rattle.rules.specs.Verdict.{no-said, said}
 use Rattle.rules.specs.Inner.{ends, stops, Settles, RelationsAt}
+use Rattle.rules.specs.Settings.{most-words}
 use Rattle.rules.proofs.Combine.{ended, stopped}
-use Rattle.rules.proofs.Stands.{stands-self}
+use Rattle.rules.proofs.Spelled.{stands-self}
 use Rattle.rules.proofs.Accepted.{structure-written}
 use Rattle.rules.proofs.Places.{refusal-placed}
 
@@ -23,13 +24,13 @@ pub count-low : (ws : List ℕ) → length ws < 1 → read ws ≡ refused 1 0
 unfolding read
 count-low ws l = simp (lt-leb 1 (length ws) l)
 
-pub count-high : (ws : List ℕ) → 16384 < length ws → read ws ≡ refused 1 0
+pub count-high : (ws : List ℕ) → most-words < length ws → read ws ≡ refused 1 0
 unfolding read
-count-high ws l = simp (le-leb 1 (length ws) (omega arith), lt-leb (length ws) 16384 l)
+count-high ws l = simp (le-leb 1 (length ws) (omega arith), lt-leb (length ws) most-words l)
 
-module _ (ws : List ℕ) (some : 1 ≤ length ws) (few : length ws ≤ 16384) where
+module _ (ws : List ℕ) (some : 1 ≤ length ws) (few : length ws ≤ most-words) where
   structure-is : read-structure ws ≡ read-relations (2 * length ws + 4) ws 0 0
-  structure-is = simp (le-leb 1 (length ws) some, le-leb (length ws) 16384 few)
+  structure-is = simp (le-leb 1 (length ws) some, le-leb (length ws) most-words few)
 
   pub structure-stops : (c p : ℕ) → Settles (λ f. read-relations f ws 0 0) (2 * length ws + 2) (stops c p) → read ws ≡ refused c p
   unfolding read
@@ -50,8 +51,8 @@ refused-said (accepted P) c p e = absurd (let z : _≡_ {A = ℕ} 0 1 = cc in om
 refused-said (refused d q) c p e = let x : c ≡ d = cc in let y : p ≡ q = cc in rw (x, y) refl
 
 -- the place of a refusal is at most the largest word count, so that it goes into 32 bits
-pub place-small : (ws : List ℕ) (c p : ℕ) → no-said c p ≡ said (read ws) → (c ≤ 8) × (p ≤ 16384)
-place-small ws c p e = go (leb (length ws) 16384) refl
+pub place-small : (ws : List ℕ) (c p : ℕ) → no-said c p ≡ said (read ws) → (c ≤ 8) × (p ≤ most-words)
+place-small ws c p e = go (leb (length ws) most-words) refl
   where
     r : read ws ≡ refused c p
     r = refused-said (read ws) c p e
@@ -59,9 +60,9 @@ place-small ws c p e = go (leb (length ws) 16384) refl
     h : (c ≤ 8) × (p ≤ length ws)
     h = (refusal-placed ws c p r .to-eight, refusal-placed ws c p r .within)
 
-    go : (t : Bool) → leb (length ws) 16384 ≡ t → (c ≤ 8) × (p ≤ 16384)
-    go true z = (h .0, omega (arith, h .1, leb-true (length ws) 16384 z))
+    go : (t : Bool) → leb (length ws) most-words ≡ t → (c ≤ 8) × (p ≤ most-words)
+    go true z = (h .0, omega (arith, h .1, leb-true (length ws) most-words z))
     go false z =
-        let y : refused 1 0 ≡ refused c p = sym (count-high ws (leb-false (length ws) 16384 z)) ∙ r in
+        let y : refused 1 0 ≡ refused c p = sym (count-high ws (leb-false (length ws) most-words z)) ∙ r in
         let x : _≡_ {A = ℕ} 0 p = cc in
         (h .0, omega arith)

@@ -6,7 +6,7 @@ use native.Mathlib.Omega.{arith}
 use lib.Dec.{leb}
 use borrow.Author.Tests.{leb-true}
 use Rattle.rules.specs.Reading.{Reading, found, refuse, next, require, choose, filled, fill}
-use Rattle.rules.specs.Inner.{Outcome, ends, stops, told, filled-told, Settles}
+use Rattle.rules.specs.Inner.{ReadOutcome, ends, stops, told, filled-told, Settles}
 
 pub found-not-refused : {A : Type 0} {C : Type 0} (a : A) (n c p : ℕ) → refuse c p ≡ found a n → C
 found-not-refused a n c p e = absurd (let z : _≡_ {A = ℕ} 0 1 = cc in omega arith)
@@ -81,5 +81,5 @@ told-fill (found a n) end = go (leb end n) refl
     go false e = simp e
 told-fill (refuse c p) end = refl
 
-pub fill-settles : {A : Type 0} (r : ℕ → Reading A) (need end : ℕ) (o q : Outcome) → Settles r need o → q ≡ filled-told o end → Settles (λ f. fill (r f) end) need q
+pub fill-settles : {A : Type 0} (r : ℕ → Reading A) (need end : ℕ) (o q : ReadOutcome) → Settles r need o → q ≡ filled-told o end → Settles (λ f. fill (r f) end) need q
 fill-settles r need end o q h e f d = e ∙ ap (λ o. filled-told o end) (h f d) ∙ sym (told-fill (r f) end)

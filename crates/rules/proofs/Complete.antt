@@ -7,12 +7,13 @@ use lib.Dec.{eqb}
 use lib.ListN.{length, getD, length-append}
 use borrow.Author.Tests.{lt-ltb, le-ltb, le-leb, lt-leb, eq-eqb, ne-eqb}
 use Rattle.word.specs.Word.{word}
-use Rattle.rules.specs.Syntax.{symbol, number, empty, Term, var, atom, pair, symbols, numbers, Constraint, differ, typed, absento, Goal, Goals, equal, constrain, conj, disj, call, one, more, Relation, Program}
-use Rattle.rules.specs.Written.{term-words, terms-words, constraint-words, goal-words, goals-words, relation-words, written, part}
-use Rattle.rules.specs.Reading.{found, kind-at, payload-at, read-word, read-leaf, read-term, read-one, read-two, read-terms, goal-parts, read-goal, read-goals, read-absento, read-call, read-body, read-variables, read-relation, read-relations, two-terms, one-term, of-goals}
-use Rattle.rules.specs.WellFormed.{TermGood, TermsGood, ConstraintGood, GoalGood, GoalsGood, RelationGood, RelationsGood}
-use Rattle.rules.specs.Inner.{Stands}
-use Rattle.rules.proofs.Stands.{stands-split, term-some, goal-some, goals-some, kind-of, payload-of}
+use Rattle.rules.specs.Syntax.{Atom, symbol, number, empty, Term, var, atom, pair, symbols, numbers, Constraint, differ, typed, absento, Goal, Goals, equal, constrain, conj, disj, call, one, more, Relation, Program}
+use Rattle.rules.specs.Written.{atom-word, term-words, terms-words, constraint-words, goal-words, goals-words, relation-words, written, part}
+use Rattle.rules.specs.Reading.{found, kind-at, payload-at, read-word, read-leaf, read-term, read-one, read-two, read-terms, goal-parts, read-goal, read-goals, read-tag, read-absento, read-call, read-body, read-variables, read-relation, read-relations, two-terms, one-term, of-goals}
+use Rattle.rules.specs.WellFormed.{TagGood, TermGood, TermsGood, ConstraintGood, GoalGood, GoalsGood, RelationGood, RelationsGood}
+use Rattle.rules.specs.Inner.{Spells}
+use Rattle.rules.specs.Settings.{most-words}
+use Rattle.rules.proofs.Spelled.{stands-split, term-some, goal-some, goals-some, kind-of, payload-of}
 
 -- where a part is read: deep enough, with variables and places below 2^28, and not past its end
 pub record Room (words vars at end n : ℕ) : Type 0 where
@@ -36,9 +37,9 @@ unfolding read-term
 pair-word words ws vars at end n m s t x y l e f =
     simp (lt-ltb at end (omega arith), x, y, le-leb n (end - (at + 1)) (omega arith), e, le-leb (at + 1 + n) (at + 1 + n) (omega arith), f)
 
-pub term-complete : (words : ℕ) (ws : List ℕ) (vars at end : ℕ) (t : Term) → TermGood vars t → Stands ws at (term-words t) → Room words vars at end (length (term-words t))
+pub term-complete : (words : ℕ) (ws : List ℕ) (vars at end : ℕ) (t : Term) → TermGood vars t → Spells ws at (term-words t) → Room words vars at end (length (term-words t))
     → read-term words ws vars at end ≡ found t (at + length (term-words t))
-unfolding TermGood term-words Stands
+unfolding TermGood term-words Spells
 term-complete zero ws vars at end t g s r = absurd (omega arith)
 term-complete (suc words) ws vars at end (var x) g s r =
     leaf-word words ws vars at end 0 x (s .0) (omega (arith, r .few)) (omega arith) (omega (arith, r .fits)) ∙ (unfold read-leaf in simp (lt-ltb x vars g))
@@ -63,12 +64,12 @@ term-complete (suc words) ws vars at end (pair s t) g h r =
     let z : at + 1 + a + b ≡ at + suc (length (term-words s ++ term-words t)) = simp length-append (omega arith) in
     pair-word words ws vars at end a (at + 1 + a + b) s t (kind-of ws at 4 a (h .0) l) (payload-of ws at 4 a (h .0) l) (omega (arith, whole)) e f ∙ ap (found (pair s t)) z
 
-pub one-complete : (words : ℕ) (ws : List ℕ) (vars at end : ℕ) (t : Term) → TermGood vars t → Stands ws at (term-words t) → Room words vars at end (length (term-words t))
+pub one-complete : (words : ℕ) (ws : List ℕ) (vars at end : ℕ) (t : Term) → TermGood vars t → Spells ws at (term-words t) → Room words vars at end (length (term-words t))
     → end ≡ at + length (term-words t) → read-one words ws vars at end ≡ found t end
 unfolding read-one
 one-complete words ws vars at end t g s r e = simp (term-complete words ws vars at end t g s r, ← e, le-leb end end (omega arith))
 
-pub two-complete : (words : ℕ) (ws : List ℕ) (vars at end : ℕ) (s t : Term) → TermGood vars s × TermGood vars t → Stands ws at (term-words s ++ term-words t)
+pub two-complete : (words : ℕ) (ws : List ℕ) (vars at end : ℕ) (s t : Term) → TermGood vars s × TermGood vars t → Spells ws at (term-words s ++ term-words t)
     → Room words vars at end (length (term-words s ++ term-words t)) → end ≡ at + length (term-words s ++ term-words t)
     → read-two words ws vars at end ≡ found (s, t) end
 unfolding read-two
@@ -82,7 +83,7 @@ two-complete words ws vars at end s t g w r e =
     (record { deep = omega (arith, r .deep); few = r .few; short = r .short; fits = omega arith }) (omega arith) in
     simp (f, k)
 
-pub terms-complete : (words : ℕ) (ws : List ℕ) (vars at end : ℕ) (ts : List Term) → TermsGood vars ts → Stands ws at (terms-words ts)
+pub terms-complete : (words : ℕ) (ws : List ℕ) (vars at end : ℕ) (ts : List Term) → TermsGood vars ts → Spells ws at (terms-words ts)
     → Room words vars at end (length (terms-words ts)) → end ≡ at + length (terms-words ts) → end - at + 1 < words
     → read-terms words ws vars at end ≡ found ts end
 unfolding read-terms TermsGood terms-words
@@ -105,6 +106,12 @@ word-complete : (k : ℕ) (ws : List ℕ) (at end p : ℕ) → getD ws at 0 ≡ 
 unfolding read-word
 word-complete k ws at end p e l r =
     simp (lt-ltb at end r, eq-eqb (kind-at ws at) k (kind-of ws at k p e l), payload-of ws at k p e l)
+
+tag-complete : (ws : List ℕ) (at end : ℕ) (a : Atom) → getD ws at 0 ≡ atom-word a → TagGood a → at < end → read-tag ws at end ≡ found a (at + 1)
+unfolding read-tag
+tag-complete ws at end (symbol p) e g r = simp (word-complete 1 ws at end p e g r)
+tag-complete ws at end (number p) e g r = absurd g
+tag-complete ws at end empty e g r = absurd g
 
 goal-word : (words : ℕ) (ws : List ℕ) (vars at end k n : ℕ) → getD ws at 0 ≡ word k n → 5 ≤ k → k ≤ 12 → at + 1 + n ≤ end → end ≤ 268435456
     → read-goal (suc words) ws vars at end ≡ goal-parts words ws vars k (at + 1) (at + 1 + n) (λ a e. read-goals words ws vars a e)
@@ -138,54 +145,52 @@ inner : (words vars at end n : ℕ) → GoalRoom (suc words) vars at end (suc n)
 inner words vars at end n r = record { deep = omega (arith, r .deep, r .fits); few = r .few; short = omega (arith, r .short, r .fits); fits = omega arith }
 
 -- a goal of two terms, and of one
-two-goal : (words : ℕ) (ws : List ℕ) (vars at end k : ℕ) (s t : Term) → TermGood vars s × TermGood vars t → Stands ws at (part k (term-words s ++ term-words t))
+two-goal : (words : ℕ) (ws : List ℕ) (vars at end k : ℕ) (s t : Term) → TermGood vars s × TermGood vars t → Spells ws at (part k (term-words s ++ term-words t))
     → GoalRoom (suc words) vars at end (suc (length (term-words s ++ term-words t))) → 5 ≤ k → k ≤ 6
     → read-goal (suc words) ws vars at end ≡ found (two-terms (eqb k 5) (s, t)) (at + suc (length (term-words s ++ term-words t)))
-unfolding Stands
+unfolding Spells
 two-goal words ws vars at end k s t g h r l u =
     let n : ℕ = length (term-words s ++ term-words t) in
     goal-word words ws vars at end k n (h .0) l (omega arith) (omega (arith, r .fits)) (r .short)
     ∙ simp (le-leb k 6 u, two-complete words ws vars (at + 1) (at + 1 + n) s t g (h .1) (inner words vars at end n r) (omega arith)) (ap (found (two-terms (eqb k 5) (s, t))) (ends-at at n))
 
-one-goal : (words : ℕ) (ws : List ℕ) (vars at end k : ℕ) (t : Term) → TermGood vars t → Stands ws at (part k (term-words t))
+one-goal : (words : ℕ) (ws : List ℕ) (vars at end k : ℕ) (t : Term) → TermGood vars t → Spells ws at (part k (term-words t))
     → GoalRoom (suc words) vars at end (suc (length (term-words t))) → 7 ≤ k → k ≤ 8
     → read-goal (suc words) ws vars at end ≡ found (one-term (eqb k 7) t) (at + suc (length (term-words t)))
-unfolding Stands
+unfolding Spells
 one-goal words ws vars at end k t g h r l u =
     let n : ℕ = length (term-words t) in
     goal-word words ws vars at end k n (h .0) (omega arith) (omega arith) (omega (arith, r .fits)) (r .short)
     ∙ simp (lt-leb k 6 (omega arith), le-leb k 8 u, one-complete words ws vars (at + 1) (at + 1 + n) t g (h .1) (inner words vars at end n r) (omega arith)) (ap (found (one-term (eqb k 7) t)) (ends-at at n))
 
-constraint-complete : (words : ℕ) (ws : List ℕ) (vars at end : ℕ) (c : Constraint) → ConstraintGood vars c → Stands ws at (constraint-words c)
+constraint-complete : (words : ℕ) (ws : List ℕ) (vars at end : ℕ) (c : Constraint) → ConstraintGood vars c → Spells ws at (constraint-words c)
     → GoalRoom (suc words) vars at end (length (constraint-words c)) → read-goal (suc words) ws vars at end ≡ found (constrain c) (at + length (constraint-words c))
-unfolding Stands read-absento
+unfolding Spells read-absento
 constraint-complete words ws vars at end (differ s t) g h r = two-goal words ws vars at end 6 s t g h r (omega arith) (omega arith)
 constraint-complete words ws vars at end (typed symbols t) g h r = one-goal words ws vars at end 7 t g h r (omega arith) (omega arith)
 constraint-complete words ws vars at end (typed numbers t) g h r = one-goal words ws vars at end 8 t g h r (omega arith) (omega arith)
-constraint-complete words ws vars at end (absento (symbol p) t) g h r =
+constraint-complete words ws vars at end (absento a t) g h r =
     let n : ℕ = length (term-words t) in
     let stop : ℕ = at + 1 + suc n in
     let i = inner words vars at end (suc n) r in
-    let w : read-word 1 ws (at + 1) (at + 1 + suc n) ≡ found p (at + 1 + 1) = word-complete 1 ws (at + 1) (at + 1 + suc n) p (h .1 .0) (g .0) (omega arith) in
+    let w : read-tag ws (at + 1) (at + 1 + suc n) ≡ found a (at + 1 + 1) = tag-complete ws (at + 1) (at + 1 + suc n) a (h .1 .0) (g .0) (omega arith) in
     let o : read-one words ws vars (at + 1 + 1) (at + 1 + suc n) ≡ found t (at + 1 + suc n) =
     one-complete words ws vars (at + 1 + 1) (at + 1 + suc n) t (g .1) (h .1 .1)
     (record { deep = omega (arith, i .deep); few = i .few; short = i .short; fits = omega arith }) (omega arith) in
     goal-word words ws vars at end 9 (suc n) (h .0) (omega arith) (omega arith) (omega (arith, r .fits)) (r .short)
-    ∙ simp (w, o) (ap (found (constrain (absento (symbol p) t))) (ends-at at (suc n)))
-constraint-complete words ws vars at end (absento (number p) t) g h r = absurd (g .0)
-constraint-complete words ws vars at end (absento empty t) g h r = absurd (g .0)
+    ∙ simp (w, o) (ap (found (constrain (absento a t))) (ends-at at (suc n)))
 
 -- what is read of goals with less depth
 ReadsGoal : ℕ → List ℕ → ℕ → Type 0
-ReadsGoal words ws vars = (at end : ℕ) (g : Goal) → GoalGood vars g → Stands ws at (goal-words g) → GoalRoom words vars at end (length (goal-words g))
+ReadsGoal words ws vars = (at end : ℕ) (g : Goal) → GoalGood vars g → Spells ws at (goal-words g) → GoalRoom words vars at end (length (goal-words g))
     → read-goal words ws vars at end ≡ found g (at + length (goal-words g))
 
 ReadsGoals : ℕ → List ℕ → ℕ → Type 0
-ReadsGoals words ws vars = (at end : ℕ) (gs : Goals) → GoalsGood vars gs → Stands ws at (goals-words gs) → GoalRoom words vars at end (length (goals-words gs))
+ReadsGoals words ws vars = (at end : ℕ) (gs : Goals) → GoalsGood vars gs → Spells ws at (goals-words gs) → GoalRoom words vars at end (length (goals-words gs))
     → 2 * (end - at) + 2 < words → end ≡ at + length (goals-words gs) → read-goals words ws vars at end ≡ found gs end
 
 goal-now : (words : ℕ) (ws : List ℕ) (vars : ℕ) → ReadsGoals words ws vars → ReadsGoal (suc words) ws vars
-unfolding ReadsGoal ReadsGoals goal-words GoalGood Stands read-call
+unfolding ReadsGoal ReadsGoals goal-words GoalGood Spells read-call
 goal-now words ws vars ih at end (equal s t) g h r = two-goal words ws vars at end 5 s t g h r (omega arith) (omega arith)
 goal-now words ws vars ih at end (constrain c) g h r = constraint-complete words ws vars at end c g h r
 goal-now words ws vars ih at end (conj gs) g h r =
@@ -236,15 +241,15 @@ goals-both (suc words) ws vars =
     let ih = goals-both words ws vars in
     (goal-now words ws vars (ih .1), goals-now words ws vars (ih .0) (ih .1))
 
-pub goal-complete : (words : ℕ) (ws : List ℕ) (vars at end : ℕ) (g : Goal) → GoalGood vars g → Stands ws at (goal-words g) → GoalRoom words vars at end (length (goal-words g))
+pub goal-complete : (words : ℕ) (ws : List ℕ) (vars at end : ℕ) (g : Goal) → GoalGood vars g → Spells ws at (goal-words g) → GoalRoom words vars at end (length (goal-words g))
     → read-goal words ws vars at end ≡ found g (at + length (goal-words g))
 unfolding ReadsGoal
 goal-complete words ws vars = goals-both words ws vars .0
 
-pub relation-complete : (words : ℕ) (ws : List ℕ) (before at : ℕ) (R : Relation) → RelationGood R → Stands ws at (relation-words R) → before < 256
-    → at + length (relation-words R) ≤ length ws → length ws ≤ 16384 → 2 * (length ws - at) < words
+pub relation-complete : (words : ℕ) (ws : List ℕ) (before at : ℕ) (R : Relation) → RelationGood R → Spells ws at (relation-words R) → before < 256
+    → at + length (relation-words R) ≤ length ws → length ws ≤ most-words → 2 * (length ws - at) < words
     → read-relation words ws before at ≡ found R (at + length (relation-words R))
-unfolding read-relation read-variables read-body Stands
+unfolding read-relation read-variables read-body Spells
 relation-complete words ws before at R g h b l s d =
     let m : ℕ = length (goal-words (R .body)) in
     let n : ℕ = suc (suc m) in
@@ -272,8 +277,8 @@ relation-complete words ws before at R g h b l s d =
       le-leb (at + 1 + n) (at + 1 + 1 + 1 + m) (omega arith),
     ) (ap (found R) z)
 
-pub relations-complete : (words : ℕ) (ws : List ℕ) (before at : ℕ) (P : Program) → RelationsGood P → Stands ws at (written P) → before + length P ≤ 256
-    → length ws ≡ at + length (written P) → length ws ≤ 16384 → 2 * (length ws - at) + 1 < words
+pub relations-complete : (words : ℕ) (ws : List ℕ) (before at : ℕ) (P : Program) → RelationsGood P → Spells ws at (written P) → before + length P ≤ 256
+    → length ws ≡ at + length (written P) → length ws ≤ most-words → 2 * (length ws - at) + 1 < words
     → read-relations words ws before at ≡ found P (length ws)
 unfolding read-relations RelationsGood written
 relations-complete zero ws before at P g h b e s d = absurd (omega arith)

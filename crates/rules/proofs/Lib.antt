@@ -1,11 +1,10 @@
 pub mod Combine
-pub mod Stands
+pub mod Spelled
 pub mod Sound
 pub mod Complete
 pub mod CallLaws
 pub mod Accepted
 pub mod Places
-pub mod TableHolds
 pub mod Readers
 pub mod Pass
 pub mod Checked

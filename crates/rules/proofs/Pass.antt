@@ -11,8 +11,8 @@ use Rattle.rules.specs.Syntax.{symbol, number, empty, Term, var, atom, p
 use Rattle.rules.specs.Written.{atom-word, term-words, terms-words, goal-words, goals-words, relation-words, written, part, sort-kind}
 use Rattle.rules.specs.WellFormed.{TermGood, TermsGood, GoalGood, GoalsGood, RelationGood, RelationsGood}
 use Rattle.rules.specs.Calls.{Fault, sound, fault, or-else, call-fault, goal-fault, goals-fault, relations-fault}
-use Rattle.rules.specs.Inner.{Stands, PartAt, TermAt, TermsAt, RelationsAt, Item, relation, goal, item-words, item-fault, items-words, ItemsGood, items-fault, Rest, Moves, params-of, ends, stops}
-use Rattle.rules.proofs.Stands.{stands-at, stands-append, stands-split, term-some, kind-of, payload-of}
+use Rattle.rules.specs.Inner.{Spells, PartAt, TermAt, TermsAt, RelationsAt, Item, relation, goal, item-words, item-fault, items-words, ItemsGood, items-fault, Rest, Moves, params-of, ends, stops}
+use Rattle.rules.proofs.Spelled.{stands-at, stands-append, stands-split, term-some, kind-of, payload-of}
 
 -- what a part at a place is, where its word is known
 part-kind : (ws : List ℕ) (at k p q n : ℕ) → PartAt ws at k p → getD ws at 0 ≡ word q n → n < 268435456 → k ≡ q
@@ -35,7 +35,7 @@ differs : {C : Type 0} (k a b : ℕ) → k ≡ a → k ≡ b → (a ≡ b → �
 differs k a b e f n = absurd (n (sym e ∙ f))
 
 pub skip-pair : (ws : List ℕ) (at k p : ℕ) (t : Term) → TermAt ws at t → PartAt ws at k p → k ≡ 4 → Onward ws at (at + 1 + p) t
-unfolding term-words TermGood Stands
+unfolding term-words TermGood Spells
 skip-pair ws at k p (var x) h s e = differs k 4 0 e (part-kind ws at k p 0 x s (h .stands .0) (omega (arith, h .good, h .few))) (omega arith)
 skip-pair ws at k p (atom (symbol q)) h s e = differs k 4 1 e (part-kind ws at k p 1 q s (h .stands .0) (h .good)) (omega arith)
 skip-pair ws at k p (atom (number q)) h s e = differs k 4 2 e (part-kind ws at k p 2 q s (h .stands .0) (h .good)) (omega arith)
@@ -53,7 +53,7 @@ skip-pair ws at k p (pair a b) h s e =
     }
 
 pub skip-leaf : (ws : List ℕ) (at k p : ℕ) (t : Term) → TermAt ws at t → PartAt ws at k p → (k ≡ 4 → ⊥) → length (term-words t) ≡ 1
-unfolding term-words Stands
+unfolding term-words Spells
 skip-leaf ws at k p (var x) h s n = refl
 skip-leaf ws at k p (atom a) h s n = refl
 skip-leaf ws at k p (pair a b) h s n =
@@ -93,12 +93,12 @@ pub record Ahead (ws : List ℕ) (at k p : ℕ) (R : Relation) (Rs : List Relati
   pub good : RelationGood R
   pub params-there : at + 1 < length ws
   pub params-word : getD ws (at + 1) 0 ≡ word 2 (R .params)
-  pub body : Stands ws (at + 3) (goal-words (R .body))
+  pub body : Spells ws (at + 3) (goal-words (R .body))
   pub size : p ≡ suc (suc (length (goal-words (R .body))))
   pub rest : RelationsAt ws (at + 1 + p) Rs
 
 pub relations-split : (ws : List ℕ) (at k p : ℕ) (R : Relation) (Rs : List Relation) → RelationsAt ws at (R ∷ Rs) → PartAt ws at k p → Ahead ws at k p R Rs
-unfolding written RelationsGood Stands
+unfolding written RelationsGood Spells
 relations-split ws at k p R Rs h s =
     let n : ℕ = suc (suc (length (goal-words (R .body)))) in
     let z : length (relation-words R ++ written Rs) ≡ suc n + length (written Rs) = length-append (relation-words R) (written Rs) in
@@ -173,19 +173,19 @@ item-is (goal vars (call r ts)) = refl
 record First (ws : List ℕ) (P : Program) (at k p : ℕ) (i : Item) (is : List Item) : Type 0 where
   pub kind : k ≡ item-kind i
   pub size : p ≡ length (item-inner i)
-  pub inner : Stands ws (at + 1) (item-inner i)
+  pub inner : Spells ws (at + 1) (item-inner i)
   pub width : length (item-words i) ≡ p + 1
   pub rest : Rest ws P (at + 1 + p) is
 
 first : (ws : List ℕ) (P : Program) (at k p : ℕ) (i : Item) (is : List Item) → Rest ws P at (i ∷ is) → PartAt ws at k p → First ws P at k p i is
-unfolding Stands
+unfolding Spells
 first ws P at k p i is h s =
     let e : item-words i ≡ part (item-kind i) (item-inner i) = item-is i in
     let n : ℕ = length (item-inner i) in
     let z : length (item-words i ++ items-words is) ≡ length (item-words i) + length (items-words is) = length-append (item-words i) (items-words is) in
     let w : length (item-words i) ≡ suc n = ap length e in
     let d = stands-split ws at (item-words i) (items-words is) (h .stands) in
-    let c : Stands ws at (part (item-kind i) (item-inner i)) = rw e at (d .0) in
+    let c : Spells ws at (part (item-kind i) (item-inner i)) = rw e at (d .0) in
     let l : n < 268435456 = omega (arith, h .to, h .whole .short, z, w) in
     let q : p ≡ n = part-size ws at k p (item-kind i) n s (c .0) l in
     record {
@@ -269,7 +269,7 @@ call-kind vars n ts = refl
 -- into a relation
 enter-relation : (ws : List ℕ) (P : Program) (at k p : ℕ) (R : Relation) (is : List Item) → Rest ws P at (relation R ∷ is) → First ws P at k p (relation R) is
     → Moves ws P at (relation R ∷ is) (ends (at + 3))
-unfolding item-inner Stands
+unfolding item-inner Spells
 enter-relation ws P at k p R is h f =
     let n : ℕ = length (goal-words (R .body)) in
     let q : p ≡ suc (suc n) = f .size in
@@ -289,7 +289,7 @@ enter-relation ws P at k p R is h f =
 
 -- into a sequence of goals
 enter-goals : (ws : List ℕ) (P : Program) (at p vars : ℕ) (gs : Goals) (is : List Item) → RelationsAt ws 0 P → vars ≤ 255 → GoalsGood vars gs → p ≡ length (goals-words gs)
-    → Stands ws (at + 1) (goals-words gs) → Rest ws P (at + 1 + p) is → (f : Fault) → f ≡ or-else (goals-fault gs P (at + 1)) (items-fault is P (at + suc (length (goals-words gs))))
+    → Spells ws (at + 1) (goals-words gs) → Rest ws P (at + 1 + p) is → (f : Fault) → f ≡ or-else (goals-fault gs P (at + 1)) (items-fault is P (at + suc (length (goals-words gs))))
     → (js : List Item) × Rest ws P (at + 1) js × (f ≡ items-fault js P (at + 1)) × (at < at + 1)
 enter-goals ws P at p vars gs is w few good q s r f e =
     let z : length (goals-words gs ++ items-words is) ≡ length (goals-words gs) + length (items-words is) = length-append (goals-words gs) (items-words is) in
@@ -364,11 +364,11 @@ module _ (ws : List ℕ) (P : Program) (at k p : ℕ) (is : List Item) (s : Part
     call-inside = omega (arith, called .rest .to, called .size)
 
     pub call-wanted : (q m : ℕ) → PartAt ws (at + 1) q m → m ≡ n
-    unfolding item-inner Stands GoalGood
+    unfolding item-inner Spells GoalGood
     call-wanted q m t = part-size ws (at + 1) q m 2 n t (called .inner .0) (h .good .0 .0 .0)
 
     pub call-terms : TermsAt ws (at + 2) (at + 1 + p) ts
-    unfolding item-inner Stands GoalGood
+    unfolding item-inner Spells GoalGood
     call-terms = record {
       vars = vars;
       few = h .good .0 .1;

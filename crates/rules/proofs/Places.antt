@@ -10,9 +10,10 @@ use lib.ListN.{length, getElem?, length-append}
 use borrow.Author.Tests.{ltb-true, leb-true}
 use Rattle.rules.specs.Syntax.{Goal, Goals, equal, constrain, conj, disj, call, one, more, Relation, Program}
 use Rattle.rules.specs.Written.{goal-words, goals-words, relation-words, written}
-use Rattle.rules.specs.Reading.{Reading, found, refuse, next, require, choose, filled, fill, kind-at, payload-at, after, read-word, read-leaf, read-term, read-one, read-two, read-terms, goal-kind, goal-parts, read-goal, read-goals, read-absento, read-call, read-body, read-variables, read-relation, read-relations, read-structure}
+use Rattle.rules.specs.Reading.{Reading, found, refuse, next, require, choose, filled, fill, kind-at, payload-at, after, read-word, read-leaf, read-term, read-one, read-two, read-terms, goal-kind, goal-parts, read-goal, read-goals, read-tag, read-absento, read-call, read-body, read-variables, read-relation, read-relations, read-structure}
 use Rattle.rules.specs.Calls.{Fault, sound, fault, or-else, counted, call-fault, goal-fault, goals-fault, relations-fault}
 use Rattle.rules.specs.Accept.{refused, judge, calls-read, read}
+use Rattle.rules.specs.Settings.{most-words}
 use Rattle.rules.proofs.Sound.{term-sound, word-sound, goal-sound, relation-sound}
 use Rattle.rules.proofs.Accepted.{structure-written}
 
@@ -59,6 +60,10 @@ word-bounded k ws at end =
     bounded-require end 3 end (ltb at end) _ (placed end 3 end (omega arith) (omega arith) (omega arith)) (λ z.
     let l : at < end = ltb-true at end z in
     bounded-require end 2 at (eqb (kind-at ws at) k) _ (placed end 2 at (omega arith) (omega arith) (omega arith)) (λ _. tt))
+
+tag-bounded : (ws : List ℕ) (at end : ℕ) → Bounded end (read-tag ws at end)
+unfolding read-tag
+tag-bounded ws at end = bounded-next end (read-word 1 ws at end) _ (word-bounded 1 ws at end) (λ p n _. tt)
 
 leaf-bounded : (k p vars at end : ℕ) → at ≤ end → Bounded end (read-leaf k p vars at)
 unfolding read-leaf
@@ -125,7 +130,7 @@ goals-both-bounded (suc words) ws vars =
           (bounded-choose to (leb k 6) _ _ (λ _. bounded-next to (read-two words ws vars from to) _ (two-bounded words ws vars from to) (λ p n _. tt)) (λ _.
           bounded-choose to (leb k 8) _ _ (λ _. bounded-next to (read-one words ws vars from to) _ (one-bounded words ws vars from to) (λ t n _. tt)) (λ _.
           bounded-choose to (eqb k 9) _ _
-          (λ _. bounded-next to (read-word 1 ws from to) _ (word-bounded 1 ws from to) (λ p n _.
+          (λ _. bounded-next to (read-tag ws from to) _ (tag-bounded ws from to) (λ a n _.
           bounded-next to (read-one words ws vars n to) _ (one-bounded words ws vars n to) (λ t m _. tt))) (λ _.
           bounded-choose to (leb k 11) _ _ (λ _. bounded-next to (read-goals words ws vars from to) _ (ih .1 from to) (λ gs n _. tt)) (λ _.
           bounded-next to (read-word 2 ws from to) _ (word-bounded 2 ws from to) (λ r n _.
@@ -168,7 +173,7 @@ relations-bounded (suc words) ws before at l =
 
 structure-bounded : (ws : List ℕ) → Bounded (length ws) (read-structure ws)
 structure-bounded ws =
-    bounded-require (length ws) 1 0 (leb 1 (length ws) && leb (length ws) 16384) _ (placed (length ws) 1 0 (omega arith) (omega arith) (omega arith))
+    bounded-require (length ws) 1 0 (leb 1 (length ws) && leb (length ws) most-words) _ (placed (length ws) 1 0 (omega arith) (omega arith) (omega arith))
     (λ _. relations-bounded (2 * length ws + 4) ws 0 0 (omega arith))
 
 -- the same of the calls' faults

@@ -8,17 +8,17 @@ use lib.Dec.{eqb, ltb, leb}
 use lib.ListN.{length, getD, length-append}
 use borrow.Author.Tests.{ltb-true, ltb-false, leb-true, leb-false, eqb-true, eqb-false}
 use Rattle.word.specs.Word.{payload, word}
-use Rattle.rules.specs.Syntax.{Term, pair, Goal, Goals, Relation, Program}
-use Rattle.rules.specs.Written.{term-words, terms-words, goal-words, goals-words, relation-words, written, part}
-use Rattle.rules.specs.Reading.{found, fill, kind-at, payload-at, after, read-word, read-leaf, read-term, read-one, read-two, read-terms, goal-kind, goal-parts, read-goal, read-goals, read-absento, read-call, read-body, read-variables, read-relation, read-relations, two-terms, one-term, of-goals}
-use Rattle.rules.specs.WellFormed.{TermGood, TermsGood, GoalGood, GoalsGood, RelationGood, RelationsGood}
+use Rattle.rules.specs.Syntax.{Atom, Term, pair, Goal, Goals, Relation, Program}
+use Rattle.rules.specs.Written.{atom-word, term-words, terms-words, goal-words, goals-words, relation-words, written, part}
+use Rattle.rules.specs.Reading.{found, fill, kind-at, payload-at, after, read-word, read-leaf, read-term, read-one, read-two, read-terms, goal-kind, goal-parts, read-goal, read-goals, read-tag, read-absento, read-call, read-body, read-variables, read-relation, read-relations, two-terms, one-term, of-goals}
+use Rattle.rules.specs.WellFormed.{TagGood, TermGood, TermsGood, GoalGood, GoalsGood, RelationGood, RelationsGood}
 use Rattle.rules.proofs.Combine.{found-not-refused, found-carries, require-found, choose-found, next-found, fill-found, and-true}
-use Rattle.rules.specs.Inner.{Stands}
-use Rattle.rules.proofs.Stands.{stands-at, stands-append, is-word}
+use Rattle.rules.specs.Inner.{Spells}
+use Rattle.rules.proofs.Spelled.{stands-at, stands-append, is-word}
 
 -- `xs`, which is good, stands from `at` up to `n`, which is not past `end`
 pub record Found (ws : List ℕ) (at end : ℕ) (xs : List ℕ) (Good : Type 0) (n : ℕ) : Type 0 where
-  pub stands : Stands ws at xs
+  pub stands : Spells ws at xs
   pub to : n ≡ at + length xs
   pub within : n ≤ end
   pub good : Good
@@ -28,7 +28,7 @@ FoundTerm ws vars at end t n = Found ws at end (term-words t) (TermGood vars t) 
 
 -- a word at `at`
 one-word : (ws : List ℕ) (at end w : ℕ) (Good : Type 0) → getD ws at 0 ≡ w → at < end → Good → Found ws at end (w ∷ []) Good (at + 1)
-unfolding Stands
+unfolding Spells
 one-word ws at end w Good e l g = record { stands = (e, tt); to = refl; within = omega arith; good = g }
 
 payload-small : (w : ℕ) → payload w < 268435456
@@ -46,7 +46,7 @@ joined ws at end xs ys G H n m f g =
 
 -- a part of kind k whose words fill it
 pub parted : (ws : List ℕ) (k at end : ℕ) (xs : List ℕ) (G : Type 0) (n : ℕ) → kind-at ws at ≡ k → after ws at ≤ end → Found ws (at + 1) (after ws at) xs G n → after ws at ≤ n → Found ws at end (part k xs) G n
-unfolding Stands
+unfolding Spells
 parted ws k at end xs G n e l f u =
     let z : payload-at ws at ≡ length xs = omega (arith, f .to, f .within) in
     record {
@@ -86,7 +86,7 @@ leaf-sound ws vars at end t n l k k4 e =
 -- a pair, from its two parts
 paired : (ws : List ℕ) (vars at end : ℕ) (s t : Term) (m n : ℕ) → kind-at ws at ≡ 4 → after ws at ≤ end
     → FoundTerm ws vars (at + 1) (after ws at) s m → after ws at ≤ m → FoundTerm ws vars (after ws at) end t n → FoundTerm ws vars at end (pair s t) n
-unfolding Stands term-words TermGood
+unfolding Spells term-words TermGood
 paired ws vars at end s t m n k l f u g =
     let z : payload-at ws at ≡ length (term-words s) = omega (arith, f .to, f .within) in
     let y : after ws at ≡ at + 1 + length (term-words s) = omega (arith, f .to, f .within) in
@@ -140,7 +140,7 @@ abbrev pub FoundTerms : List ℕ → ℕ → ℕ → ℕ → List Term → ℕ �
 FoundTerms ws vars at end ts n = Found ws at end (terms-words ts) (TermsGood vars ts) n × (end ≤ n)
 
 pub terms-sound : (words : ℕ) (ws : List ℕ) (vars at end : ℕ) (ts : List Term) (n : ℕ) → at ≤ end → read-terms words ws vars at end ≡ found ts n → FoundTerms ws vars at end ts n
-unfolding read-terms terms-words TermsGood Stands
+unfolding read-terms terms-words TermsGood Spells
 terms-sound zero ws vars at end ts n l e = found-not-refused ts n 3 end e
 terms-sound (suc words) ws vars at end ts n l e =
     choose-found (ltb at end) _ _ _ e
@@ -161,6 +161,12 @@ word-sound k ws at end p n e =
     let q₂ = require-found (eqb (kind-at ws at) k) 2 at _ p n (q₁ .1) in
     found-carries (λ p n. Found ws at end (word k p ∷ []) (p < 268435456) n × (n ≡ at + 1)) (q₂ .1)
     (one-word ws at end (word k (payload-at ws at)) _ (is-word _ k (eqb-true _ _ (q₂ .0))) (ltb-true _ _ (q₁ .0)) (payload-small _), refl)
+
+pub tag-sound : (ws : List ℕ) (at end : ℕ) (a : Atom) (n : ℕ) → read-tag ws at end ≡ found a n → Found ws at end (atom-word a ∷ []) (TagGood a) n
+unfolding read-tag
+tag-sound ws at end a n e =
+    let p = next-found (read-word 1 ws at end) _ a n e in
+    found-carries (λ a n. Found ws at end (atom-word a ∷ []) (TagGood a) n) (p .rest) (word-sound 1 ws at end (p .value) (p .to) (p .first) .0)
 
 abbrev pub FoundGoal : List ℕ → ℕ → ℕ → ℕ → Goal → ℕ → Type 0
 FoundGoal ws vars at end g n = Found ws at end (goal-words g) (GoalGood vars g) n
@@ -205,12 +211,12 @@ parts-sound words ws vars at end ih v l u g n e =
     (either-goal ws vars at end 7 8 k _ _ (p .to) (one-term true (p .value)) (one-term false (p .value)) (λ t. one-term t (p .value)) refl refl refl refl refl refl refl refl (leb-false k 6 z₆) (leb-true k 8 z) v (f .0) (f .1)))
     (λ z₈ e₂. choose-found (eqb k 9) _ _ _ e₂
     (λ z e₃.
-    let p = next-found (read-word 1 ws from to) _ g n e₃ in
+    let p = next-found (read-tag ws from to) _ g n e₃ in
     let q = next-found (read-one words ws vars (p .to) to) _ g n (p .rest) in
-    let f = word-sound 1 ws from to (p .value) (p .to) (p .first) in
+    let f = tag-sound ws from to (p .value) (p .to) (p .first) in
     let h = one-sound words ws vars (p .to) to (q .value) (q .to) (q .first) in
     found-carries (λ g n. FoundGoal ws vars at end g n) (q .rest)
-    (parted ws 9 at end _ _ (q .to) (eqb-true k 9 z) v (joined ws from to _ _ _ _ (p .to) (q .to) (f .0) (h .0)) (h .1)))
+    (parted ws 9 at end _ _ (q .to) (eqb-true k 9 z) v (joined ws from to _ _ _ _ (p .to) (q .to) f (h .0)) (h .1)))
     (λ z₉ e₃. choose-found (leb k 11) _ _ _ e₃
     (λ z e₄.
     let p = next-found (read-goals words ws vars from to) _ g n e₄ in
@@ -298,7 +304,7 @@ relation-sound words ws before at R n l e =
     let f = word-sound 2 ws (at + 1) (after ws at) (p .value) (p .to) (p .first) in
     let g = variables-sound words ws (p .value) (p .to) (after ws at) R n (p .rest) in
     let j = joined ws (at + 1) (after ws at) (word 2 (p .value) ∷ []) (word 2 (R .vars) ∷ goal-words (R .body)) _ _ (p .to) n (f .0) (g .0) in
-    let s : Stands ws (at + 1) (word 2 (R .params) ∷ word 2 (R .vars) ∷ goal-words (R .body)) = rw (g .0 .good .1) (j .stands) in
+    let s : Spells ws (at + 1) (word 2 (R .params) ∷ word 2 (R .vars) ∷ goal-words (R .body)) = rw (g .0 .good .1) (j .stands) in
     let m : Found ws (at + 1) (after ws at) (word 2 (R .params) ∷ word 2 (R .vars) ∷ goal-words (R .body)) (RelationGood R) n =
     record { stands = s; to = j .to; within = j .within; good = g .0 .good .0 } in
     let w = parted ws 13 at (length ws) _ _ n (eqb-true _ _ (q₁ .0)) v m (g .1) in
@@ -306,7 +312,7 @@ relation-sound words ws before at R n l e =
 
 pub relations-sound : (words : ℕ) (ws : List ℕ) (before at : ℕ) (P : Program) (n : ℕ) → at ≤ length ws → before ≤ 256 → read-relations words ws before at ≡ found P n
     → Found ws at (length ws) (written P) (RelationsGood P × (before + length P ≤ 256)) n × (length ws ≤ n)
-unfolding read-relations written RelationsGood Stands
+unfolding read-relations written RelationsGood Spells
 relations-sound zero ws before at P n l b e = found-not-refused P n 3 at e
 relations-sound (suc words) ws before at P n l b e =
     choose-found (ltb at (length ws)) _ _ _ e

@@ -7,5 +7,5 @@ pub mod Settings
 pub mod Accept
 pub mod WellFormed
 pub mod Verdict
-pub mod Table
+pub mod Lists
 pub mod Inner

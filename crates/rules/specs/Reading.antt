@@ -9,7 +9,8 @@ use mathlib.Core.List.{List, [], _∷_}
 use lib.Dec.{eqb, ltb, leb}
 use lib.ListN.{length, getD}
 use Rattle.word.specs.Word.{kind, payload}
-use Rattle.rules.specs.Syntax.{symbol, number, empty, Term, var, atom, pair, symbols, numbers, differ, typed, absento, Goal, Goals, equal, constrain, conj, disj, call, one, more, Relation, Program}
+use Rattle.rules.specs.Syntax.{Atom, symbol, number, empty, Term, var, atom, pair, symbols, numbers, differ, typed, absento, Goal, Goals, equal, constrain, conj, disj, call, one, more, Relation, Program}
+use Rattle.rules.specs.Settings.{most-words}
 
 -- what a reader finds: a value and the place after it, or the number and the place of a refusal
 pub data Reading (A : Type 0) : Type 0 where
@@ -119,9 +120,13 @@ abbrev pub of-goals : Bool → Goals → Goal
 of-goals true gs = conj gs
 of-goals false gs = disj gs
 
--- "absento: a symbol word (the tag), one term"
+-- what stands in the tag's place: "a symbol word (the tag)", so any other word there is of a wrong kind
+unfoldable pub read-tag : List ℕ → ℕ → ℕ → Reading Atom
+read-tag ws at end = next (read-word 1 ws at end) (λ p n. found (symbol p) n)
+
+-- "absento: .. the tag, one term"
 unfoldable pub read-absento : ℕ → List ℕ → ℕ → ℕ → ℕ → Reading Goal
-read-absento words ws vars at end = next (read-word 1 ws at end) (λ p n. next (read-one words ws vars n end) (λ t m. found (constrain (absento (symbol p) t)) m))
+read-absento words ws vars at end = next (read-tag ws at end) (λ a n. next (read-one words ws vars n end) (λ t m. found (constrain (absento a t)) m))
 
 -- "call: a number word (the relation), its argument terms"
 unfoldable pub read-call : ℕ → List ℕ → ℕ → ℕ → ℕ → Reading Goal
@@ -189,4 +194,4 @@ read-relations (suc words) ws before at =
 -- conditions 1 to 6: "word count outside the bounds" first
 abbrev pub read-structure : List ℕ → Reading Program
 read-structure ws =
-    require (leb 1 (length ws) && leb (length ws) 16384) 1 0 (λ _. read-relations (2 * length ws + 4) ws 0 0)
+    require (leb 1 (length ws) && leb (length ws) most-words) 1 0 (λ _. read-relations (2 * length ws + 4) ws 0 0)

@@ -3,6 +3,10 @@ use Prim.Native.Nat.{ℕ}
 use mathlib.Core.Bool.{Bool, _&&_}
 use lib.Dec.{leb}
 
+-- "Program 1 to 16,384 words"
+abbrev pub most-words : ℕ
+most-words = 16384
+
 -- "scratch at least 16,384 words"
 abbrev pub scratch-words : ℕ
 scratch-words = 16384

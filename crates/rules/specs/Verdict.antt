@@ -1,5 +1,5 @@
 -- What `check` answers, in document 01's numbers. `Condition` and `Verdict` are the enums of src/lib.rt; condition 9 is about settings, which `check` is not given.
-use Prim.Native.Nat.{ℕ, _+_, _*_}
+use Prim.Native.Nat.{ℕ}
 use Rattle.rules.specs.Accept.{Accept, accepted, refused}
 use Rattle.rules.specs.declared.Condition.{Condition}
 use Rattle.rules.specs.declared.Condition.the-variants.{WordCount, WrongKind, WrongExtent, VariableCount, UnknownVariable, RelationCount, UnknownRelation, ArgumentCount}
@@ -30,8 +30,3 @@ said (refused c p) = no-said c p
 abbrev pub meaning : Verdict → Said
 meaning Accepted = yes-said
 meaning (Refused c p) = no-said (number-of c) p
-
--- the same as one number, for callers in other languages
-abbrev pub packed : Said → ℕ
-packed yes-said = 0
-packed (no-said c p) = c * 4294967296 + p

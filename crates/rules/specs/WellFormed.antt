@@ -6,6 +6,7 @@ use mathlib.Core.List.{List, [], _∷_}
 use lib.ListN.{length, getElem?}
 use Rattle.rules.specs.Syntax.{Atom, symbol, number, empty, Term, var, atom, pair, Constraint, differ, typed, absento, Goal, Goals, equal, constrain, conj, disj, call, one, more, Relation, Program}
 use Rattle.rules.specs.Written.{written}
+use Rattle.rules.specs.Settings.{most-words}
 
 -- payloads are below 2^28
 abbrev pub AtomGood : Atom → Type 0
@@ -88,4 +89,4 @@ pub record WrittenForm (ws : List ℕ) (P : Program) : Type 0 where
   pub is-written : ws ≡ written P
   pub well-formed : WellFormed P
   pub some-words : 1 ≤ length ws
-  pub few-words : length ws ≤ 16384
+  pub few-words : length ws ≤ most-words

@@ -1,14 +1,14 @@
 // Conditions 7 and 8: one pass over the calls of a program whose structure is read already.
 use crate::Condition;
-use crate::Read;
 use crate::Verdict;
+use crate::part::Read;
 use crate::part::part_at;
 use word::Word;
 ghost use mathlib.Core.Path.{_≡_};
 ghost use mathlib.Core.List.{List, _∷_};
 ghost use Prim.Native.Nat.{ℕ, _+_};
 ghost use lib.ListN.{length, getElem?};
-ghost use Rattle.rules.specs.Syntax.{Term, Goal, call, Program};
+ghost use Rattle.rules.specs.Syntax.{Term, call, Program};
 ghost use Rattle.rules.specs.Written.{term-words};
 ghost use Rattle.rules.specs.Calls.{relations-fault};
 ghost use Rattle.rules.specs.Accept.{judge};

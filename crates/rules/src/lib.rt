@@ -1,11 +1,15 @@
 // Rule files in the written form: is this list of words a program, and if not, why and where?
 mod calls;
 mod part;
-mod structure;
+mod reading;
 
+use crate::part::Read;
 ghost use mathlib.Core.Path.{_≡_};
 ghost use Rattle.rules.specs.Accept.{read};
-ghost use Rattle.rules.specs.Verdict.{number-of, said, meaning, packed};
+ghost use Rattle.rules.specs.Verdict.{number-of, said, meaning};
+
+// The longest program, in words.
+const MOST_WORDS: usize = 16384;
 
 // The conditions 1 to 8 by which document 01 turns a program away.
 pub enum Condition {
@@ -43,12 +47,6 @@ pub enum Verdict {
     Refused(Condition, usize),
 }
 
-// What a reader of one part found: the place after the part, or a refusal.
-pub enum Read {
-    Done(usize),
-    Refused(Condition, usize),
-}
-
 // Reads the whole program: its structure first, then its calls.
 pub fn check(program: &[u32]) -> Verdict
     ensures { λ r. ⌜ meaning r ≡ said (read (now (program .entry))) ⌝ }
@@ -56,22 +54,11 @@ pub fn check(program: &[u32]) -> Verdict
     if program.len() < 1 {
         return Verdict::Refused(Condition::WordCount, 0);
     }
-    if 16384 < program.len() {
+    if MOST_WORDS < program.len() {
         return Verdict::Refused(Condition::WordCount, 0);
     }
-    match structure::read_relations(program) {
+    match reading::read_relations(program) {
         Read::Refused(c, place) => Verdict::Refused(c, place),
         Read::Done(_) => calls::check_calls(program),
-    }
-}
-
-// For Rust and C: 0 if the program is accepted, else the number times 2^32 plus the place.
-#[no_mangle]
-pub extern "C" fn kindcanvas_check(program: &[u32]) -> u64
-    ensures { λ r. ⌜ r ≡ packed (said (read (now (program .entry)))) ⌝ }
-{
-    match check(program) {
-        Verdict::Accepted => 0,
-        Verdict::Refused(c, place) => (c.number() as u64) * 4294967296 + (place as u64),
     }
 }

@@ -1,4 +1,5 @@
-// The first word of a part.
+// A part: its first word, and what reading it comes to.
+use crate::Condition;
 use word::Word;
 ghost use Prim.Native.Nat.{_<_};
 ghost use lib.ListN.{length};
@@ -8,6 +9,12 @@ ghost use Rattle.rules.specs.Inner.{PartAt};
 pub struct Part {
     pub kind: u32,
     pub size: usize,
+}
+
+// What a reader of one part found: the place after the part, or a refusal.
+pub(crate) enum Read {
+    Done(usize),
+    Refused(Condition, usize),
 }
 
 pub(crate) fn part_at(program: &[u32], at: usize) -> Part

@@ -6,14 +6,16 @@ use mathlib.Core.Logic.{_↔_, inl, inr}
 use mathlib.Core.Path.{_∙_, _≡_, ap, ap₂, refl, subst, sym}
 use native.Mathlib.Omega.{arith}
 use lib.ListN.{getD, length, length-append, length-map}
+use Rattle.rules.specs.Lists.{Each, Some}
 use Rattle.rules.specs.Reading.{Reading, choose, found}
 use Rattle.rules.specs.Syntax.{Constraint, Goal, Sort, Term, absento, atom, differ, numbers, pair, symbols, typed, var}
 use Rattle.rules.specs.Written.{terms-words}
 use Rattle.semantics.specs.Answer.{Line, all-lines, answer, answer-words, index, line-goal, line-in, lines-words, listed, look-through, names-of, parameters, query-terms, reify, reify-line, vars-in}
+use Rattle.semantics.specs.Invariant.{Good, Passes, Reaches, Sat, SortPasses, Sound, TermIn}
 use Rattle.semantics.specs.Logic.{AllProper, Assignment, Holds, Proper, Tree, firsts, value}
 use Rattle.semantics.specs.Path.{Path}
 use Rattle.semantics.specs.Review.{clashes}
-use Rattle.semantics.specs.Shows.{Each, Shows, Some, any, read-answer}
+use Rattle.semantics.specs.Shows.{Shows, payloads, read-answer}
 use Rattle.semantics.specs.Steps.{done, goals}
 use Rattle.semantics.specs.Substitution.{Substitution, resolve, walk}
 use Rattle.semantics.proofs.Basics.{each-map}
@@ -23,11 +25,9 @@ use Rattle.semantics.proofs.Listed.{MayFit, all-listed, goal-met, liste
 use Rattle.semantics.proofs.Names.{appear-all-few, appear-all-has, inner, inner-outer, line-fits, met-outer, outer, terms-fit, values-outer}
 use Rattle.semantics.proofs.Narrow.{Solves}
 use Rattle.semantics.proofs.ReadBack.{answer-back, line-goals}
-use Rattle.semantics.proofs.ReviewLaws.{Passes, Reaches, SortPasses, clashes-true, sort-true}
-use Rattle.semantics.proofs.Sound.{Sound}
+use Rattle.semantics.proofs.ReviewLaws.{clashes-true, sort-true}
 use Rattle.semantics.proofs.StepLaws.{done-value, through}
-use Rattle.semantics.proofs.SubstitutionLaws.{Good, Sat, Seen, complete, in-more, resolve-in, sat-complete, value-resolve, walk-seen}
-use Rattle.semantics.proofs.TermLaws.{TermIn}
+use Rattle.semantics.proofs.SubstitutionLaws.{Seen, complete, in-more, resolve-in, sat-complete, value-resolve, walk-seen}
 
 same-read : {A B : Type 0} {o : Reading (A × B)} {a c : A} {b d : B} {m n : ℕ} → o ≡ found (a, b) m → o ≡ found (c, d) n → (a ≡ c) × (b ≡ d)
 same-read {A} {B} {a} {c} {b} {d} p q = let e : _≡_ {A = A × B} (a, b) (c, d) = cc in (ap (λ (r : A × B). r .0) e, ap (λ (r : A × B). r .1) e)
@@ -107,7 +107,7 @@ pub record ShowsPath (n : ℕ) (bs : Substitution) (kept : List Constraint) (ws 
   pub some-tuple : (tuple : List Tree) × Shows n ws tuple
 
 module _ (bs : Substitution) (kept : List Constraint) (made : ℕ) (sound : Sound bs kept made) (n : ℕ) (query : n ≤ made) (lines : List Line)
-    (listing : Listing made bs (kind-in bs kept) (tags-in kept) kept lines) (short : length (answer-words bs n lines) ≤ any) where
+    (listing : Listing made bs (kind-in bs kept) (tags-in kept) kept lines) (short : length (answer-words bs n lines) ≤ payloads) where
   abbrev N : List ℕ
   N = names-of bs n
 
@@ -117,10 +117,10 @@ module _ (bs : Substitution) (kept : List Constraint) (made : ℕ) (sound : Soun
   abbrev L : List Line
   L = listed N [] lines
 
-  total : length (terms-words (map (reify N) T)) + length (lines-words N L) < any
+  total : length (terms-words (map (reify N) T)) + length (lines-words N L) < payloads
   total = let a = length-append (terms-words (map (reify N) T)) (lines-words N L) in omega arith
 
-  few-names : length N < any
+  few-names : length N < payloads
   few-names = let a = appear-all-few N [] T in let b = total in omega arith
 
   terms-in : Each (TermIn made) T
@@ -214,11 +214,11 @@ module _ (bs : Substitution) (kept : List Constraint) (made : ℕ) (sound : Soun
       let f = some-filled (kind-in bs kept) (tags-in kept) lines (listing .ready) few-lines in
       record { just = λ tuple. (shown-begins tuple, begins-shown tuple); some-tuple = (map (value (f .assignment)) T, met-shown (f .assignment) (f .proper) (f .meets)) }
 
-pub answer-shows : (p : Path) (n left left′ : ℕ) (ws : List ℕ) → Sound (p .bindings) (p .kept) (p .made) → n ≤ p .made → answer p n left ≡ done ws left′ → length ws ≤ any → ShowsPath n (p .bindings) (p .kept) ws
+pub answer-shows : (p : Path) (n left left′ : ℕ) (ws : List ℕ) → Sound (p .bindings) (p .kept) (p .made) → n ≤ p .made → answer p n left ≡ done ws left′ → length ws ≤ payloads → ShowsPath n (p .bindings) (p .kept) ws
 answer-shows p n left left′ ws sound query e short =
     let a = through (look-through (p .bindings) (parameters 0 n) left) _ ws left′ e in
     let b = through (all-lines (p .bindings) (p .kept) (a .left)) _ ws left′ (a .second) in
     let q = done-value (answer-words (p .bindings) n (b .value)) ws (b .left) left′ (b .second) in
     let listing = all-listing (p .made) (sound .few-made) (p .bindings) (sound .good) (sound .scope) (kind-in (p .bindings) (p .kept)) (tags-in (p .kept)) (p .kept) (sound .kept-in)
     (may-meet (p .bindings) (sound .good) (p .kept) (p .kept) (λ Q m. m) (λ ps m. m) (sound .passes)) (a .left) (b .left) (b .value) (b .first) in
-    subst (ShowsPath n (p .bindings) (p .kept)) q (lines-show (p .bindings) (p .kept) (p .made) sound n query (b .value) listing (subst (λ (vs : List ℕ). length vs ≤ any) (sym q) short))
+    subst (ShowsPath n (p .bindings) (p .kept)) q (lines-show (p .bindings) (p .kept) (p .made) sound n query (b .value) listing (subst (λ (vs : List ℕ). length vs ≤ payloads) (sym q) short))

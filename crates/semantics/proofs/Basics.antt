@@ -7,8 +7,8 @@ use mathlib.Core.Path.{_≡_, refl}
 use native.Mathlib.Omega.{arith}
 use lib.Dec.{eqb}
 use borrow.Author.Tests.{eqb-false, eqb-true}
+use Rattle.rules.specs.Lists.{Each, Some}
 use Rattle.rules.specs.Reading.{choose}
-use Rattle.semantics.specs.Shows.{Each, Some}
 
 -- what two constructors of one value come to: `clash (cc …)`
 pub clash {ℓ} : {A : Type ℓ} → _≡_ {A = ℕ} 0 1 → A

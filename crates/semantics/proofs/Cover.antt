@@ -10,14 +10,14 @@ use lib.ListN.{getElem?, length}
 use borrow.Author.Tests.{ltb-false, ltb-true}
 use Rattle.rules.specs.Reading.{choose}
 use Rattle.rules.specs.Syntax.{Constraint, Goal, Goals, Program, Relation, Term, call, conj, constrain, disj, equal, more, one}
+use Rattle.semantics.specs.Invariant.{GoalIn, GoalsIn, TasksIn, TermsIn}
 use Rattle.semantics.specs.Logic.{All, AllProper, Any, Assignment, Holds, Meets, Proper, Tree, all-more, all-one, any-first, any-later, any-one, call-holds, conj-holds, constrain-holds, disj-holds, equal-holds, firsts, value}
 use Rattle.semantics.specs.Path.{Task, bind-params, wait-all}
 use Rattle.semantics.specs.Substitution.{Substitution}
 use Rattle.semantics.proofs.Basics.{by-choose}
 use Rattle.semantics.proofs.Narrow.{Solves}
-use Rattle.semantics.proofs.Programs.{GoalIn, GoalsIn}
 use Rattle.semantics.proofs.Sound.{sat-params}
-use Rattle.semantics.proofs.TermLaws.{Agree, TermsIn, firsts-local, from, meets-local, value-local, values-local}
+use Rattle.semantics.proofs.TermLaws.{Agree, firsts-local, from, meets-local, value-local, values-local}
 
 -- Two assignments that near below v
 
@@ -40,14 +40,6 @@ module _ (P : Program) (v : ℕ) (α β : Assignment) (near : Agree v α β) whe
     any-local (more g gs) m i (any-later h) = any-later (any-local gs m (i .1) h)
 
 -- Tasks
-
--- a task's goal is one of a relation with v variables, made from the task's base on
-abbrev pub TaskIn : Program → ℕ → Task → Type 0
-TaskIn P made task = (v : ℕ) × (task .0 + v ≤ made) × GoalIn P v (task .1)
-
-abbrev pub TasksIn : Program → ℕ → List Task → Type 0
-TasksIn P made [] = Unit {0}
-TasksIn P made (task ∷ tasks) = TaskIn P made task × TasksIn P made tasks
 
 -- the tasks hold, with j calls in all
 abbrev pub TasksHold : Program → Assignment → List Task → ℕ → Type 0

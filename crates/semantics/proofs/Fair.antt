@@ -9,7 +9,7 @@ use borrow.Author.Tests.{leb-true}
 use Rattle.rules.specs.Syntax.{Goals, Program, Relation, more, one}
 use Rattle.semantics.specs.Answer.{answer}
 use Rattle.semantics.specs.Path.{ChoicePoint, Passing, Path, Taken, Task, cut, goes, leaves, take-goal-by, taken-by}
-use Rattle.semantics.specs.Round.{Answer, End, Next, Result, Rounded, State, Tally, after, after-round, back, broken, completed, count-cut, end-of, finished, give, go-on, going, one-round-by, onward, output-full, over, path-limit, result, resume, rounds-by, rounds-used, search-by, spend, start, steps-used, turn-by, write}
+use Rattle.semantics.specs.Round.{Answer, End, Next, Result, Rounded, State, Tally, after, after-round, backtrack, broken, completed, count-cut, end-of, finished, give, go-on, going, one-round-by, onward, output-full, over, path-limit, result, resume, rounds-by, rounds-used, search-by, spend, start, steps-used, turn-by, write}
 use Rattle.semantics.specs.Run.{page}
 use Rattle.semantics.specs.Steps.{Outcome, Stop, at-bound, done, no-steps, stop}
 use Rattle.semantics.proofs.Basics.{by-choose}
@@ -42,7 +42,7 @@ NextFair m total (going s) = (s .tally .left < m) × FitsPage total (s .tally)
 NextFair m total (over r) = RoundedFair m total r
 
 module _ (pass : Passing) (P : Program) (n k m total : ℕ) where
-  back-fair : (cs : List ChoicePoint) (t : Tally) → t .left < m → FitsPage total t → NextFair m total (back cs t)
+  back-fair : (cs : List ChoicePoint) (t : Tally) → t .left < m → FitsPage total t → NextFair m total (backtrack cs t)
   back-fair [] t h f = (omega arith, f)
   back-fair (c ∷ cs) t h f = go (c .rest)
     where

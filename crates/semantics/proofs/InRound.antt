@@ -13,7 +13,7 @@ use Rattle.rules.specs.Reading.{choose}
 use Rattle.rules.specs.Syntax.{Goals, Program, Relation, more, one}
 use Rattle.semantics.specs.Answer.{answer}
 use Rattle.semantics.specs.Path.{ChoicePoint, Passing, Path, Taken, Task, cut, goes, leaves}
-use Rattle.semantics.specs.Round.{Answer, End, Next, Rounded, State, Tally, after, back, broken, completed, give, go-on, going, one-round-by, onward, output-full, over, resume, search-by, spend, start, turn-by, write}
+use Rattle.semantics.specs.Round.{Answer, End, Next, Rounded, State, Tally, after, backtrack, broken, completed, give, go-on, going, one-round-by, onward, output-full, over, resume, search-by, spend, start, turn-by, write}
 use Rattle.semantics.specs.Run.{page}
 use Rattle.semantics.specs.Situation.{BreaksOff, Completes, PathEnds, PathLeft, Reached, Turns, failed, gave-answer, gave-none, goes-on, has, here, onto, takes-goal, tries-last, tries-next, was-cut}
 use Rattle.semantics.specs.Steps.{Bound, Outcome, done, most, stop, variables}
@@ -24,15 +24,15 @@ use Rattle.semantics.proofs.WithinBounds.{NextWithin, StateWithin, Took
 
 module _ (pass : Passing) (P : Program) (n k : ℕ) (s : State) where
   -- a path that is left is backtracked from
-  left-back : {t : Tally} {cs : List ChoicePoint} → PathLeft pass P n k s t cs → turn-by pass P n k s ≡ back cs t
+  left-back : {t : Tally} {cs : List ChoicePoint} → PathLeft pass P n k s t cs → turn-by pass P n k s ≡ backtrack cs t
   left-back (failed l e) = ap (after P n k s) e
   left-back (was-cut l e) = ap (after P n k s) e
   left-back (gave-none p cs l e r h) =
       ap (after P n k s) e ∙ ap (λ (stack : List Task). go-on P n k p stack cs (spend (s .tally) l)) r
-      ∙ ap (λ (b : Bool). choose b (λ _. give P n k cs (spend (s .tally) l) (answer p n l)) (λ _. back cs (spend (s .tally) l))) (ne-eqb (p .calls) k (omega arith))
+      ∙ ap (λ (b : Bool). choose b (λ _. give P n k cs (spend (s .tally) l) (answer p n l)) (λ _. backtrack cs (spend (s .tally) l))) (ne-eqb (p .calls) k (omega arith))
   left-back (gave-answer p m x ws l e h) =
       ends-give pass P n k s p m x ∙ ap (give P n k (x .choices) (spend (s .tally) m)) e
-      ∙ ap (λ (b : Bool). choose b (λ _. back (x .choices) (write (spend (s .tally) m) k l ws)) (λ _. over (broken output-full (spend (spend (s .tally) m) l)))) (le-leb (length ws) (s .tally .room) h)
+      ∙ ap (λ (b : Bool). choose b (λ _. backtrack (x .choices) (write (spend (s .tally) m) k l ws)) (λ _. over (broken output-full (spend (spend (s .tally) m) l)))) (le-leb (length ws) (s .tally .room) h)
 
   -- one turn
   pub turns-going : {s′ : State} → Turns pass P n k s s′ → turn-by pass P n k s ≡ going s′
@@ -48,7 +48,7 @@ module _ (pass : Passing) (P : Program) (n k : ℕ) (s : State) where
   LeadsTo (over (completed t)) = PathLeft pass P n k s t []
   LeadsTo (over (broken e t)) = Unit {0}
 
-  left-leads : {t : Tally} (cs : List ChoicePoint) → PathLeft pass P n k s t cs → LeadsTo (back cs t)
+  left-leads : {t : Tally} (cs : List ChoicePoint) → PathLeft pass P n k s t cs → LeadsTo (backtrack cs t)
   left-leads [] x = x
   left-leads {t} (c ∷ cs) x = go (c .rest) refl
     where

@@ -10,12 +10,13 @@ use lib.Dec.{eqb}
 use lib.ListN.{length}
 use borrow.Author.Tests.{eqb-true}
 use Rattle.word.specs.Word.{kind}
+use Rattle.rules.specs.Lists.{Each}
 use Rattle.rules.specs.Reading.{choose}
 use Rattle.rules.specs.Syntax.{Atom, Constraint, Sort, Term, absento, atom, differ, pair, typed, var}
 use Rattle.rules.specs.WellFormed.{TagGood}
 use Rattle.semantics.specs.Answer.{Line, all-lines, appear, is-sort, lacks, lacks-each, lines-of, look-through, member, not-all, resolve-right, trial-bindings, trial-lines, typed-lines}
+use Rattle.semantics.specs.Invariant.{ConstraintIn, Good, In, Open, Sat, TermIn, Throughout, Unforced, Vars, Without, some-node}
 use Rattle.semantics.specs.Logic.{Assignment, Lacks, Meets, OfSort, leaf, value}
-use Rattle.semantics.specs.Shows.{Each}
 use Rattle.semantics.specs.Steps.{done}
 use Rattle.semantics.specs.Substitution.{Substitution, resolve, walk}
 use Rattle.semantics.specs.Unify.{is-atom, never, scan, unify-terms}
@@ -23,8 +24,8 @@ use Rattle.semantics.proofs.Basics.{clash, each-append, each-map, each-
 use Rattle.semantics.proofs.Fill.{Among, Fit, LineGood, Met, atom-payload, differs-in}
 use Rattle.semantics.proofs.Fresh.{fresh}
 use Rattle.semantics.proofs.StepLaws.{done-value, through}
-use Rattle.semantics.proofs.SubstitutionLaws.{Good, In, Open, Sat, Seen, Throughout, complete, complete-open, open-tail, resolve-in, resolve-opened, resolve-opens, value-complete, value-resolve, value-walk, walk-in, walk-seen}
-use Rattle.semantics.proofs.TermLaws.{ConstraintIn, TermIn, Vars, Without, lacks-term, replace, replace-other, some-node, vars-below}
+use Rattle.semantics.proofs.SubstitutionLaws.{Seen, complete, complete-open, open-tail, resolve-in, resolve-opened, resolve-opens, value-complete, value-resolve, value-walk, walk-in, walk-seen}
+use Rattle.semantics.proofs.TermLaws.{lacks-term, replace, replace-other, vars-below}
 use Rattle.semantics.proofs.UnifyLaws.{Unifier, no-news, trial-new, trial-ok, unify-none, unify-some}
 
 -- the variables of a line are open; and below top, with payloads that fit
@@ -56,9 +57,6 @@ all-met-open β bs [] o h = tt
 all-met-open β bs (l ∷ ls) o h = (met-open β bs l (o .0) (h .0), all-met-open β bs ls (o .1) (h .1))
 
 -- What is asked of a constraint that a path keeps: not all assignments of the path fail it, with a sort for each variable and the tags in a list.
-
-abbrev pub Unforced : Substitution → Term → Term → Type 0
-Unforced bs s t = ¬ ((α : Assignment) → Sat α bs → value α s ≡ value α t)
 
 abbrev pub SortMay : (ℕ → Sort) → Sort → Term → Type 0
 SortMay kind k (var x) = kind x ≡ k

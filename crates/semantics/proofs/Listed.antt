@@ -1,6 +1,6 @@
 -- Which lines an answer lists: those over the names, each once. Those that are dropped as repeated say nothing new.
 use Prim.Native.Nat.{_≤_, ℕ}
-use mathlib.Core.Bool.{Bool, _&&_, false, not, true}
+use mathlib.Core.Bool.{Bool, false, true}
 use mathlib.Core.List.{List, [], _∷_, map}
 use mathlib.Core.Logic.{_↔_, ⊎-elim}
 use mathlib.Core.Path.{_≡_, ap, ap₂, refl, subst, sym}
@@ -8,22 +8,23 @@ use native.Mathlib.Omega.{arith}
 use lib.Dec.{eqb}
 use lib.ListN.{length, length-append}
 use borrow.Author.Tests.{eqb-true, not-false}
+use Rattle.rules.specs.Lists.{Each}
 use Rattle.rules.specs.Reading.{choose}
 use Rattle.rules.specs.Syntax.{Atom, Constraint, Goal, Goals, Program, Term, atom, constrain, differ, disj, empty, var}
-use Rattle.semantics.specs.Answer.{Line, any-same, differ-goals, is-sort, lacks, line-goal, line-in, line-words, lines-words, listed, not-all, reify-line, same-words}
+use Rattle.semantics.specs.Answer.{Line, any-same, differ-goals, is-sort, lacks, line-goal, line-in, line-words, lines-words, listed, not-all, reify-line, same-words, stays}
+use Rattle.semantics.specs.Invariant.{Sat}
 use Rattle.semantics.specs.Logic.{Any, Assignment, Holds, Meets, Tree, any-first, any-later, any-one, constrain-holds, disj-holds, leaf, node, value}
-use Rattle.semantics.specs.Shows.{Each, any}
+use Rattle.semantics.specs.Shows.{payloads}
 use Rattle.semantics.specs.Substitution.{same-atom}
 use Rattle.semantics.proofs.Basics.{and-true, by-choose, clash, one-of}
 use Rattle.semantics.proofs.Fill.{Met}
 use Rattle.semantics.proofs.ReadBack.{LineFits, goal-determined}
-use Rattle.semantics.proofs.SubstitutionLaws.{Sat}
 use Rattle.semantics.proofs.TermLaws.{same-atom-false, same-atom-true}
 
 pub listed-each : (P : Line → Type 0) (names : List ℕ) (before : List (List ℕ)) (ls : List Line) → Each (λ l. line-in names l ≡ true → P l) ls → Each P (listed names before ls)
 listed-each P names before [] h = tt
 listed-each P names before (l ∷ ls) h =
-    by-choose (Each P) (line-in names l && not (any-same (line-words names l) before)) _ _
+    by-choose (Each P) (stays names before l) _ _
     (λ e. (h .0 (and-true _ _ e .0), listed-each P names (line-words names l ∷ before) ls (h .1)))
     (λ e. listed-each P names before ls (h .1))
 
@@ -36,9 +37,9 @@ same-true (v ∷ vs) (w ∷ ws) e = let (p, q) = and-true (eqb v w) (same-words 
 module _ (names : List ℕ) where
   -- a line whose words are of a number that fits has payloads that fit
   abbrev pub MayFit : Line → Type 0
-  MayFit l = length (line-words names l) ≤ any → LineFits (reify-line names l)
+  MayFit l = length (line-words names l) ≤ payloads → LineFits (reify-line names l)
 
-  pub listed-fit : (ls : List Line) → Each MayFit ls → length (lines-words names ls) ≤ any → Each (λ l. LineFits (reify-line names l)) ls
+  pub listed-fit : (ls : List Line) → Each MayFit ls → length (lines-words names ls) ≤ payloads → Each (λ l. LineFits (reify-line names l)) ls
   listed-fit [] h s = tt
   listed-fit (l ∷ ls) h s = let a = length-append (line-words names l) (lines-words names ls) in (h .0 (omega arith), listed-fit ls (h .1) (omega arith))
 
@@ -47,7 +48,7 @@ module _ (names : List ℕ) where
     Holding l = H (line-goal (reify-line names l))
 
     abbrev Known : Line → Type 0
-    Known l = LineFits (reify-line names l) × (length (line-words names l) ≤ any) × Holding l
+    Known l = LineFits (reify-line names l) × (length (line-words names l) ≤ payloads) × Holding l
 
     repeated : (l : Line) (before : List Line) → MayFit l → Each Known before → any-same (line-words names l) (map (line-words names) before) ≡ true → Holding l
     repeated l [] h k e = clash (cc)
@@ -57,11 +58,11 @@ module _ (names : List ℕ) where
         (one-of (same-words (line-words names l) (line-words names m)) (any-same (line-words names l) (map (line-words names) ms)) e)
 
     -- what holds of the lines listed holds of all lines over the names
-    pub all-listed : (before ls : List Line) → Each Known before → Each (λ l. line-in names l ≡ true → MayFit l) ls → length (lines-words names (listed names (map (line-words names) before) ls)) ≤ any →
+    pub all-listed : (before ls : List Line) → Each Known before → Each (λ l. line-in names l ≡ true → MayFit l) ls → length (lines-words names (listed names (map (line-words names) before) ls)) ≤ payloads →
         Each Holding (listed names (map (line-words names) before) ls) → Each (λ l. line-in names l ≡ true → Holding l) ls
     all-listed before [] k f s h = tt
     all-listed before (l ∷ ls) k f s h =
-        go (line-in names l && not (any-same (line-words names l) (map (line-words names) before))) refl s h (λ i. all-listed (l ∷ before) ls (i, k) (f .1)) (all-listed before ls k (f .1))
+        go (stays names (map (line-words names) before) l) refl s h (λ i. all-listed (l ∷ before) ls (i, k) (f .1)) (all-listed before ls k (f .1))
       where
         W : List (List ℕ)
         W = map (line-words names) before
@@ -69,14 +70,14 @@ module _ (names : List ℕ) where
         Rest : Type 0
         Rest = Each (λ l. line-in names l ≡ true → Holding l) ls
 
-        go : (b : Bool) → (line-in names l && not (any-same (line-words names l) W)) ≡ b →
-            length (lines-words names (choose b (λ _. l ∷ listed names (line-words names l ∷ W) ls) (λ _. listed names W ls))) ≤ any →
+        go : (b : Bool) → stays names W l ≡ b →
+            length (lines-words names (choose b (λ _. l ∷ listed names (line-words names l ∷ W) ls) (λ _. listed names W ls))) ≤ payloads →
             Each Holding (choose b (λ _. l ∷ listed names (line-words names l ∷ W) ls) (λ _. listed names W ls)) →
-            (Known l → length (lines-words names (listed names (line-words names l ∷ W) ls)) ≤ any → Each Holding (listed names (line-words names l ∷ W) ls) → Rest) →
-            (length (lines-words names (listed names W ls)) ≤ any → Each Holding (listed names W ls) → Rest) → (line-in names l ≡ true → Holding l) × Rest
+            (Known l → length (lines-words names (listed names (line-words names l ∷ W) ls)) ≤ payloads → Each Holding (listed names (line-words names l ∷ W) ls) → Rest) →
+            (length (lines-words names (listed names W ls)) ≤ payloads → Each Holding (listed names W ls) → Rest) → (line-in names l ≡ true → Holding l) × Rest
         go true e s h i j =
             let a = length-append (line-words names l) (lines-words names (listed names (line-words names l ∷ W) ls)) in
-            let n : length (line-words names l) ≤ any = omega arith in
+            let n : length (line-words names l) ≤ payloads = omega arith in
             ((λ q. h .0), i (f .0 (and-true _ _ e .0) n, n, h .0) (omega arith) (h .1))
         go false e s h i j = ((λ q. repeated l before (f .0 q) k (not-false _ (rw q at e))), j s h)
 

@@ -9,19 +9,19 @@ use lib.Dec.{eqb}
 use lib.ListN.{getD, length, length-append}
 use borrow.Author.Tests.{eq-eqb, eqb-true}
 use Rattle.word.specs.Word.{kind}
+use Rattle.rules.specs.Lists.{Each}
 use Rattle.rules.specs.Reading.{choose}
 use Rattle.rules.specs.Syntax.{Sort, Term, atom, pair, var}
 use Rattle.rules.specs.Written.{goal-words, goals-words, term-words, terms-words}
 use Rattle.semantics.specs.Answer.{Line, appear, appear-all, bindings-in, differ-goal, differ-goals, index, is-sort, lacks, line-in, line-words, member, not-all, reify, reify-bindings, reify-line, vars-in}
+use Rattle.semantics.specs.Invariant.{In, Sat, TermIn}
 use Rattle.semantics.specs.Logic.{Assignment, node, value}
-use Rattle.semantics.specs.Shows.{Each, any}
+use Rattle.semantics.specs.Shows.{payloads}
 use Rattle.semantics.proofs.Basics.{and-true, by-choose, clash, or-right}
 use Rattle.semantics.proofs.Fill.{LineGood, Met, member-left}
 use Rattle.semantics.proofs.LineLaws.{LineIn}
 use Rattle.rules.specs.WellFormed.{TermGood}
 use Rattle.semantics.proofs.ReadBack.{EquationFits, LineFits, TermFits, TermsFit}
-use Rattle.semantics.proofs.SubstitutionLaws.{In, Sat}
-use Rattle.semantics.proofs.TermLaws.{TermIn}
 
 abbrev pub outer : List ℕ → Assignment → Assignment
 outer names β x = β (index x names)
@@ -114,11 +114,11 @@ appear-all-few names s (t ∷ ts) =
 
 -- terms and lines over the names fit their words
 
-module _ (names : List ℕ) (top : ℕ) (few : length names < any) where
-  name-fits : (x : ℕ) → member x names ≡ true → index x names < any
+module _ (names : List ℕ) (top : ℕ) (few : length names < payloads) where
+  name-fits : (x : ℕ) → member x names ≡ true → index x names < payloads
   name-fits x e = let h = index-less x names e in omega arith
 
-  pub term-fits : (t : Term) → vars-in names t ≡ true → TermIn top t → length (term-words (reify names t)) < any → TermFits (reify names t)
+  pub term-fits : (t : Term) → vars-in names t ≡ true → TermIn top t → length (term-words (reify names t)) < payloads → TermFits (reify names t)
   unfolding term-words TermGood
   term-fits (var x) e h s = name-fits x e
   term-fits (atom a) e h s = h
@@ -126,19 +126,19 @@ module _ (names : List ℕ) (top : ℕ) (few : length names < any) where
       let a = length-append (term-words (reify names t)) (term-words (reify names u)) in let (p, q) = and-true (vars-in names t) (vars-in names u) e in
       (term-fits t p (h .0) (omega arith), term-fits u q (h .1) (omega arith))
 
-  pub terms-fit : (ts : List Term) → Each (λ t. vars-in names t ≡ true) ts → Each (TermIn top) ts → length (terms-words (map (reify names) ts)) < any → TermsFit (map (reify names) ts)
+  pub terms-fit : (ts : List Term) → Each (λ t. vars-in names t ≡ true) ts → Each (TermIn top) ts → length (terms-words (map (reify names) ts)) < payloads → TermsFit (map (reify names) ts)
   unfolding terms-words
   terms-fit [] e h s = tt
   terms-fit (t ∷ ts) e h s =
       let a = length-append (term-words (reify names t)) (terms-words (map (reify names) ts)) in (term-fits t (e .0) (h .0) (omega arith), terms-fit ts (e .1) (h .1) (omega arith))
 
-  equation-fits : (b : ℕ × Term) → (member (b .0) names && vars-in names (b .1)) ≡ true → TermIn top (b .1) → length (goal-words (differ-goal (index (b .0) names, reify names (b .1)))) ≤ any → EquationFits (index (b .0) names, reify names (b .1))
+  equation-fits : (b : ℕ × Term) → (member (b .0) names && vars-in names (b .1)) ≡ true → TermIn top (b .1) → length (goal-words (differ-goal (index (b .0) names, reify names (b .1)))) ≤ payloads → EquationFits (index (b .0) names, reify names (b .1))
   unfolding goal-words term-words
   equation-fits b e h s =
       let (p, q) = and-true (member (b .0) names) (vars-in names (b .1)) e in
       (name-fits (b .0) p, term-fits (b .1) q h (omega (arith, length-append (term-words (var (index (b .0) names))) (term-words (reify names (b .1))))))
 
-  equations-fit : (b : ℕ × Term) (bs : List (ℕ × Term)) → bindings-in names (b ∷ bs) ≡ true → In top (b ∷ bs) → length (goals-words (differ-goals (index (b .0) names, reify names (b .1)) (reify-bindings names bs))) ≤ any →
+  equations-fit : (b : ℕ × Term) (bs : List (ℕ × Term)) → bindings-in names (b ∷ bs) ≡ true → In top (b ∷ bs) → length (goals-words (differ-goals (index (b .0) names, reify names (b .1)) (reify-bindings names bs))) ≤ payloads →
       Each EquationFits (reify-bindings names (b ∷ bs))
   unfolding goal-words
   equations-fit b [] e h s = (equation-fits b (and-true _ _ e .0) (h .0 .1) s, tt)
@@ -147,7 +147,7 @@ module _ (names : List ℕ) (top : ℕ) (few : length names < any) where
       let a = length-append (goal-words (differ-goal (index (b .0) names, reify names (b .1)))) (goals-words (differ-goals (index (c .0) names, reify names (c .1)) (reify-bindings names bs))) in
       (equation-fits b p (h .0 .1) (omega arith), equations-fit c bs q (h .1) (omega arith))
 
-  pub line-fits : (kind : ℕ → Sort) (tags : List ℕ) (l : Line) → LineGood kind tags l → LineIn top l → line-in names l ≡ true → length (line-words names l) ≤ any → LineFits (reify-line names l)
+  pub line-fits : (kind : ℕ → Sort) (tags : List ℕ) (l : Line) → LineGood kind tags l → LineIn top l → line-in names l ≡ true → length (line-words names l) ≤ payloads → LineFits (reify-line names l)
   unfolding goal-words
   line-fits kind tags (is-sort k x) g h e s = name-fits x e
   line-fits kind tags (lacks a x) g h e s = (h .0, name-fits x e)

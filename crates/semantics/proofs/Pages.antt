@@ -8,6 +8,7 @@ use lib.Dec.{eqb}
 use lib.ListN.{length, length-append, length-replicate, replicate}
 use lib.Seq.{drop-append-seam, take-append-seam}
 use borrow.Author.Tests.{eqb-true}
+use Rattle.rules.specs.Lists.{Each}
 use Rattle.rules.specs.Reading.{Reading, found, kind-at, next, payload-at, require}
 use Rattle.rules.specs.Syntax.{Goal, Program, Term}
 use Rattle.semantics.specs.Demand.{Demand3, query-count}
@@ -15,7 +16,7 @@ use Rattle.semantics.specs.Logic.{Tree}
 use Rattle.semantics.specs.Promise.{OnPage}
 use Rattle.semantics.specs.Round.{Answer, Result}
 use Rattle.semantics.specs.Run.{leave, page, ran, split-page}
-use Rattle.semantics.specs.Shows.{Each, Shows, deep, read-listed, read-query}
+use Rattle.semantics.specs.Shows.{Shows, deep, read-listed, read-query}
 use Rattle.semantics.proofs.Basics.{and-true, clash, each-map}
 
 -- an answer's first word tells its length

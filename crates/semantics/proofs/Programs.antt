@@ -1,41 +1,13 @@
 -- Well-formed programs: what the search uses of them.
-use Prim.Native.Nat.{_≤_, suc, zero, ℕ}
+use Prim.Native.Nat.{suc, zero, ℕ}
 use mathlib.Core.List.{List, [], _∷_}
 use mathlib.Core.Option.{Option, none, some}
 use mathlib.Core.Path.{_≡_, refl, subst}
 use lib.ListN.{getElem?, length}
 use Rattle.rules.specs.Syntax.{Constraint, Goal, Goals, Program, Relation, Term, absento, atom, call, conj, constrain, differ, disj, equal, more, one, pair, typed, var}
 use Rattle.rules.specs.WellFormed.{CallGood, ConstraintGood, GoalCalls, GoalGood, GoalsCalls, GoalsGood, RelationsCalls, RelationsGood, TermGood, TermsGood, WellFormed}
+use Rattle.semantics.specs.Invariant.{CallIn, ConstraintIn, GoalIn, GoalsIn, ProgramIn, RelationIn, TermIn, TermsIn}
 use Rattle.semantics.proofs.Basics.{clash}
-use Rattle.semantics.proofs.TermLaws.{ConstraintIn, TermIn, TermsIn}
-
--- a call names a relation that is there, with as many arguments as it has parameters
-pub record CallIn (P : Program) (v r : ℕ) (ts : List Term) : Type 0 where
-  pub relation : Relation
-  pub is-there : getElem? P r ≡ some relation
-  pub fits : length ts ≡ relation .params
-  pub terms-in : TermsIn v ts
-
-abbrev mutual
-  pub GoalIn : Program → ℕ → Goal → Type 0
-  GoalIn P v (equal s t) = TermIn v s × TermIn v t
-  GoalIn P v (constrain c) = ConstraintIn v c
-  GoalIn P v (conj gs) = GoalsIn P v gs
-  GoalIn P v (disj gs) = GoalsIn P v gs
-  GoalIn P v (call r ts) = CallIn P v r ts
-
-  pub GoalsIn : Program → ℕ → Goals → Type 0
-  GoalsIn P v (one g) = GoalIn P v g
-  GoalsIn P v (more g gs) = GoalIn P v g × GoalsIn P v gs
-
-pub record RelationIn (P : Program) (R : Relation) : Type 0 where
-  pub few-vars : R .vars ≤ 255
-  pub params-vars : R .params ≤ R .vars
-  pub body-in : GoalIn P (R .vars) (R .body)
-
--- every relation of the program
-abbrev pub ProgramIn : Program → Type 0
-ProgramIn P = (r : ℕ) (R : Relation) → getElem? P r ≡ some R → RelationIn P R
 
 term-in : (v : ℕ) (t : Term) → TermGood v t → TermIn v t
 unfolding TermGood

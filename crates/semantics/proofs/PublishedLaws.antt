@@ -8,12 +8,12 @@ use native.Mathlib.Omega.{arith}
 use lib.Dec.{eqb, leb, ltb}
 use lib.ListN.{getElem?, length}
 use borrow.Author.Tests.{leb-false, lt-leb, lt-ltb, ltb-false, ltb-true, ne-eqb}
+use Rattle.rules.specs.Lists.{Each}
 use Rattle.rules.specs.Reading.{choose}
 use Rattle.rules.specs.Syntax.{Goal, Goals, Program, Relation, Term, call, conj, constrain, disj, equal, more, one}
 use Rattle.semantics.specs.Path.{Passing}
 use Rattle.semantics.specs.Published.{Branch, Leads, Leaf, all-lead, answers-of, any-leads, branch-words, call-leads, constraint-fails, equal-leads, first-branch, from-each, goal-leads, is-cut, leads, round-answers, round-leaves, some-fails, succeeds, unified}
 use Rattle.semantics.specs.Round.{Answer}
-use Rattle.semantics.specs.Shows.{Each}
 use Rattle.semantics.specs.Substitution.{Substitution, shift, shift-constraint}
 use Rattle.semantics.proofs.Basics.{by-choose, each-append, each-map}
 

@@ -8,13 +8,13 @@ use lib.Dec.{ltb}
 use lib.ListN.{length}
 use Rattle.rules.specs.Reading.{choose}
 use Rattle.rules.specs.Syntax.{Atom, Term, atom, pair, var}
+use Rattle.semantics.specs.Invariant.{Good, some-node}
 use Rattle.semantics.specs.Steps.{Outcome, at-bound, done, most, stop, waiting}
 use Rattle.semantics.specs.Substitution.{Substitution, resolve, walk}
 use Rattle.semantics.specs.Unify.{is-atom, is-var, scan, scan-next, scan-parts}
 use Rattle.semantics.proofs.Basics.{clash}
 use Rattle.semantics.proofs.StepLaws.{More, Spent, more-bound, more-done, spent-up}
-use Rattle.semantics.proofs.SubstitutionLaws.{Good, Seen, walk-seen}
-use Rattle.semantics.proofs.TermLaws.{some-node}
+use Rattle.semantics.proofs.SubstitutionLaws.{Seen, walk-seen}
 
 abbrev pub Leaf : Term → Type 0
 Leaf (var x) = Unit {0}

@@ -9,38 +9,18 @@ use lib.Dec.{eqb, ltb}
 use lib.ListN.{length}
 use borrow.Author.Tests.{eq-eqb, le-ltb, lt-ltb, ltb-true, ne-eqb}
 use Rattle.rules.specs.Syntax.{Atom, Term, atom, pair, var}
+use Rattle.semantics.specs.Invariant.{Fits, Good, In, Open, Sat, TermIn, Throughout, Vars, Without}
 use Rattle.semantics.specs.Logic.{Assignment, node, value}
-use Rattle.semantics.specs.Shows.{Each}
 use Rattle.semantics.specs.Substitution.{Substitution, hop-variable, last-variable, lookup, resolve, walk, walk-for}
 use Rattle.semantics.specs.Unify.{is-var}
 use Rattle.semantics.proofs.Basics.{clash, compared, each-map, other, same}
-use Rattle.semantics.proofs.TermLaws.{Agree, TermIn, Vars, Without, replace, replace-in, replace-other, replace-same, replace-without, term-more, term-size, value-local, value-replace, vars-both, vars-map, vars-replace}
-
--- every binding is such
-abbrev pub Throughout : (ℕ → Term → Type 0) → Substitution → Type 0
-Throughout P bs = Each (λ (b : ℕ × Term). P (b .0) (b .1)) bs
-
--- an assignment keeps to the bindings
-abbrev pub Sat : Assignment → Substitution → Type 0
-Sat α bs = Throughout (λ x t. α x ≡ value α t) bs
-
-abbrev pub Open : Substitution → ℕ → Type 0
-Open bs x = lookup bs x ≡ none
+use Rattle.semantics.proofs.TermLaws.{Agree, replace, replace-in, replace-other, replace-same, replace-without, term-more, value-local, value-replace, vars-both, vars-map, vars-replace, term-size}
 
 -- a term that following does not change
 abbrev pub Followed : Substitution → Term → Type 0
 Followed bs (var x) = Open bs x
 Followed bs (atom a) = Unit {0}
 Followed bs (pair s t) = Unit {0}
-
--- x may be bound to t, on top of bs
-pub record Fits (bs : Substitution) (x : ℕ) (t : Term) : Type 0 where
-  pub opens : Open bs x
-  pub acyclic : Without x (resolve bs t)
-
-abbrev pub Good : Substitution → Type 0
-Good [] = Unit {0}
-Good (b ∷ bs) = Good bs × Fits bs (b .0) (b .1)
 
 -- looking up
 pub lookup-same : (y : ℕ) (u : Term) (bs : Substitution) (x : ℕ) → eqb y x ≡ true → lookup ((y, u) ∷ bs) x ≡ some u
@@ -365,9 +345,7 @@ size-pair bs g t a b e = ap term-size (subst (Seen bs (resolve bs t)) e (walk-se
 pub size-parts : (bs : Substitution) → Good bs → (t a b : Term) → walk bs t ≡ pair a b → (size bs a < size bs t) × (size bs b < size bs t)
 size-parts bs g t a b e = let h = size-pair bs g t a b e in omega arith
 
--- every variable of the bindings is below top, and every payload fits
-abbrev pub In : ℕ → Substitution → Type 0
-In top bs = Throughout (λ x t. (x < top) × TermIn top t) bs
+-- Bindings over the variables below top
 
 pub in-more : (top high : ℕ) → top ≤ high → (bs : Substitution) → In top bs → In high bs
 in-more top high k bs h = each-map (λ b i. (omega (arith, i .0), term-more top high (b .1) k (i .1))) bs h

@@ -1,6 +1,6 @@
 -- Terms: the variables in them, values, putting a term in for a variable, sizes.
 use Prim.Native.Nat.{_+_, _<_, _≤_, suc, zero, ℕ}
-use mathlib.Core.Bool.{Bool, _||_, false, true}
+use mathlib.Core.Bool.{Bool, false, true}
 use mathlib.Core.List.{List, [], _∷_, map}
 use mathlib.Core.Logic.{_↔_, inl, inr}
 use mathlib.Core.Path.{_∙_, _≡_, ap, ap₂, refl, subst, sym}
@@ -9,12 +9,18 @@ use native.Mathlib.Omega.{arith}
 use lib.Dec.{eqb}
 use borrow.Author.Tests.{eq-eqb, eqb-false, eqb-true, ne-eqb}
 use Rattle.rules.specs.Syntax.{Atom, Constraint, Term, absento, atom, differ, empty, number, pair, symbol, typed, var}
-use Rattle.rules.specs.WellFormed.{AtomGood, TagGood}
+-- how many pairs a term has; it stands in specs/ because the writer's contracts name it
+use Rattle.semantics.specs.Invariant.{ConstraintIn, TermIn, TermsIn, Vars, Without, some-node}
 use Rattle.semantics.specs.Logic.{Assignment, Lacks, Meets, OfSort, Tree, firsts, leaf, node, value}
-use Rattle.semantics.specs.Shows.{Each}
 use Rattle.semantics.specs.Substitution.{put, same-atom, shift, shift-constraint}
 use Rattle.semantics.specs.Unify.{is-atom, is-var}
 use Rattle.semantics.proofs.Basics.{clash, compared, none-of, one-of, other, same}
+
+-- how many pairs a term has
+abbrev pub term-size : Term → ℕ
+term-size (var x) = 0
+term-size (atom a) = 0
+term-size (pair s t) = suc (term-size s + term-size t)
 
 pub same-atom-true : (a b : Atom) → same-atom a b ≡ true → a ≡ b
 same-atom-true (symbol p) (symbol q) e = ap symbol (eqb-true p q e)
@@ -45,12 +51,6 @@ replace-same x u y e = rw e
 pub replace-other : (x : ℕ) (u : Term) (y : ℕ) → eqb x y ≡ false → replace x u (var y) ≡ var y
 replace-other x u y e = rw e
 
--- every variable of a term is one of those
-abbrev pub Vars : (ℕ → Type 0) → Term → Type 0
-Vars P (var x) = P x
-Vars P (atom a) = Unit {0}
-Vars P (pair s t) = Vars P s × Vars P t
-
 pub vars-map : {P Q : ℕ → Type 0} → ((x : ℕ) → P x → Q x) → (t : Term) → Vars P t → Vars Q t
 vars-map f (var x) h = f x h
 vars-map f (atom a) h = tt
@@ -66,10 +66,6 @@ vars-replace x u (var y) f k h = elim (compared x y) [ same p e ↦ rw (replace-
 vars-replace x u (atom a) f k h = tt
 vars-replace x u (pair s t) f k h = (vars-replace x u s f k (h .0), vars-replace x u t f k (h .1))
 
--- x is not in t
-abbrev pub Without : ℕ → Term → Type 0
-Without x t = Vars (λ y. ¬ (x ≡ y)) t
-
 pub replace-without : (x : ℕ) (u t : Term) → Without x t → replace x u t ≡ t
 replace-without x u (var y) h = elim (compared x y) [ same p e ↦ absurd (h p) | other n e ↦ replace-other x u y e ]
 replace-without x u (atom a) h = refl
@@ -84,12 +80,6 @@ pub value-agree : (α β : Assignment) (t : Term) → Vars (λ x. α x ≡ β x)
 value-agree α β (var x) h = h
 value-agree α β (atom a) h = refl
 value-agree α β (pair s t) h = ap₂ node (value-agree α β s (h .0)) (value-agree α β t (h .1))
-
--- some node of the term passes the test
-abbrev pub some-node : (Term → Bool) → Term → Bool
-some-node p (var x) = p (var x)
-some-node p (atom a) = p (atom a)
-some-node p (pair s t) = p (pair s t) || (some-node p s || some-node p t)
 
 abbrev pub inside : ℕ → Term → Bool
 inside x t = some-node (is-var x) t
@@ -107,11 +97,6 @@ without-inside x (pair s t) h = rw (without-inside x s (h .0), without-inside x 
 abbrev pub tree-size : Tree → ℕ
 tree-size (leaf a) = 0
 tree-size (node s t) = suc (tree-size s + tree-size t)
-
-abbrev pub term-size : Term → ℕ
-term-size (var x) = 0
-term-size (atom a) = 0
-term-size (pair s t) = suc (term-size s + term-size t)
 
 pub inside-size : (α : Assignment) (x : ℕ) (t : Term) → inside x t ≡ true → tree-size (α x) ≤ tree-size (value α t)
 inside-size α x (var y) e = rw (eqb-true x y e) (le-refl _)
@@ -149,19 +134,6 @@ pub atom-inside : (α : Assignment) (a : Atom) (t : Term) → some-node (is-atom
 atom-inside α a t e l = clash (cc (lacks-term α a t .0 l .0))
 
 -- Terms, constraints over the variables below v, with payloads that fit a word
-
-abbrev pub TermIn : ℕ → Term → Type 0
-TermIn v (var x) = x < v
-TermIn v (atom a) = AtomGood a
-TermIn v (pair s t) = TermIn v s × TermIn v t
-
-abbrev pub TermsIn : ℕ → List Term → Type 0
-TermsIn v ts = Each (TermIn v) ts
-
-abbrev pub ConstraintIn : ℕ → Constraint → Type 0
-ConstraintIn v (differ s t) = TermIn v s × TermIn v t
-ConstraintIn v (typed k t) = TermIn v t
-ConstraintIn v (absento a t) = TagGood a × TermIn v t
 
 pub term-more : (v w : ℕ) (t : Term) → v ≤ w → TermIn v t → TermIn w t
 term-more v w (var x) h i = omega arith

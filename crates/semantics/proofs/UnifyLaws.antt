@@ -13,6 +13,7 @@ use borrow.Author.Tests.{eqb-true}
 use Rattle.rules.specs.Reading.{choose, found}
 use Rattle.rules.specs.Syntax.{Term, atom, pair, var}
 use Rattle.semantics.specs.Answer.{resolve-right, trial-bindings}
+use Rattle.semantics.specs.Invariant.{Fits, Good, In, Open, Sat, TermIn}
 use Rattle.semantics.specs.Logic.{Assignment, leaf, node, value}
 use Rattle.semantics.specs.Steps.{Outcome, Stop, at-bound, done, most, stop, waiting}
 use Rattle.semantics.specs.Substitution.{Substitution, resolve, same-atom, walk}
@@ -20,8 +21,8 @@ use Rattle.semantics.specs.Unify.{Goes, Looked, Pairs, agrees, bind, bin
 use Rattle.semantics.proofs.Basics.{by-choose, clash, compared, each-append, each-reverse, other, same}
 use Rattle.semantics.proofs.ScanLaws.{is-var-heads, scan-alone, scan-more, scan-spent}
 use Rattle.semantics.proofs.StepLaws.{More, Spent, more-bound, more-done, more-then, spent-then, spent-up}
-use Rattle.semantics.proofs.SubstitutionLaws.{Fits, Followed, Good, In, Open, Sat, resolve-atom, resolve-open, resolve-pair, value-resolve, value-walk, walk-followed, walk-in}
-use Rattle.semantics.proofs.TermLaws.{TermIn, inside, inside-pair, not-inside, same-atom-false, same-atom-true}
+use Rattle.semantics.proofs.SubstitutionLaws.{Followed, resolve-atom, resolve-open, resolve-pair, value-resolve, value-walk, walk-followed, walk-in}
+use Rattle.semantics.proofs.TermLaws.{inside, inside-pair, not-inside, same-atom-false, same-atom-true}
 
 -- the pairs of terms that are to be equal
 abbrev pub Equal : Assignment → Pairs → Type 0
@@ -73,11 +74,11 @@ pub record Binds (top : ℕ) (bs : Substitution) (f g : Term) (x : ℕ) (u : Ter
   pub alike : (α : Assignment) → (α x ≡ value α u) ↔ (value α f ≡ value α g)
   pub scope : TermIn top f → TermIn top g → (x < top) × TermIn top u
 
-abbrev pub Told : ℕ → Substitution → Term → Term → Looked → Type 0
-Told top bs f g fails = (α : Assignment) → ¬ (value α f ≡ value α g)
-Told top bs f g agrees = (α : Assignment) → value α f ≡ value α g
-Told top bs f g (binds x u) = Binds top bs f g x u
-Told top bs f g (parts a b c d) = (f ≡ pair a b) × (g ≡ pair c d)
+abbrev pub LookRight : ℕ → Substitution → Term → Term → Looked → Type 0
+LookRight top bs f g fails = (α : Assignment) → ¬ (value α f ≡ value α g)
+LookRight top bs f g agrees = (α : Assignment) → value α f ≡ value α g
+LookRight top bs f g (binds x u) = Binds top bs f g x u
+LookRight top bs f g (parts a b c d) = (f ≡ pair a b) × (g ≡ pair c d)
 
 left-binds : (top : ℕ) (bs : Substitution) (x : ℕ) (g : Term) → Open bs x → Followed bs g → Apart x g → Binds top bs (var x) g x g
 left-binds top bs x g o f d = record { opens = o; followed = f; distinct = d; alike = λ α. (λ e. e, λ e. e); scope = λ i j. (i, j) }
@@ -85,7 +86,7 @@ left-binds top bs x g o f d = record { opens = o; followed = f; distinct = d; al
 right-binds : (top : ℕ) (bs : Substitution) (x : ℕ) (f : Term) → Open bs x → Followed bs f → Apart x f → Binds top bs f (var x) x f
 right-binds top bs x f o k d = record { opens = o; followed = k; distinct = d; alike = λ α. (λ e. sym e, λ e. sym e); scope = λ i j. (j, i) }
 
-pub look-ok : (top : ℕ) (bs : Substitution) (f g : Term) → Followed bs f → Followed bs g → Told top bs f g (look f g)
+pub look-ok : (top : ℕ) (bs : Substitution) (f g : Term) → Followed bs f → Followed bs g → LookRight top bs f g (look f g)
 look-ok top bs (var x) (var y) h k = elim (compared x y) [
   | same p e ↦ rw e (λ α. ap α p)
   | other n e ↦ rw e (left-binds top bs x (var y) h k n)
@@ -95,7 +96,7 @@ look-ok top bs (var x) (pair s t) h k = left-binds top bs x (pair s t) h tt tt
 look-ok top bs (atom a) (var y) h k = right-binds top bs y (atom a) k tt tt
 look-ok top bs (atom a) (atom b) h k = go (same-atom a b) refl
   where
-    go : (c : Bool) → same-atom a b ≡ c → Told top bs (atom a) (atom b) (look (atom a) (atom b))
+    go : (c : Bool) → same-atom a b ≡ c → LookRight top bs (atom a) (atom b) (look (atom a) (atom b))
     go true e = rw e (λ α. ap leaf (same-atom-true a b e))
     go false e = rw e (λ α q. same-atom-false a b e (cc))
 look-ok top bs (atom a) (pair s t) h k = λ α q. clash (cc)
@@ -301,7 +302,7 @@ module _ (top : ℕ) where
   unify-ok (suc fuel) bs good ws s t zero r left′ e = clash (cc)
   unify-ok (suc fuel) bs good ws s t (suc left) r left′ e = go (unify-step bs ws s t left) (look-ok top bs (walk bs s) (walk bs t) (walk-followed bs good s) (walk-followed bs good t)) (unify-ok fuel)
     where
-      go : UnifyStep bs ws s t left → Told top bs (walk bs s) (walk bs t) (look (walk bs s) (walk bs t)) → Unifies fuel → Unified top bs ((s, t) ∷ ws) r
+      go : UnifyStep bs ws s t left → LookRight top bs (walk bs s) (walk bs t) (look (walk bs s) (walk bs t)) → Unifies fuel → Unified top bs ((s, t) ∷ ws) r
       go (fail q d) told ih = ends bs ((s, t) ∷ ws) none r left left′ (fails-unified top bs s t ws (rw q at told)) (sym (d fuel) ∙ e)
       go (agree q d) told ih = leads-unified r (agrees-leads top bs s t ws (rw q at told)) (rest-ok fuel ih bs good ws left r left′ (sym (d fuel) ∙ e))
       go (halt x u why l q p d) told ih = clash (cc (d fuel))

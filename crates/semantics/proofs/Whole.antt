@@ -6,20 +6,20 @@ use mathlib.Core.Option.{Option·some-injective}
 use mathlib.Core.Path.{_≡_, ap, fun-ext, refl, subst, sym}
 use native.Mathlib.Decide.{decLe, decLt}
 use native.Mathlib.Omega.{arith}
+use Rattle.rules.specs.Lists.{Each, Some}
 use Rattle.rules.specs.Syntax.{Program, Relation}
 use Rattle.rules.specs.Written.{written}
 use Rattle.semantics.specs.Demand.{AnswerRight, Completed, Demand3, ShowsIn, ShowsIt, ShowsUpTo}
+use Rattle.semantics.specs.Invariant.{ProgramIn, StateFine}
 use Rattle.semantics.specs.Logic.{Assignment, Gives, Holds, Tree}
 use Rattle.semantics.specs.Round.{Answer, End, Result, Rounded, Tally, after-cuts, after-round, broken, completed, finished, one-round, result, rounds, rounds-used, start}
-use Rattle.semantics.specs.Shows.{Each, Some}
 use Rattle.semantics.proofs.Basics.{clash, each-append, each-map, some-both, some-each, some-left, some-map, some-right}
 use Rattle.semantics.proofs.Cover.{Covers, _⇔_}
 use Rattle.semantics.proofs.Names.{inner}
-use Rattle.semantics.proofs.Programs.{ProgramIn}
 use Rattle.semantics.proofs.Sound.{sound-start}
 use Rattle.semantics.proofs.SubstitutionLaws.{complete}
 use Rattle.semantics.proofs.TermLaws.{from}
-use Rattle.semantics.proofs.Turn.{Breaks, Right, RoundedWell, StateFine, Written, completed-before, open-of, search-well}
+use Rattle.semantics.proofs.Turn.{Breaks, Right, RoundedWell, Written, completed-before, open-of, search-well}
 
 -- Round k, after the answers `before`. Whether it is completed or broken off, each answer that it writes is right.
 pub record RoundWrote (P : Program) (k : ℕ) (before written : List Answer) : Type 0 where

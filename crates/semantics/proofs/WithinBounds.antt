@@ -14,7 +14,7 @@ use Rattle.rules.specs.Syntax.{Constraint, Goal, Goals, Program, Relation, Term
 use Rattle.semantics.specs.Answer.{answer}
 use Rattle.semantics.specs.Path.{ChoicePoint, Passing, Path, Taken, Task, bound-to, called-by, cut, equal-taken, goals-count, goes, keeping, leaves, make-call-by, take-goal-by, taken-by, wait-all, waiting-on, within}
 use Rattle.semantics.specs.Review.{review, review-all}
-use Rattle.semantics.specs.Round.{Next, State, Tally, after, back, give, go-on, going, over, resume, spend, start, turn-by}
+use Rattle.semantics.specs.Round.{Next, State, Tally, after, backtrack, give, go-on, going, over, resume, spend, start, turn-by}
 use Rattle.semantics.specs.Situation.{call-uses, has, so-many, takes-goal, uses}
 use Rattle.semantics.specs.Steps.{Bound, Outcome, and-then, constraints, disjunctions, done, goals, most, stop, variables, waiting}
 use Rattle.semantics.specs.Substitution.{Substitution, shift, shift-constraint}
@@ -150,7 +150,7 @@ module _ (k : ℕ) (first : Bound → ℕ) where
   NextWithin (going s) = StateWithin s
   NextWithin (over r) = Unit {0}
 
-  back-within : (cs : List ChoicePoint) (t : Tally) → Others cs → NextWithin (back cs t)
+  back-within : (cs : List ChoicePoint) (t : Tally) → Others cs → NextWithin (backtrack cs t)
   back-within [] t h = tt
   back-within (c ∷ cs) t (w, h) = go (c .rest)
     where

@@ -108,11 +108,14 @@ any-same v (w ∷ ws) = same-words v w || any-same v ws
 abbrev pub line-words : List ℕ → Line → List ℕ
 line-words names l = goal-words (line-goal (reify-line names l))
 
--- "One that mentions a variable absent from the query terms is dropped (document 000), as is one with the same words as an earlier one."
+-- Does a line stay, after lines of these words? "One that mentions a variable absent from the query terms is dropped (document 000), as is one with the same words as an earlier one."
+abbrev pub stays : List ℕ → List (List ℕ) → Line → Bool
+stays names before l = line-in names l && not (any-same (line-words names l) before)
+
+-- the lines that stay
 abbrev pub listed : List ℕ → List (List ℕ) → List Line → List Line
 listed names before [] = []
-listed names before (l ∷ ls) =
-    choose (line-in names l && not (any-same (line-words names l) before)) (λ _. l ∷ listed names (line-words names l ∷ before) ls) (λ _. listed names before ls)
+listed names before (l ∷ ls) = choose (stays names before l) (λ _. l ∷ listed names (line-words names l ∷ before) ls) (λ _. listed names before ls)
 
 -- and of lines, one after the other
 abbrev pub lines-words : List ℕ → List Line → List ℕ

@@ -2,27 +2,17 @@
 use Prim.Native.Nat.{_*_, _+_, suc, zero, ℕ}
 use mathlib.Core.Bool.{_&&_}
 use mathlib.Core.List.{List, [], _∷_, map}
-use mathlib.Core.Logic.{_⊎_}
 use mathlib.Core.Path.{_≡_}
 use lib.Dec.{eqb, ltb}
 use lib.ListN.{length}
+use Rattle.rules.specs.Lists.{Each}
 use Rattle.rules.specs.Reading.{Reading, choose, found, kind-at, next, payload-at, read-goal, read-term, refuse, require}
 use Rattle.rules.specs.Syntax.{Goal, Term}
 use Rattle.semantics.specs.Logic.{AllProper, Assignment, Holds, Tree, value}
 
--- every element of a list
-abbrev pub Each : {A : Type 0} → (A → Type 0) → List A → Type 0
-Each Q [] = Unit {0}
-Each Q (x ∷ xs) = Q x × Each Q xs
-
--- some element
-abbrev pub Some : {A : Type 0} → (A → Type 0) → List A → Type 0
-Some Q [] = ⊥
-Some Q (x ∷ xs) = Q x ⊎ Some Q xs
-
 -- Answers are read as programs are, by the reader of crate rules; their variables are bounded by nothing but the 28 bits of a payload
-abbrev pub any : ℕ
-any = 268435456
+abbrev pub payloads : ℕ
+payloads = 268435456
 
 -- how deep the reader goes: always enough
 abbrev pub deep : List ℕ → ℕ
@@ -31,13 +21,13 @@ deep ws = 2 * length ws + 4
 -- n query terms
 abbrev pub read-query : ℕ → List ℕ → ℕ → Reading (List Term)
 read-query zero ws at = found [] at
-read-query (suc n) ws at = next (read-term (deep ws) ws any at (length ws)) (λ t m. next (read-query n ws m) (λ ts e. found (t ∷ ts) e))
+read-query (suc n) ws at = next (read-term (deep ws) ws payloads at (length ws)) (λ t m. next (read-query n ws m) (λ ts e. found (t ∷ ts) e))
 
 -- goals, up to the end
 abbrev pub read-listed : ℕ → List ℕ → ℕ → Reading (List Goal)
 read-listed zero ws at = refuse 3 at
 read-listed (suc fuel) ws at =
-    choose (ltb at (length ws)) (λ _. next (read-goal (deep ws) ws any at (length ws)) (λ g m. next (read-listed fuel ws m) (λ gs e. found (g ∷ gs) e))) (λ _. found [] at)
+    choose (ltb at (length ws)) (λ _. next (read-goal (deep ws) ws payloads at (length ws)) (λ g m. next (read-listed fuel ws m) (λ gs e. found (g ∷ gs) e))) (λ _. found [] at)
 
 -- "15:n, then the query terms .. Then the path's constraints"
 abbrev pub read-answer : ℕ → List ℕ → Reading (List Term × List Goal)

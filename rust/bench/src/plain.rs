@@ -3,7 +3,7 @@
 
 use kindcanvas::{Bound, Ending, Report};
 
-const ENVIRONMENT: u32 = 16384;
+const POSITIONS: u32 = 16384;
 const PAYLOAD: u32 = (1 << 28) - 1;
 
 const VARIABLE: u32 = 0;
@@ -55,13 +55,13 @@ struct State {
     /// The first waiting goal's cell, or 0.
     head: u32,
     trail: u32,
-    made: u32,
-    put: u32,
-    kept: u32,
+    variables: u32,
+    goals: u32,
+    constraints: u32,
     calls: u32,
     choices: u32,
     /// The steps left.
-    left: u32,
+    steps: u32,
 }
 
 enum Took {
@@ -138,12 +138,12 @@ fn round(memory: Memory, writer: &mut Writer, number: u32, left: &mut u32) -> Re
     let mut state = State {
         head: 0,
         trail: 0,
-        made: payload(memory.word(query + 2)),
-        put: 1,
-        kept: 0,
+        variables: payload(memory.word(query + 2)),
+        goals: 1,
+        constraints: 0,
         calls: 0,
         choices: 0,
-        left: *left,
+        steps: *left,
     };
     let mut goal = query + 3;
     let mut cuts = 0;
@@ -156,13 +156,13 @@ fn round(memory: Memory, writer: &mut Writer, number: u32, left: &mut u32) -> Re
         if let Err(stop) = writer.answer(&mut state, params) {
             break Err(stop);
         }
-        match memory.back(&mut state) {
+        match memory.backtrack(&mut state) {
             None => break Ok(cuts),
             Some(next) => goal = next,
         }
     };
     memory.undo(&mut state, 0);
-    *left = state.left;
+    *left = state.steps;
     ended
 }
 
@@ -179,7 +179,7 @@ fn payload(word: u32) -> u32 {
 /// The path's variable that a variable's word is, by the environment of its reference.
 #[inline(always)]
 fn variable(reference: u32, word: u32) -> u32 {
-    reference / ENVIRONMENT + payload(word)
+    reference / POSITIONS + payload(word)
 }
 
 /// The word by which a leaf is sought: an open variable has its number for a word, an atom its own.
@@ -195,7 +195,7 @@ impl Memory {
     #[inline(always)]
     fn word(self, reference: u32) -> u32 {
         // SAFETY: references are to words of the program, by its acceptance.
-        unsafe { *self.program.add((reference % ENVIRONMENT) as usize) }
+        unsafe { *self.program.add((reference % POSITIONS) as usize) }
     }
 
     #[inline(always)]
@@ -303,7 +303,7 @@ impl Memory {
         let (mut a, mut b) = (left, right);
         let mut waiting = 0;
         loop {
-            if state.left == 0 {
+            if state.steps == 0 {
                 return Err(Stop::Steps);
             }
             let (x, u) = self.walk(a);
@@ -312,7 +312,7 @@ impl Memory {
                 if waiting == MOST_WAITING {
                     return Err(Stop::Path(Bound::Waiting));
                 }
-                state.left -= 1;
+                state.steps -= 1;
                 let at = PAIRS + 2 * waiting;
                 self.set(at, x + 1 + payload(u));
                 self.set(at + 1, y + 1 + payload(v));
@@ -321,18 +321,18 @@ impl Memory {
                 b = y + 1;
                 continue;
             }
-            state.left -= 1;
+            state.steps -= 1;
             if kind(u) == VARIABLE {
                 let open = variable(x, u);
                 if kind(v) != VARIABLE || variable(y, v) != open {
-                    if self.scan(open, y, 0, &mut state.left)? {
+                    if self.scan(open, y, 0, &mut state.steps)? {
                         return Ok(false);
                     }
                     self.bind(state, open, y);
                 }
             } else if kind(v) == VARIABLE {
                 let open = variable(y, v);
-                if self.scan(open, x, 0, &mut state.left)? {
+                if self.scan(open, x, 0, &mut state.steps)? {
                     return Ok(false);
                 }
                 self.bind(state, open, x);
@@ -351,7 +351,7 @@ impl Memory {
 
     /// Does a type of this kind reach the open variable?
     fn clashes(self, state: &State, other: u32, open: u32) -> bool {
-        (0..state.kept).any(|i| {
+        (0..state.constraints).any(|i| {
             let constraint = self.get(CONSTRAINTS + i);
             if kind(self.word(constraint)) != other {
                 return false;
@@ -372,10 +372,10 @@ impl Memory {
     /// Does the constraint still hold?
     #[inline(always)]
     fn review(self, state: &mut State, constraint: u32) -> Result<bool, Stop> {
-        if state.left == 0 {
+        if state.steps == 0 {
             return Err(Stop::Steps);
         }
-        state.left -= 1;
+        state.steps -= 1;
         match kind(self.word(constraint)) {
             DIFFER => {
                 let mark = state.trail;
@@ -386,7 +386,7 @@ impl Memory {
             }
             ABSENTO => {
                 let tag = self.word(constraint + 1);
-                self.scan(tag, constraint + 2, 0, &mut state.left)
+                self.scan(tag, constraint + 2, 0, &mut state.steps)
                     .map(|found| !found)
             }
             SYMBOLO => Ok(self.review_type(state, constraint + 1, SYMBOL, NUMBERO)),
@@ -401,7 +401,7 @@ impl Memory {
             return Ok(Took::Leaves);
         }
         if state.trail != mark {
-            for i in 0..state.kept {
+            for i in 0..state.constraints {
                 if !self.review(state, self.get(CONSTRAINTS + i))? {
                     return Ok(Took::Leaves);
                 }
@@ -412,11 +412,11 @@ impl Memory {
 
     #[inline(always)]
     fn take_constraint(self, state: &mut State, goal: u32) -> Result<Took, Stop> {
-        if state.kept == MOST_CONSTRAINTS {
+        if state.constraints == MOST_CONSTRAINTS {
             return Err(exceeds(state, Bound::Constraints));
         }
-        self.set(CONSTRAINTS + state.kept, goal);
-        state.kept += 1;
+        self.set(CONSTRAINTS + state.constraints, goal);
+        state.constraints += 1;
         match self.review(state, goal)? {
             true => Ok(Took::Goes),
             false => Ok(Took::Leaves),
@@ -424,18 +424,18 @@ impl Memory {
     }
 
     #[inline(always)]
-    fn wait(self, state: &mut State, goal: u32) {
-        state.put += 1;
-        self.set(CELLS + 2 * state.put, goal);
-        self.set(CELLS + 2 * state.put + 1, state.head);
-        state.head = state.put;
+    fn push_goal(self, state: &mut State, goal: u32) {
+        state.goals += 1;
+        self.set(CELLS + 2 * state.goals, goal);
+        self.set(CELLS + 2 * state.goals + 1, state.head);
+        state.head = state.goals;
     }
 
     #[inline(always)]
     fn take_conj(self, state: &mut State, conjunction: u32) -> Result<Took, Stop> {
         let end = conjunction + 1 + payload(self.word(conjunction));
         let mut goal = conjunction + 1;
-        let mut filled = state.put;
+        let mut filled = state.goals;
         loop {
             if filled == MOST_GOALS {
                 return Err(exceeds(state, Bound::Goals));
@@ -445,8 +445,8 @@ impl Memory {
             goal += 1 + payload(self.word(goal));
             if goal == end {
                 self.set(CELLS + 2 * filled + 1, state.head);
-                state.head = state.put + 1;
-                state.put = filled;
+                state.head = state.goals + 1;
+                state.goals = filled;
                 return Ok(Took::Goes);
             }
             self.set(CELLS + 2 * filled + 1, filled + 1);
@@ -455,7 +455,7 @@ impl Memory {
 
     #[inline(always)]
     fn take_disj(self, state: &mut State, disjunction: u32) -> Result<Took, Stop> {
-        if state.put == MOST_GOALS {
+        if state.goals == MOST_GOALS {
             return Err(exceeds(state, Bound::Goals));
         }
         let end = disjunction + 1 + payload(self.word(disjunction));
@@ -467,22 +467,22 @@ impl Memory {
             }
             let at = POINTS + 8 * state.choices;
             self.set(at, rest);
-            self.set(at + 1, end % ENVIRONMENT);
+            self.set(at + 1, end % POSITIONS);
             self.set(at + 2, state.head);
             self.set(at + 3, state.trail);
-            self.set(at + 4, state.made);
-            self.set(at + 5, state.put);
-            self.set(at + 6, state.kept);
+            self.set(at + 4, state.variables);
+            self.set(at + 5, state.goals);
+            self.set(at + 6, state.constraints);
             self.set(at + 7, state.calls);
             state.choices += 1;
         }
-        self.wait(state, first);
+        self.push_goal(state, first);
         Ok(Took::Goes)
     }
 
     /// What a parameter is bound to: its argument, but of a variable the last variable on its way.
     #[inline(always)]
-    fn last(self, term: u32) -> u32 {
+    fn last_variable(self, term: u32) -> u32 {
         let mut at = term;
         let mut word = self.word(at);
         while kind(word) == VARIABLE {
@@ -507,29 +507,29 @@ impl Memory {
         let relation = self.get(RELATIONS + payload(self.word(goal + 1)));
         let params = payload(self.word(relation + 1));
         let vars = payload(self.word(relation + 2));
-        if MOST_VARIABLES < state.made + vars {
+        if MOST_VARIABLES < state.variables + vars {
             return Err(exceeds(state, Bound::Variables));
         }
-        if state.put == MOST_GOALS {
+        if state.goals == MOST_GOALS {
             return Err(exceeds(state, Bound::Goals));
         }
         let mut argument = goal + 2;
-        for parameter in state.made..state.made + params {
-            self.bind(state, parameter, self.last(argument));
+        for parameter in state.variables..state.variables + params {
+            self.bind(state, parameter, self.last_variable(argument));
             argument = self.skip(argument);
         }
-        self.wait(state, relation + 3 + ENVIRONMENT * state.made);
-        state.made += vars;
+        self.push_goal(state, relation + 3 + POSITIONS * state.variables);
+        state.variables += vars;
         state.calls += 1;
         Ok(Took::Goes)
     }
 
     #[inline(always)]
     fn take(self, state: &mut State, goal: u32, round: u32) -> Result<Took, Stop> {
-        if state.left == 0 {
+        if state.steps == 0 {
             return Err(Stop::Steps);
         }
-        state.left -= 1;
+        state.steps -= 1;
         match kind(self.word(goal)) {
             EQUAL => self.take_equal(state, goal),
             CONJUNCTION => self.take_conj(state, goal),
@@ -541,7 +541,7 @@ impl Memory {
 
     /// Backtracks to the newest choice point and gives its next alternative.
     #[inline(always)]
-    fn back(self, state: &mut State) -> Option<u32> {
+    fn backtrack(self, state: &mut State) -> Option<u32> {
         if state.choices == 0 {
             return None;
         }
@@ -549,12 +549,12 @@ impl Memory {
         let goal = self.get(at);
         self.undo(state, self.get(at + 3));
         state.head = self.get(at + 2);
-        state.made = self.get(at + 4);
-        state.put = self.get(at + 5) + 1;
-        state.kept = self.get(at + 6);
+        state.variables = self.get(at + 4);
+        state.goals = self.get(at + 5) + 1;
+        state.constraints = self.get(at + 6);
         state.calls = self.get(at + 7);
         let next = goal + 1 + payload(self.word(goal));
-        if next % ENVIRONMENT == self.get(at + 1) {
+        if next % POSITIONS == self.get(at + 1) {
             state.choices -= 1;
         } else {
             self.set(at, next);
@@ -582,7 +582,7 @@ impl Memory {
                 Took::Goes | Took::Leaves => {}
                 Took::Cut => *cuts += 1,
             }
-            match self.back(state) {
+            match self.backtrack(state) {
                 None => return Ok(Searched::Over),
                 Some(next) => goal = next,
             }
@@ -593,7 +593,7 @@ impl Memory {
 /// The bound that taking a goal would exceed: the step is not counted.
 #[cold]
 fn exceeds(state: &mut State, bound: Bound) -> Stop {
-    state.left += 1;
+    state.steps += 1;
     Stop::Path(bound)
 }
 
@@ -801,16 +801,16 @@ impl Writer {
                 let count = state.trail - mark;
                 keep_equations(memory, state, mark);
                 for i in 0..count {
-                    memory.look(memory.get(TRAIL + mark + i), &mut state.left)?;
+                    memory.look(memory.get(TRAIL + mark + i), &mut state.steps)?;
                 }
                 Ok(self.add_line(Line::Differ(mark, count), first, page))
             }
             ABSENTO => {
-                memory.look(constraint + 2, &mut state.left)?;
+                memory.look(constraint + 2, &mut state.steps)?;
                 Ok(self.add_absent(memory.word(constraint + 1), constraint + 2, first, page))
             }
             typed => {
-                memory.look(constraint + 1, &mut state.left)?;
+                memory.look(constraint + 1, &mut state.steps)?;
                 let (found, word) = memory.walk(constraint + 1);
                 match kind(word) {
                     VARIABLE => {
@@ -844,9 +844,9 @@ impl Writer {
         let memory = self.memory;
         for parameter in 0..params {
             match memory.get(parameter) {
-                0 if state.left == 0 => return Err(Stop::Steps),
-                0 => state.left -= 1,
-                bound => memory.look(bound - 1, &mut state.left)?,
+                0 if state.steps == 0 => return Err(Stop::Steps),
+                0 => state.steps -= 1,
+                bound => memory.look(bound - 1, &mut state.steps)?,
             }
         }
         let mut top = 0;
@@ -858,7 +858,7 @@ impl Writer {
         }
         let mut page = self.begin(params);
         let first = page.unwrap_or(self.used);
-        for i in 0..state.kept {
+        for i in 0..state.constraints {
             page = self.add_constraint(state, memory.get(CONSTRAINTS + i), first, page)?;
         }
         clear_names(memory, top);

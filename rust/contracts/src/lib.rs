@@ -1,5 +1,6 @@
 //! What a reader has to believe is in `specs/`. So every definition that the contract of a public function unfolds to has to stand there: a chain of imports from such a
 //! contract must not lead into `proofs/`. The walk goes by whole modules, and what it cannot read is a fault, never passed over.
+//! Private contracts are held to the same: no file of `specs/` and no contract names a module of `proofs/`.
 
 use std::collections::{BTreeMap, BTreeSet, VecDeque};
 use std::fmt;
@@ -243,8 +244,23 @@ pub fn imports(text: &str) -> Vec<String> {
     all
 }
 
+/// All that a file of code names of the crates' specs and proofs, in its `ghost use` lines or in full.
+pub fn named_by(text: &str) -> Vec<String> {
+    in_full(&code(text, "//"))
+}
+
+/// Is this a path of a crate's proofs, `Rattle.X.proofs` from another crate or `Rattle.X.proofs` from its own?
+pub fn of_proofs(path: &str) -> bool {
+    let mut parts = path.split('.');
+    let root = parts.next().unwrap_or("");
+    root.starts_with("Rattle·") && (root.ends_with("·proofs") || parts.next() == Some("proofs"))
+}
+
 /// Where a path leads; `is_module` says whether a crate's `specs/` has a module of that name.
 pub fn resolve(path: &str, is_module: &dyn Fn(&Module) -> bool) -> Result<Import, String> {
+    if of_proofs(path) {
+        return Ok(Import::Proofs);
+    }
     let mut parts = path.split('.');
     let root = parts.next().unwrap_or("");
     let Some(krate) = root.strip_prefix("Rattle·") else {
@@ -256,7 +272,6 @@ pub fn resolve(path: &str, is_module: &dyn Fn(&Module) -> bool) -> Result<Import
     };
     let krate = krate.split('·').next().unwrap_or("").to_string();
     match (parts.next(), parts.next()) {
-        (Some("proofs"), _) => Ok(Import::Proofs),
         (Some("specs"), Some("declared")) => Ok(Import::Leaf),
         (Some("specs"), Some(name)) => {
             let module = Module {

@@ -1,6 +1,6 @@
 //! The walk on small made-up texts.
 
-use contracts::{contracts, imports, resolve, walk, Import, Module};
+use contracts::{contracts, imports, named_by, of_proofs, resolve, walk, Import, Module};
 use std::collections::BTreeMap;
 
 const CODE: &str = "\
@@ -150,6 +150,38 @@ fn a_chain_into_proofs_is_found() {
         "Rattle.garden.proofs.Laws",
     ] {
         assert_eq!(from(path).into_proofs.len(), 1, "{path}");
+    }
+}
+
+/// In a private contract as well, imported or named in full.
+#[test]
+fn what_code_names_of_proofs_is_found() {
+    let text = "\
+// ghost use Rattle.house.proofs.Comment.{x};
+ghost use Rattle.house.proofs.Laws.{Stands};
+ghost use Rattle.house.proofs.Laws as laws;
+ghost use Rattle.house.specs.Door.{Open};
+
+pub(crate) fn enter(door: u32) -> u32
+    requires { ⌜ Open door × Rattle.garden.proofs.Wall.High door ⌝ }
+{
+    door
+}
+";
+    let proofs: Vec<String> = named_by(text)
+        .into_iter()
+        .filter(|path| of_proofs(path))
+        .collect();
+    assert_eq!(
+        proofs,
+        [
+            "Rattle.house.proofs.Laws",
+            "Rattle.house.proofs.Laws",
+            "Rattle.garden.proofs.Wall.High"
+        ]
+    );
+    for path in ["Rattle.house.specs.proofs", "mathlib.proofs.List"] {
+        assert!(!of_proofs(path), "{path}");
     }
 }
 

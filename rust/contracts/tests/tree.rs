@@ -1,6 +1,6 @@
 //! The public contracts of this repository's crates.
 
-use contracts::{contracts, walk, Contract, Module};
+use contracts::{contracts, imports, named_by, of_proofs, walk, Contract, Module};
 use std::collections::BTreeMap;
 use std::fs;
 use std::path::{Path, PathBuf};
@@ -72,7 +72,7 @@ fn public_contracts_are_found_with_their_definitions() {
     }
     for (function, module) in [
         ("engine::run", "semantics/specs/Round"),
-        ("engine::kindcanvas_run", "rules/specs/Reading"),
+        ("exports::kindcanvas_run", "rules/specs/Reading"),
         ("rules::check", "rules/specs/Calls"),
         ("word::kind", "word/specs/Word"),
     ] {
@@ -112,4 +112,27 @@ fn what_public_contracts_unfold_to_stands_in_specs() {
         "public contracts that reach proofs/:\n{}",
         bad.join("\n")
     );
+}
+
+/// Private contracts too, and every definition: also those that no public contract reaches.
+#[test]
+fn no_definition_and_no_contract_comes_from_proofs() {
+    let mut named = 0;
+    let mut bad = Vec::new();
+    for entry in fs::read_dir(crates()).unwrap() {
+        let folder = entry.unwrap().path();
+        let read = |file: &PathBuf| fs::read_to_string(file).unwrap();
+        let specs = files(&folder.join("specs"), "antt");
+        let src = files(&folder.join("src"), "rt");
+        let specs = specs.into_iter().map(|file| (imports(&read(&file)), file));
+        let src = src.into_iter().map(|file| (named_by(&read(&file)), file));
+        for (paths, file) in specs.chain(src) {
+            named += paths.len();
+            for path in paths.into_iter().filter(|path| of_proofs(path)) {
+                bad.push(format!("{}: {path}", file.display()));
+            }
+        }
+    }
+    assert!(named >= 500, "only {named} imports are found");
+    assert!(bad.is_empty(), "imports from proofs/:\n{}", bad.join("\n"));
 }

@@ -8,8 +8,8 @@ extern "C" {
     /// Reads `len` words from `program` on and keeps nothing. 0: accepted, else number * 2^32 + place.
     fn kindcanvas_check(program: *const u32, len: usize) -> u64;
 
-    /// Reads the program, writes output, scratch and the first seven of the numbers, and keeps nothing. 1, with nothing read or
-    /// written, if there are fewer numbers; else 0.
+    /// Reads the program, writes output, scratch and the first seven of the numbers, and keeps nothing. Says how many
+    /// numbers it wrote: 7, or 0, with nothing read or written, if fewer are lent.
     fn kindcanvas_run(
         program: *const u32,
         program_len: usize,
@@ -170,13 +170,13 @@ pub fn check(words: &[u32]) -> Result<(), Refusal> {
 /// afterwards. A refusal leaves both as lent.
 ///
 /// ```
-/// let program = kindcanvas::text::parse("13:5 2:1 2:1 5:2 0:0 1:7")?;
+/// let program = kindcanvas::words::parse("13:5 2:1 2:1 5:2 0:0 1:7")?;
 /// let mut output = [9; 4];
 /// let mut scratch = vec![9; kindcanvas::SCRATCH_WORDS];
 /// let report = kindcanvas::run(&program, 16, 1_000_000, &mut output, &mut scratch).unwrap();
 /// assert_eq!((report.steps, report.answers, report.words), (4, 1, 2));
-/// assert_eq!(kindcanvas::text::show(&output), "15:1 1:7 0:0 0:0");
-/// # Ok::<(), kindcanvas::text::TextError>(())
+/// assert_eq!(kindcanvas::words::show(&output), "15:1 1:7 0:0 0:0");
+/// # Ok::<(), kindcanvas::words::TextError>(())
 /// ```
 ///
 /// # Panics
@@ -190,8 +190,8 @@ pub fn run(
     scratch: &mut [u32],
 ) -> Result<Report, Refusal> {
     let mut numbers = [0; 7];
-    let result = call(program, rounds, steps, output, scratch, &mut numbers);
-    assert_eq!(result, 0, "seven numbers are enough");
+    let written = call(program, rounds, steps, output, scratch, &mut numbers);
+    assert_eq!(written, 7, "seven numbers are enough");
     let [end, which, place, round, steps, answers, words] = numbers;
     let end = match end {
         0 => Ending::Finished,
@@ -215,7 +215,7 @@ pub fn run(
     })
 }
 
-/// The exported function on slices.
+/// The exported function on slices: how many numbers it wrote.
 fn call(
     program: &[u32],
     rounds: u32,
@@ -250,9 +250,9 @@ mod tests {
 
     #[test]
     fn too_few_numbers() {
-        let program = text::parse("13:5 2:1 2:1 5:2 0:0 1:7").unwrap();
+        let program = words::parse("13:5 2:1 2:1 5:2 0:0 1:7").unwrap();
         let (mut output, mut scratch, mut numbers) = ([7; 10], vec![8; SCRATCH_WORDS], [9; 6]);
-        let result = call(
+        let written = call(
             &program,
             16,
             1_000_000,
@@ -260,7 +260,7 @@ mod tests {
             &mut scratch,
             &mut numbers,
         );
-        assert_eq!(result, 1);
+        assert_eq!(written, 0);
         assert_eq!((output, numbers), ([7; 10], [9; 6]));
         assert!(scratch.iter().all(|&word| word == 8));
     }

@@ -448,7 +448,7 @@ fn is_goal(kind: u32) -> bool {
 }
 
 fn show(word: u32) -> String {
-    text::show(&[word])
+    words::show(&[word])
 }
 
 fn name(kind: u32) -> &'static str {
@@ -513,7 +513,7 @@ mod tests {
     #[test]
     fn only_the_refusal_of_the_words_is_explained() {
         let explained = |text: &str, number, place| {
-            let words = text::parse(text).unwrap();
+            let words = words::parse(text).unwrap();
             explain(&words, Refusal { number, place }, |at| format!("word {at}"))
         };
         let text = "13:5 2:1 2:1 5:2 0:1 3:0";

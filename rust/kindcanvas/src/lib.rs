@@ -1,6 +1,6 @@
 //! Kindcanvas: a proved rule engine. A program states relations, and a run lists what they give.
 //!
-//! The engine is written and proved in Rattle and linked as static libraries; this crate gives it Rust's types. A
+//! The engine is written and proved in Rattle and linked as a static library; this crate gives it Rust's types. A
 //! [`Program`] is words that were checked, so running one cannot fail. Its [`Outcome`] has the answers and a [`Report`],
 //! which says how the run ended:
 //!
@@ -56,5 +56,5 @@ pub use engine::{check, run, Bound, Ending, Report, SCRATCH_WORDS, USABLE_WORDS}
 pub use program::{Limits, NoProgram, Outcome, ParseError, Program};
 pub use readable::Readable;
 pub use refusal::Refusal;
-/// Rule files as text.
-pub use text;
+/// Rule files in `k:p` notation.
+pub use words;

@@ -3,7 +3,7 @@
 use kindcanvas::{Answer, Ending, Limits, Outcome, Program, Report, USABLE_WORDS};
 use std::collections::HashSet;
 use std::io::{self, Write};
-use text::Names;
+use words::Names;
 
 pub fn print(
     out: &mut impl Write,

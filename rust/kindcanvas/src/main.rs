@@ -2,7 +2,7 @@
 
 mod list;
 
-use kindcanvas::{text, Ending, Limits, ParseError, Program, USABLE_WORDS};
+use kindcanvas::{words, Ending, Limits, ParseError, Program, USABLE_WORDS};
 use std::env;
 use std::fmt::Display;
 use std::io::{self, BufWriter, ErrorKind, Write};
@@ -113,7 +113,7 @@ fn number<T: FromStr + PartialOrd + Display>(
 }
 
 fn load(file: &str) -> Result<Program, Failure> {
-    let contents = text::contents(file).map_err(|error| {
+    let contents = words::contents(file).map_err(|error| {
         let status = match error.kind() {
             // It was read, and is no text.
             ErrorKind::InvalidData => NO_PROGRAM,

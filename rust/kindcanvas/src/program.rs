@@ -7,7 +7,7 @@ use crate::refusal::Refusal;
 use std::error::Error;
 use std::fmt;
 use std::str::FromStr;
-use text::{Names, Place, Source, TextError};
+use words::{Names, Place, Source, TextError};
 
 /// A program: words that the engine accepts, and the names of its symbols, if it has any.
 #[derive(Clone, Debug, PartialEq, Eq)]
@@ -95,7 +95,7 @@ impl Program {
     }
 }
 
-/// From `k:p` text, as [`text`] reads it. It panics as [`check`](crate::check) does.
+/// From `k:p` text, as [`words`] reads it. It panics as [`check`](crate::check) does.
 ///
 /// ```
 /// use kindcanvas::{ParseError, Program, Refusal};

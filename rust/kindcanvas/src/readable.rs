@@ -2,7 +2,7 @@
 
 use crate::answer::{Constraint, Term};
 use std::fmt;
-use text::Names;
+use words::Names;
 
 static NO_NAMES: Names = Names::new();
 

@@ -7,11 +7,11 @@ use std::fmt;
 /// says what is wrong:
 ///
 /// ```
-/// let words = kindcanvas::text::parse("13:5 2:1 2:1 5:2 0:1 3:0")?;
+/// let words = kindcanvas::words::parse("13:5 2:1 2:1 5:2 0:1 3:0")?;
 /// let refusal = kindcanvas::check(&words).unwrap_err();
 /// assert_eq!((refusal.number, refusal.place), (5, 4));
 /// assert_eq!(refusal.to_string(), "word 4 names a variable that its relation doesn't have");
-/// # Ok::<(), kindcanvas::text::TextError>(())
+/// # Ok::<(), kindcanvas::words::TextError>(())
 /// ```
 #[derive(Clone, Copy, Debug, PartialEq, Eq)]
 pub struct Refusal {

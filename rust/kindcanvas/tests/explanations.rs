@@ -1,6 +1,6 @@
 //! What is said of a refused program beside the condition's sentence.
 
-use kindcanvas::text::{self, show};
+use kindcanvas::words::{self, show};
 use kindcanvas::{check, ParseError, Program};
 use reference::gen::{self, Rng};
 use std::collections::BTreeMap;
@@ -320,7 +320,7 @@ const CASES: &[(u32, usize, &str, &str)] = &[
 #[test]
 fn each_case_is_told() {
     for &(number, place, text, detail) in CASES {
-        let words = text::parse(text).unwrap();
+        let words = words::parse(text).unwrap();
         let expected = (number, place, detail.to_string());
         assert_eq!(refused(words), expected, "{text}");
     }
@@ -330,7 +330,7 @@ fn each_case_is_told() {
 fn the_bounds_of_a_program() {
     let expected = (1, 0, "there are 16,390".to_string());
     assert_eq!(refused(vec![0; 16_390]), expected);
-    let relation = text::parse("13:5 2:0 2:0 5:2 3:0 3:0").unwrap();
+    let relation = words::parse("13:5 2:0 2:0 5:2 3:0 3:0").unwrap();
     let detail = "relations are numbered from 0, so it would be relation 256";
     let expected = (6, 1_536, detail.to_string());
     assert_eq!(refused(relation.repeat(257)), expected);
@@ -342,7 +342,7 @@ fn shown_behind_the_sentence() {
     let text = "13:7 2:0 2:0  # too few\n\n  12:4 2:1 3:0 3:0 3:0\n13:5 2:2 2:2\n  5:2 3:0 3:0";
     let sentence =
         "the call at word 3 has another number of arguments than its relation has parameters";
-    let error = Program::new(text::parse(text).unwrap()).unwrap_err();
+    let error = Program::new(words::parse(text).unwrap()).unwrap_err();
     assert_eq!(
         error.to_string(),
         format!("{sentence}: relation 1 at word 8 takes 2 arguments, but 3 are given")

@@ -1,6 +1,6 @@
 //! The static library against the reference: which programs are accepted, and how the others are refused.
 
-use kindcanvas::text::show;
+use kindcanvas::words::show;
 use kindcanvas::{ParseError, Program, Refusal};
 use reference::gen::{self, Rng};
 use reference::table;

@@ -1,4 +1,4 @@
-//! The gate's own programs `refusals` and `runs` are run on the tables of refusals and of runs, and the listing program on the
+//! The gate's own programs `gate_refusals` and `gate_runs` are run on the tables of refusals and of runs, and the listing program on the
 //! first run: their input and expected output are made from the tables. After a change of a table, REWRITE=1 writes all anew.
 
 use reference::cases::Case;
@@ -9,7 +9,7 @@ use std::env;
 use std::fs;
 use std::path::{Path, PathBuf};
 
-/// The buffer of `refusals` holds 65,536 words, so of the long rows only those on the word count go in.
+/// The buffer of `gate_refusals` holds 65,536 words, so of the long rows only those on the word count go in.
 fn rows() -> Vec<Row> {
     let mut long = 0;
     let mut taken = |row: &Row| {
@@ -57,8 +57,8 @@ fn refusals_input_and_output_are_those_of_the_table() {
         }
     }
     assert!(input.len() <= 4 * 65_536);
-    compare("refusals", "stdin", &input);
-    compare("refusals", "stdout", output.as_bytes());
+    compare("gate_refusals", "stdin", &input);
+    compare("gate_refusals", "stdout", output.as_bytes());
 }
 
 #[test]
@@ -68,7 +68,7 @@ fn listing_input_and_output_are_those_of_run_a() {
     compare("listing", "stdout", a.expected.as_bytes());
 }
 
-/// The input and expected output of `runs`.
+/// The input and expected output of `gate_runs`.
 #[derive(Default)]
 struct Runs {
     count: usize,
@@ -118,6 +118,6 @@ fn runs_input_and_output_are_those_of_the_tables() {
     made.add_bytes(&case, &too_long[..65_537], "refused 1 at 0\n");
     // The program's bounds: at most 1,000 runs of 65,544 bytes and 4,096 output words.
     assert!(made.count <= 1_000);
-    compare("runs", "stdin", &made.input);
-    compare("runs", "stdout", made.output.as_bytes());
+    compare("gate_runs", "stdin", &made.input);
+    compare("gate_runs", "stdout", made.output.as_bytes());
 }

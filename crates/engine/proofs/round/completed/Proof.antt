@@ -6,9 +6,6 @@ use Rattle.engine.proofs.RoundLaws.{undone-clean}
 use borrow.Author.Needs.{needs}
 use Rattle.engine.proofs.round.completed.Statement.{statement}
 use Rattle.engine.proofs.round.completed.Tie as tie
-use Rattle.engine.proofs.round.completed.Reads as reads
-use Rattle.engine.proofs.round.completed.Lts as lts
-use Rattle.engine.proofs.trail.undo.Reads as undo-reads
 
 undo-requires : tie.Need-undo-requires
 undo-requires c κs = let q = c .before .before .pre in (q .1, q .2 .bindings, [], marked-whole (q .4))

@@ -3,8 +3,6 @@ use mathlib.Core.Path.{refl}
 use borrow.Author.Needs.{needs}
 use Rattle.engine.proofs.round.end_of.Statement.{statement}
 use Rattle.engine.proofs.round.end_of.Tie as tie
-use Rattle.engine.proofs.round.end_of.Reads as reads
-use Rattle.engine.proofs.round.end_of.Lts as lts
 
 enum-told : tie.Need-enum-told
 enum-told c = search needs

@@ -1,0 +1,68 @@
+// The first line of a list.
+use crate::put::put;
+use crate::put::put_number;
+use engine::End;
+use engine::Report;
+ghost use mathlib.Core.List.{_++_};
+ghost use Prim.Native.Nat.{_≤_};
+ghost use lib.ListN.{length};
+ghost use Rattle.engine.specs.Report.{end-says, refused};
+ghost use Rattle.list_text.specs.Listing.{codes, counts-text, decimal, first-line};
+ghost use Rattle.list_text.specs.Writing.{Wrote};
+
+fn put_counts(round: u32, steps: u32, answers: u32, at: usize, out: &mut [u8]) -> usize
+    requires { ⌜ at ≤ 46 ⌝ }
+    ensures { λ r. ⌜ Wrote (counts-text round steps answers) at (now (out .entry)) r (now (out .exit)) × (r ≤ 100) ⌝ }
+{
+    let mut next = put(b" round ", at, out);
+    next = put_number(round as usize, next, out);
+    next = put(b" steps ", next, out);
+    next = put_number(steps as usize, next, out);
+    next = put(b" answers ", next, out);
+    next = put_number(answers as usize, next, out);
+    put(b"\n", next, out)
+}
+
+fn put_ran(name: &[u8], round: u32, steps: u32, answers: u32, out: &mut [u8]) -> usize
+    requires { ⌜ length (now name) ≤ 8 ⌝ }
+    ensures { λ r. ⌜ Wrote (codes "end " ++ (now (name .entry) ++ counts-text round steps answers)) 0 (now (out .entry)) r (now (out .exit)) × (r ≤ 100) ⌝ }
+{
+    let mut next = put(b"end ", 0, out);
+    next = put(name, next, out);
+    put_counts(round, steps, answers, next, out)
+}
+
+fn put_path(number: u32, round: u32, steps: u32, answers: u32, out: &mut [u8]) -> usize
+    ensures { λ r. ⌜ Wrote (codes "end path " ++ (decimal number ++ counts-text round steps answers)) 0 (now (out .entry)) r (now (out .exit)) × (r ≤ 100) ⌝ }
+{
+    let mut next = put(b"end path ", 0, out);
+    next = put_number(number as usize, next, out);
+    put_counts(round, steps, answers, next, out)
+}
+
+fn put_refusal(number: u32, place: usize, out: &mut [u8]) -> usize
+    ensures { λ r. ⌜ Wrote (first-line (refused number place) 0 0 0) 0 (now (out .entry)) r (now (out .exit)) × (r ≤ 100) ⌝ }
+{
+    let mut next = put(b"refused ", 0, out);
+    next = put_number(number as usize, next, out);
+    next = put(b" at ", next, out);
+    next = put_number(place, next, out);
+    put(b"\n", next, out)
+}
+
+pub(crate) fn put_report(report: Report, out: &mut [u8]) -> usize
+    ensures { λ r. ⌜ Wrote (first-line (end-says (report .end)) (report .round) (report .steps) (report .answers)) 0 (now (out .entry)) r (now (out .exit)) × (r ≤ 100) ⌝ }
+{
+    let round = report.round;
+    let steps = report.steps;
+    let answers = report.answers;
+    let end = report.end;
+    match end {
+        End::Finished => put_ran(b"finished", round, steps, answers, out),
+        End::Rounds => put_ran(b"rounds", round, steps, answers, out),
+        End::Steps => put_ran(b"steps", round, steps, answers, out),
+        End::Output => put_ran(b"output", round, steps, answers, out),
+        End::Path(bound) => put_path(bound.number(), round, steps, answers, out),
+        End::Refused(number, place) => put_refusal(number, place, out),
+    }
+}

@@ -6,7 +6,7 @@ use mathlib.Core.Path.{_≡_}
 use mathlib.Core.List.{List, [], _∷_, _++_, map}
 use lib.Dec.{eqb, ltb}
 use lib.ListN.{length, take, drop, replicate}
-use Rattle.word.specs.Word.{kind, payload}
+use Rattle.word.specs.Word.{from-bytes, kind, payload}
 use Rattle.rules.specs.Reading.{choose}
 use Rattle.semantics.specs.Round as round
 use Rattle.semantics.specs.Run as run
@@ -36,17 +36,13 @@ decimal-by (suc more) n = choose (ltb n 10) (λ _. digit n ∷ []) (λ _. decima
 abbrev pub decimal : ℕ → List ℕ
 decimal n = decimal-by n n
 
--- "words from standard input, four bytes each, low byte first"
-abbrev pub word-of : ℕ → ℕ → ℕ → ℕ → ℕ
-word-of low second third high = low + 256 * second + 65536 * third + 16777216 * high
-
--- bytes left over, fewer than four, make no word
+-- "words from standard input, four bytes each"; bytes left over, fewer than four, make no word
 unfoldable pub whole-words : List ℕ → List ℕ
 whole-words [] = []
 whole-words (a ∷ []) = []
 whole-words (a ∷ b ∷ []) = []
 whole-words (a ∷ b ∷ c ∷ []) = []
-whole-words (a ∷ b ∷ c ∷ d ∷ later) = word-of a b c d ∷ whole-words later
+whole-words (a ∷ b ∷ c ∷ d ∷ later) = from-bytes a b c d ∷ whole-words later
 
 -- "a byte count not a multiple of four" is refused as no words are
 abbrev pub words-of : List ℕ → List ℕ

@@ -1,8 +1,8 @@
 // The answers on a page, each as a line.
-use crate::at_most;
 use crate::put::put_byte;
 use crate::put::put_number;
 use word::Word;
+use word::at_most;
 ghost use mathlib.Core.List.{map};
 ghost use Prim.Native.Nat.{_+_, _*_, _<_, _≤_};
 ghost use lib.ListN.{length};

@@ -9,32 +9,14 @@ use crate::report::put_report;
 use crate::words::read_words;
 use crate::words::word_count;
 use engine::SCRATCH_WORDS;
+use word::at_most;
 ghost use mathlib.Core.Path.{_≡_};
-ghost use Prim.Native.Nat.{_≤_, min};
+ghost use Prim.Native.Nat.{_≤_};
 ghost use lib.ListN.{length, replicate};
 ghost use Rattle.semantics.specs.Run.{run-as-written};
-ghost use Rattle.list_text.specs.Listing.{Listed, listing-text, printed-text, report-text, word-of};
+ghost use Rattle.list_text.specs.Listing.{Listed, listing-text, printed-text, report-text};
 ghost use Rattle.list_text.specs.Writing.{Wrote};
 ghost use Rattle.rules.specs.Settings.{scratch-words};
-
-// The word of four bytes, low byte first.
-pub fn word(low: u8, second: u8, third: u8, high: u8) -> u32
-    ensures { λ r. ⌜ r ≡ word-of low second third high ⌝ }
-{
-    let lower = low as u32 + 256 * (second as u32);
-    let upper = third as u32 + 256 * (high as u32);
-    lower + 65536 * upper
-}
-
-// The smaller number.
-pub fn at_most(n: usize, most: usize) -> usize
-    ensures { λ r. ⌜ r ≡ min n most ⌝ }
-{
-    if n < most {
-        return n;
-    }
-    most
-}
 
 // Runs the program with this output, which is all 0, and writes its list.
 fn list(program: &[u32], rounds: u32, steps: u32, output: &mut [u32], out: &mut [u8]) -> usize

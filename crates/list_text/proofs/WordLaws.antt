@@ -15,6 +15,7 @@ use Rattle.rules.specs.Reading.{choose}
 use Rattle.rules.specs.Settings.{settings-good, most-words}
 use Rattle.semantics.specs.Run as run
 use Rattle.semantics.specs.Path.{as-written}
+use Rattle.word.specs.Word.{from-bytes}
 use Rattle.list_text.specs.Listing.{whole-words, words-of}
 use Rattle.list_text.specs.Writing.{words-read}
 use Rattle.list_text.proofs.PartLaws.{take-within}

@@ -10,12 +10,12 @@ use Rattle.rules.specs.Syntax.{Term, var, atom, pair}
 use Rattle.rules.specs.Reading.{payload-at}
 use Rattle.semantics.specs.Substitution.{shift, Substitution, lookup, argument}
 use Rattle.semantics.specs.Path.{bind-params}
-use Rattle.semantics.specs.Invariant.{TermIn}
+use Rattle.semantics.specs.Invariant.{TermIn, Vars}
 use Rattle.semantics.proofs.Basics.{each-map}
 use Rattle.semantics.proofs.SubstitutionLaws.{Last, last-here, last-some, in-open}
 use Rattle.semantics.proofs.TermLaws.{term-more, term-size}
 use Rattle.semantics.proofs.Sound.{sound-call}
-use Rattle.engine.specs.Reference.{at, TermsAt, refer, pos-of, base-of, Vars, Stands}
+use Rattle.engine.specs.Reference.{at, TermsAt, refer, pos-of, base-of, Stands}
 use Rattle.engine.specs.Memory.{BoundTo, Entry, BindingsIn, bound}
 use Rattle.engine.specs.Walk.{PartAt, Follows}
 use Rattle.engine.specs.Call.{BindingParameters, ParametersBound}

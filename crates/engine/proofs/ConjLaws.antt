@@ -12,7 +12,7 @@ use Rattle.rules.specs.Reading.{after}
 use Rattle.engine.specs.Layout.{references, layout-words}
 use Rattle.engine.specs.Reference.{at, beyond, pos-of, RestAt, KeepsAt}
 use Rattle.engine.proofs.GoalLaws.{Then, task-one, task-more}
-use Rattle.engine.specs.Memory.{goal-at, next-at, kept-at, Registers, CellIn, TasksIn, KeptIn, Stored, cell}
+use Rattle.engine.specs.Memory.{goal-at, next-at, kept-at, Registers, CellIn, StackIn, KeptIn, Stored, cell}
 use Rattle.engine.specs.Trail.{Same}
 use Rattle.rules.specs.Settings.{most-words}
 use Rattle.engine.proofs.FrameLaws.{Untouched, frame, store}
@@ -24,7 +24,7 @@ RowIn ws s h w head (one g) = (at s (goal-at h) ≡ w) × (at s (next-at h) ≡ 
 RowIn ws s h w head (more g gs) = (at s (goal-at h) ≡ w) × (at s (next-at h) ≡ h + 1) × RowIn ws s (h + 1) (beyond ws w) head gs
 
 pub row-tasks : (ws s : List ℕ) (h w to base head put full : ℕ) (gs : Goals) (ts : List Task) → RestAt ws w to base gs → 0 < h → h + goals-count gs ≤ full + 1 → put ≤ full
-    → TasksIn ws s put head ts → RowIn ws s h w head gs → TasksIn ws s full h (wait-all base gs ts)
+    → StackIn ws s put head ts → RowIn ws s h w head gs → StackIn ws s full h (wait-all base gs ts)
 row-tasks ws s h w to base head put full (one g) ts is pos le l t row =
     let c : CellIn ws s full h (base, g) = record { is-cell = pos; low = omega arith; task-is = rw (row .0) (task-one ws w to base g is .1) } in
     (c, rw (row .1) (tasks-more ws s put full head ts l t))

@@ -12,10 +12,11 @@ use Rattle.rules.specs.Reading.{kind-at, payload-at, after}
 use Rattle.rules.specs.Written.{sort-kind}
 use Rattle.rules.specs.Syntax.{Atom, symbol, number, empty, Term, var, atom, pair, Sort, symbols, numbers}
 use Rattle.semantics.specs.Substitution.{same-atom}
+use Rattle.semantics.specs.Invariant.{Vars}
 use Rattle.semantics.proofs.TermLaws.{same-atom-true, same-atom-refl, term-size}
 use Rattle.engine.specs.Layout.{positions, references}
 use Rattle.engine.specs.Walk.{PartAt}
-use Rattle.engine.specs.Reference.{at, AtomIs, TermAt, TermsAt, refer, pos-of, base-of, beyond, Vars, Stands}
+use Rattle.engine.specs.Reference.{at, AtomIs, TermAt, TermsAt, refer, pos-of, base-of, beyond, Stands}
 use Rattle.rules.specs.Settings.{most-words}
 
 -- references

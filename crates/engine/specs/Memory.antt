@@ -73,9 +73,9 @@ pub record CellIn (ws s : List ℕ) (put h : ℕ) (task : Task) : Type 0 where
   pub low : h ≤ put
   pub task-is : TaskAt ws (at s (goal-at h)) task
 
-abbrev pub TasksIn : List ℕ → List ℕ → ℕ → ℕ → List Task → Type 0
-TasksIn ws s put h [] = h ≡ 0
-TasksIn ws s put h (t ∷ ts) = CellIn ws s put h t × TasksIn ws s put (at s (next-at h)) ts
+abbrev pub StackIn : List ℕ → List ℕ → ℕ → ℕ → List Task → Type 0
+StackIn ws s put h [] = h ≡ 0
+StackIn ws s put h (t ∷ ts) = CellIn ws s put h t × StackIn ws s put (at s (next-at h)) ts
 
 -- Constraints, from the n-th on.
 abbrev pub KeptIn : List ℕ → List ℕ → ℕ → List Constraint → Type 0
@@ -84,7 +84,7 @@ KeptIn ws s n (c ∷ cs) = KeepsAt ws (at s (kept-at n)) c × KeptIn ws s (suc n
 
 -- What the registers say of a path, also those that a choice point saved.
 pub record PathIn (ws s : List ℕ) (r : Registers) (p : Path) : Type 0 where
-  pub tasks : TasksIn ws s (r .goals) (r .head) (p .stack)
+  pub tasks : StackIn ws s (r .goals) (r .head) (p .stack)
   pub trail : r .trail ≡ length (p .bindings)
   pub made : r .variables ≡ p .made
   pub put : r .goals ≡ p .put

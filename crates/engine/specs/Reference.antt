@@ -9,6 +9,7 @@ use Rattle.rules.specs.Reading.{kind-at, payload-at, after}
 use Rattle.rules.specs.Written.{sort-kind}
 use Rattle.rules.specs.Syntax.{Atom, symbol, number, empty, Term, var, atom, pair, Constraint, differ, typed, absento, Goal, Goals, equal, constrain, conj, disj, call, one, more, Relation}
 use Rattle.semantics.specs.Path.{Task}
+use Rattle.semantics.specs.Invariant.{Vars}
 use Rattle.rules.specs.Settings.{most-words}
 use Rattle.engine.specs.Layout.{most-variables, positions, references}
 
@@ -76,12 +77,6 @@ base-of w = w / positions
 -- past a part with its payload's words: references of one base are as far apart as their positions
 abbrev pub beyond : List ℕ → ℕ → ℕ
 beyond ws w = w + 1 + payload-at ws (pos-of w)
-
--- every variable of a term has the property
-abbrev pub Vars : (ℕ → Type 0) → Term → Type 0
-Vars Q (var x) = Q x
-Vars Q (atom a) = Unit {0}
-Vars Q (pair s t) = Vars Q s × Vars Q t
 
 -- a reference stands for a term as it is on the path
 pub record Stands (ws : List ℕ) (w : ℕ) (t : Term) : Type 0 where

@@ -7,6 +7,7 @@ use mathlib.Core.List.{List, [], _∷_, _++_, map}
 use lib.Dec.{eqb, ltb}
 use lib.ListN.{length, take, drop, replicate}
 use Rattle.word.specs.Word.{from-bytes, kind, payload}
+use Rattle.rules.specs.Lists.{joined}
 use Rattle.rules.specs.Reading.{choose}
 use Rattle.semantics.specs.Round as round
 use Rattle.semantics.specs.Run as run
@@ -18,11 +19,6 @@ use Rattle.rules.specs.Settings.{scratch-words}
 abbrev pub codes : String → List ℕ
 codes ε = []
 codes (c and cs) = code c ∷ codes cs
-
--- texts one behind the other
-abbrev pub joined : List (List ℕ) → List ℕ
-joined [] = []
-joined (t ∷ ts) = t ++ joined ts
 
 -- the code of a digit
 abbrev pub digit : ℕ → ℕ
@@ -97,7 +93,7 @@ abbrev pub printed-text : List ℕ → List ℕ
 printed-text bytes = listing-text bytes 16 1000000 4096
 
 -- The promise of `text` and `printed_text`: how long the text is, and the text at the start of the lent bytes, as far as they reach, with what is behind it as lent.
-pub record Listed (text out : List ℕ) (count : ℕ) (after : List ℕ) : Type 0 where
+pub record TextAs (text out : List ℕ) (count : ℕ) (after : List ℕ) : Type 0 where
   pub is-long : count ≡ length text
   pub is-there : after ≡ take (length out) text ++ drop (length text) out
   pub is-short : count ≤ 65536

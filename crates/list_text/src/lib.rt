@@ -14,7 +14,7 @@ ghost use mathlib.Core.Path.{_≡_};
 ghost use Prim.Native.Nat.{_≤_};
 ghost use lib.ListN.{length, replicate};
 ghost use Rattle.semantics.specs.Run.{run-as-written};
-ghost use Rattle.list_text.specs.Listing.{Listed, listing-text, printed-text, report-text};
+ghost use Rattle.list_text.specs.Listing.{TextAs, listing-text, printed-text, report-text};
 ghost use Rattle.list_text.specs.Writing.{Wrote};
 ghost use Rattle.rules.specs.Settings.{scratch-words};
 
@@ -32,7 +32,7 @@ fn list(program: &[u32], rounds: u32, steps: u32, output: &mut [u32], out: &mut 
 // Runs the program in these bytes with so many output words, at most 4,096, and writes its list to the start of `out`, as far as that reaches.
 // Returns how long the list is.
 pub fn text(bytes: &[u8], rounds: u32, steps: u32, room: usize, out: &mut [u8]) -> usize
-    ensures { λ r. ⌜ Listed (listing-text (now (bytes .entry)) rounds steps room) (now (out .entry)) r (now (out .exit)) ⌝ }
+    ensures { λ r. ⌜ TextAs (listing-text (now (bytes .entry)) rounds steps room) (now (out .entry)) r (now (out .exit)) ⌝ }
 {
     let mut words = [0u32; 16385];
     let count = word_count(bytes.len());
@@ -44,7 +44,7 @@ pub fn text(bytes: &[u8], rounds: u32, steps: u32, room: usize, out: &mut [u8]) 
 
 // What the listing program prints of these bytes: their list with document 01's limits, as `text` writes it.
 pub fn printed_text(bytes: &[u8], out: &mut [u8]) -> usize
-    ensures { λ r. ⌜ Listed (printed-text (now (bytes .entry))) (now (out .entry)) r (now (out .exit)) ⌝ }
+    ensures { λ r. ⌜ TextAs (printed-text (now (bytes .entry))) (now (out .entry)) r (now (out .exit)) ⌝ }
 {
     text(bytes, 16, 1000000, 4096, out)
 }

@@ -8,16 +8,17 @@ use lib.Dec.{eqb}
 use lib.ListN.{length, length-append}
 use borrow.Author.Tests.{eq-eqb, eqb-true}
 use Rattle.word.specs.Word.{payload, payload-word}
+use Rattle.rules.specs.Lists.{joined}
 use Rattle.rules.specs.Reading.{choose}
 use Rattle.rules.specs.Syntax.{empty, var, atom}
 use Rattle.rules.specs.Written.{part, sort-kind, atom-word, term-words, goal-words, goals-words}
 use Rattle.rules.specs.Inner.{Spells}
 use Rattle.rules.proofs.Spelled.{stands-at as spells-at, stands-split as spells-split}
-use Rattle.semantics.specs.Answer.{index, reify, reify-bindings, differ-goals, Line, is-sort, lacks, not-all, line-in, line-words, lines-words, same-words, any-same, listed}
+use Rattle.semantics.specs.Answer.{index, reify, reify-bindings, differ-goals, Line, is-sort, lacks, not-all, line-in, line-words, lines-words, same-words, any-same, listed, stays}
 use Rattle.semantics.proofs.Basics.{and-true, by-choose}
 use Rattle.engine.specs.Reference.{at}
 use Rattle.engine.specs.Term.{Puts, Touched, Laid, Placed, all-laid, some-missing}
-use Rattle.engine.specs.Lines.{joined, add-line, add-lines, Whole, Wholes, Stretch, Rows, AnswerSoFar, Writing, Extended}
+use Rattle.engine.specs.Lines.{add-line, add-lines, Whole, Wholes, Stretch, Rows, AnswerSoFar, Writing, Extended}
 use Rattle.engine.specs.declared.writer.term.Put.{Put}
 use Rattle.engine.specs.declared.writer.term.Put.the-variants.{End, Missed}
 use Rattle.engine.proofs.TermLaws.{room-same, laid-of, missing-of, laid-then, touched-then}
@@ -85,7 +86,7 @@ pub record RowNext (o : List ℕ) (place to size : ℕ) (v : List ℕ) (goal : B
 
 module _ {o : List ℕ} {place to : ℕ} {v : List ℕ} {goal : Bool} (g : Row o place to v goal) where
   pub row-next : {bits size : ℕ} → place < to → bits ≡ at o place → size ≡ payload bits → RowNext o place to size v goal
-  unfolding joined Wholes Spells
+  unfolding Wholes Spells
   row-next {bits} {size} l is-bits is-size = go (g .rows) (g .here) (g .same)
     where
       go : (ws : List (List ℕ)) → Rows o place to ws → any-same v ws ≡ goal → RowNext o place to size v goal
@@ -108,7 +109,7 @@ module _ {o : List ℕ} {place to : ℕ} {v : List ℕ} {goal : Bool} (g : Row o
           }
 
   pub row-end : to ≤ place → false ≡ goal
-  unfolding joined Wholes
+  unfolding Wholes
   row-end l = go (g .rows) (g .here) (g .same)
     where
       go : (ws : List (List ℕ)) → Rows o place to ws → any-same v ws ≡ goal → false ≡ goal
@@ -124,7 +125,6 @@ module _ {o : List ℕ} {place to size : ℕ} {v : List ℕ} {goal r : Bool} (g 
 
 -- one line more
 joined-snoc : (ws : List (List ℕ)) (v : List ℕ) → joined (ws ++ (v ∷ [])) ≡ joined ws ++ v
-unfolding joined
 joined-snoc [] v = append-nil v
 joined-snoc (w ∷ ws) v = ap (λ x. w ++ x) (joined-snoc ws v) ∙ sym (append-assoc w (joined ws) v)
 
@@ -156,7 +156,7 @@ module _ (names : List ℕ) (ws : List (List ℕ)) (l : Line) where
 
   add-longer : length (joined ws) ≤ length (joined (add-line names ws l))
   unfolding add-line
-  add-longer = by-choose (λ (xs : List (List ℕ)). length (joined ws) ≤ length (joined xs)) (line-in names l && not (any-same (line-words names l) ws)) _ _
+  add-longer = by-choose (λ (xs : List (List ℕ)). length (joined ws) ≤ length (joined xs)) (stays names ws l) _ _
       (λ q. omega (arith, ap length (joined-snoc ws (line-words names l)), length-append (joined ws) (line-words names l))) (λ q. omega arith)
 
 -- a page that does not fit
@@ -256,7 +256,7 @@ lines-listed names ws before [] e = sym (append-nil (joined ws))
 lines-listed names ws before (l ∷ ls) e =
     subst (λ c. joined (add-lines names (choose c (λ _. ws ++ (line-words names l ∷ [])) (λ _. ws)) ls) ≡ joined ws ++ lines-words names (listed names before (l ∷ ls)))
     (ap (λ b. line-in names l && not b) (sym (e (line-words names l))))
-    (go (line-in names l && not (any-same (line-words names l) before))
+    (go (stays names before l)
     (lines-listed names (ws ++ (line-words names l ∷ [])) (line-words names l ∷ before) ls (λ v. any-snoc v (line-words names l) ws ∙ ap (λ b. same-words v (line-words names l) || b) (e v)))
     (lines-listed names ws before ls e))
   where

@@ -9,7 +9,7 @@ use native.Mathlib.Decide.{decLt}
 use lib.Dec.{ltb}
 use lib.ListN.{length, take}
 use borrow.Author.Tests.{ltb-true, lt-ltb, le-ltb}
-use Rattle.rules.specs.Lists.{Each}
+use Rattle.rules.specs.Lists.{Each, joined}
 use Rattle.rules.specs.Reading.{choose}
 use Rattle.rules.specs.Syntax.{Term, var, Constraint, Program}
 use Rattle.rules.specs.Written.{part}
@@ -30,7 +30,7 @@ use Rattle.engine.specs.Trail.{Apart}
 use Rattle.engine.specs.Review.{ConstraintsHeld}
 use Rattle.engine.specs.Names.{top-from, word-from, Distinct, Names, NamesGiven, Named}
 use Rattle.engine.specs.Term.{Room, Touched, Laid, Placed, all-laid, some-missing}
-use Rattle.engine.specs.Lines.{joined, add-lines, Wholes, AnswerSoFar, Writing}
+use Rattle.engine.specs.Lines.{add-lines, Wholes, AnswerSoFar, Writing}
 use Rattle.engine.specs.Query.{Known, query-words, Query}
 use Rattle.engine.specs.Look.{ThroughAs}
 use Rattle.engine.specs.Constraint.{added-says, AddedAs}
@@ -77,7 +77,6 @@ take-spelled n o ws l h = take-behind n o ws l (λ i k. spells-getD o n ws i h k
 
 -- the page begins
 bare : (head : List ℕ) → length (head ++ joined []) ≡ length head
-unfolding joined
 bare head = ap length (append-nil head)
 
 module _ {o : List ℕ} (start : ℕ) {end : ℕ} {head : List ℕ} where
@@ -89,7 +88,7 @@ module _ {o : List ℕ} (start : ℕ) {end : ℕ} {head : List ℕ} where
     begin-missed e = let m = missing-of p e in page-over (omega arith) (omega (arith, m .no-room refl, bare head)) (m .touched)
 
     pub begin-put : {next : ℕ} → r ≡ End next → AnswerSoFar o o′ (start + 1) next end next head []
-    unfolding joined Wholes
+    unfolding Wholes
     begin-put {next} e =
         let d = laid-of p e in
         let n : next ≡ start + 1 + length head = d .is in
@@ -174,7 +173,6 @@ abbrev pub page-words : Substitution → ℕ → List Line → List ℕ
 page-words bs n ls = query-words bs (names-of bs n) 0 n ++ joined (add-lines (names-of bs n) [] ls)
 
 words-are : (bs : Substitution) (n : ℕ) (ls : List Line) → part 15 (page-words bs n ls) ≡ answer-words bs n ls
-unfolding joined
 words-are bs n ls = ap (λ v. part 15 (query-words bs (names-of bs n) 0 n ++ v)) (lines-listed (names-of bs n) [] [] ls (λ v. refl))
 
 -- the end of the lines says what the answer does

@@ -8,7 +8,7 @@ use Rattle.rules.specs.Syntax.{Goal, Goals, Program}
 use Rattle.semantics.specs.Path.{Task, Path, ChoicePoint, waiting-on}
 use Rattle.engine.specs.Reference.{at, TaskAt, RestAt}
 use Rattle.engine.proofs.StoredLaws.{choices-grown}
-use Rattle.engine.specs.Memory.{goal-at, next-at, point-at, Registers, saved, BindingsIn, TasksIn, KeptIn, PathIn, Grown, ChoiceIn, Roomy, Stored}
+use Rattle.engine.specs.Memory.{goal-at, next-at, point-at, Registers, saved, BindingsIn, StackIn, KeptIn, PathIn, Grown, ChoiceIn, Roomy, Stored}
 
 -- paths that have grown
 pub grown-same : (p : Path) → Grown p p
@@ -46,7 +46,7 @@ abbrev pub constrained : Registers → Registers
 constrained r = record { head = r .head; trail = r .trail; variables = r .variables; goals = r .goals; constraints = r .constraints + 1; calls = r .calls }
 
 -- cells stay good while more are put
-pub tasks-more : (ws s : List ℕ) (put put′ h : ℕ) (ts : List Task) → put ≤ put′ → TasksIn ws s put h ts → TasksIn ws s put′ h ts
+pub tasks-more : (ws s : List ℕ) (put put′ h : ℕ) (ts : List Task) → put ≤ put′ → StackIn ws s put h ts → StackIn ws s put′ h ts
 tasks-more ws s put put′ h [] le t = t
 tasks-more ws s put put′ h (task ∷ ts) le t = (record { is-cell = t .0 .is-cell; low = omega (arith, t .0 .low); task-is = t .0 .task-is }, tasks-more ws s put put′ (at s (next-at h)) ts le (t .1))
 

@@ -9,9 +9,10 @@ use lib.Seq.{getD-set-same, getD-set-other}
 use Rattle.rules.specs.Syntax.{Goals, one, more, Program, Constraint}
 use Rattle.semantics.specs.Path.{Task, Path, ChoicePoint, waiting-on, keeping, goals-count, wait-all}
 use Rattle.rules.specs.Reading.{after}
+use Rattle.engine.specs.Layout.{references, layout-words}
 use Rattle.engine.specs.Reference.{at, beyond, pos-of, RestAt, KeepsAt}
 use Rattle.engine.proofs.GoalLaws.{Then, task-one, task-more}
-use Rattle.engine.specs.Memory.{goal-at, next-at, kept-at, Registers, CellIn, TasksIn, KeptIn, Stored, cell, layout-words}
+use Rattle.engine.specs.Memory.{goal-at, next-at, kept-at, Registers, CellIn, StackIn, KeptIn, Stored, cell}
 use Rattle.engine.specs.Trail.{Same}
 use Rattle.rules.specs.Settings.{most-words}
 use Rattle.engine.proofs.FrameLaws.{Untouched, frame, store}
@@ -23,7 +24,7 @@ RowIn ws s h w head (one g) = (at s (goal-at h) ≡ w) × (at s (next-at h) ≡ 
 RowIn ws s h w head (more g gs) = (at s (goal-at h) ≡ w) × (at s (next-at h) ≡ h + 1) × RowIn ws s (h + 1) (beyond ws w) head gs
 
 pub row-tasks : (ws s : List ℕ) (h w to base head put full : ℕ) (gs : Goals) (ts : List Task) → RestAt ws w to base gs → 0 < h → h + goals-count gs ≤ full + 1 → put ≤ full
-    → TasksIn ws s put head ts → RowIn ws s h w head gs → TasksIn ws s full h (wait-all base gs ts)
+    → StackIn ws s put head ts → RowIn ws s h w head gs → StackIn ws s full h (wait-all base gs ts)
 row-tasks ws s h w to base head put full (one g) ts is pos le l t row =
     let c : CellIn ws s full h (base, g) = record { is-cell = pos; low = omega arith; task-is = rw (row .0) (task-one ws w to base g is .1) } in
     (c, rw (row .1) (tasks-more ws s put full head ts l t))
@@ -83,7 +84,7 @@ pub record Next (ws : List ℕ) (w to : ℕ) : Type 0 where
   pub inside : pos-of w < length ws
   pub within : after ws (pos-of w) ≤ to
   pub small : to ≤ most-words
-  pub below : w < 33570816
+  pub below : w < references
 
 pub next-goal : (ws : List ℕ) (w to base : ℕ) (gs : Goals) → RestAt ws w to base gs → Next ws w to
 next-goal ws w to base (one g) h = record { inside = omega (arith, h .goals .1, h .inside); within = omega (arith, h .goals .1); small = h .small; below = h .below }

@@ -36,7 +36,7 @@ use Rattle.engine.proofs.TookLaws.{took-goes, took-leaves, took-stops, 
 use Rattle.engine.proofs.ReferenceLaws.{TwoAt, two-terms}
 use Rattle.engine.proofs.GoalLaws.{terms-shift, keeps-task}
 use Rattle.engine.proofs.ArgumentLaws.{term-vars}
-use Rattle.engine.proofs.StoredLaws.{trailed, stored-meets, stored-kept, unified-stored, reviewed-stored}
+use Rattle.engine.proofs.StoredLaws.{trailed, stored-two, stored-kept, unified-stored, reviewed-stored}
 use Rattle.engine.proofs.ClaimLaws.{constrained}
 use Rattle.engine.proofs.ConjLaws.{keep}
 
@@ -83,8 +83,8 @@ module _ {P : Program} {ws s : List ℕ} {st : State} {w : ℕ} {p : Path} {cs :
   pub equal-first : Stands ws (w + 1) (shift base u)
   equal-first = equal-terms .first
 
-  pub equal-meets : {q : ℕ} → ((t : Term) (h : Stands ws (w + 1) t) → q + pos-of (w + 1) ≡ w + 1 + h .to) → TwoTerms ws s (p .bindings) (w + 1) (shift base u) q (shift base v) (st .trail)
-  equal-meets {q} skips = stored-meets stored (k .short) (k .sound .good) (equal-terms .first) (equal-terms .second q (skips (shift base u) (equal-terms .first)))
+  pub equal-ready : {q : ℕ} → ((t : Term) (h : Stands ws (w + 1) t) → q + pos-of (w + 1) ≡ w + 1 + h .to) → TwoTerms ws s (p .bindings) (w + 1) (shift base u) q (shift base v) (st .trail)
+  equal-ready {q} skips = stored-two stored (k .short) (k .sound .good) (equal-terms .first) (equal-terms .second q (skips (shift base u) (equal-terms .first)))
 
   abbrev pub says : List ℕ → Way → State → Type 0
   says s″ way next = TookAs P ws s″ cs (take-equal p cs (shift base u) (shift base v) (st .steps)) way next

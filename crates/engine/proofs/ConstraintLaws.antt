@@ -17,13 +17,14 @@ use Rattle.semantics.specs.Invariant.{Good, Passes, Sound}
 use Rattle.semantics.proofs.Basics.{clash}
 use Rattle.semantics.proofs.SubstitutionLaws.{Seen, walk-seen}
 use Rattle.semantics.proofs.UnifyLaws.{unify-some, no-news}
+use Rattle.engine.specs.Layout.{layout-words}
 use Rattle.engine.specs.Reference.{at, pos-of, KeepsAt}
-use Rattle.engine.specs.Memory.{BindingsIn, KeptIn, layout-words}
-use Rattle.engine.specs.Walk.{NodeAt, Binds, Follows}
+use Rattle.engine.specs.Memory.{BindingsIn, KeptIn}
+use Rattle.engine.specs.Walk.{PartAt, Binds, Follows}
 use Rattle.engine.specs.Trail.{Trailed, Undone, Apart}
 use Rattle.engine.specs.Unify.{Went, UnifiedAs}
 use Rattle.engine.specs.Trial.{AllKept}
-use Rattle.engine.specs.Look.{look-says, LookedAs, Looks, rights, ThroughAs}
+use Rattle.engine.specs.Look.{look-says, LookedThroughAs, Looks, rights, ThroughAs}
 use Rattle.engine.specs.Line.{EquationsIn, LineAs, as-differ}
 use Rattle.engine.specs.Term.{Touched}
 use Rattle.engine.specs.Lines.{AnswerSoFar, add-lines, Writing, Extended, occurrences, AddsAbsent, AddsTyped}
@@ -167,13 +168,13 @@ module _ {ws s s₂ : List ℕ} {bs : Substitution} {u v : Term} {trail n steps 
 
 -- A term that was looked through, with the lines that its constraint comes to
 
-module _ {ws s : List ℕ} {bs : Substitution} {out : List ℕ} {first end place : ℕ} (g : Writing s out first end place) (held : Binds ws s bs) (t : Term) (steps : ℕ) (r : LookedThrough) (told : LookedAs bs t steps r) (lines : List Line) where
+module _ {ws s : List ℕ} {bs : Substitution} {out : List ℕ} {first end place : ℕ} (g : Writing s out first end place) (held : Binds ws s bs) (t : Term) (steps : ℕ) (r : LookedThrough) (told : LookedThroughAs bs t steps r) (lines : List Line) where
   abbrev term-lines : Outcome (List Line)
   term-lines = and-then (scan never bs [] t steps) (λ _ l. done lines l)
 
   untouched : {out′ : List ℕ} {x : Added} → and-then (look-says false r) (λ _ l. done lines l) ≡ added-says lines x → ((next left : ℕ) → x ≡ Done next left → Extended g out′ next lines) → Touched (g .before) out′ (g .begin) end
       → AddedAs ws s s g out′ bs term-lines x
-  unfolding LookedAs
+  unfolding LookedThroughAs
   untouched y p z = record { lines = lines; says = ap (λ o. and-then o (λ _ l. done lines l)) told ∙ y; page = p; bindings-in = held .bindings-in; apart = apart-same s; touched = z }
 
   pub term-steps : r ≡ looked.StepsOut → AddedAs ws s s g out bs term-lines StepsOut
@@ -190,7 +191,7 @@ module _ {ws s : List ℕ} {w : ℕ} {bs : Substitution} {a : Atom} {t : Term} (
   pub absento-follows : Follows ws s bs (w + 2) t
   absento-follows = record { binds = held; stands = absento-term ws w a t h }
 
-  module _ {out : List ℕ} {first end place : ℕ} (g : Writing s out first end place) {bits k p : ℕ} (node : NodeAt ws (w + 1) bits k p) where
+  module _ {out : List ℕ} {first end place : ℕ} (g : Writing s out first end place) {bits k p : ℕ} (node : PartAt ws (w + 1) bits k p) where
     pub absento-adds : AddsAbsent ws s out bits (w + 2) first end place
     absento-adds = record {
       writing = g;

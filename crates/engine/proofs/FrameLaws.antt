@@ -10,11 +10,11 @@ use Rattle.rules.specs.Syntax.{Constraint, Program}
 use Rattle.semantics.specs.Substitution.{Substitution}
 use Rattle.semantics.specs.Path.{Task, Path, ChoicePoint}
 use Rattle.engine.specs.Reference.{at}
-use Rattle.engine.specs.Memory.{trail-at, goal-at, next-at, point-at, kept-at, table-at, Registers, saved, TrailIn, BindingsIn, CellIn, TasksIn, KeptIn, PathIn, ChoiceIn, ChoicesIn, TableIn, Nameless, Stored}
+use Rattle.engine.specs.Memory.{trail-at, goal-at, next-at, point-at, kept-at, table-at, Registers, saved, TrailIn, BindingsIn, CellIn, StackIn, KeptIn, PathIn, ChoiceIn, ChoicesIn, TableIn, Nameless, Stored}
 use Rattle.engine.specs.Trail.{Same}
 
 -- one law for each area: its reading is kept where its words are
-pub tasks-same : (ws s s′ : List ℕ) (put h : ℕ) (ts : List Task) → Same s s′ 6144 (6144 + 2 * put) → TasksIn ws s put h ts → TasksIn ws s′ put h ts
+pub tasks-same : (ws s s′ : List ℕ) (put h : ℕ) (ts : List Task) → Same s s′ 6144 (6144 + 2 * put) → StackIn ws s put h ts → StackIn ws s′ put h ts
 tasks-same ws s s′ put h [] e t = t
 tasks-same ws s s′ put h (task ∷ ts) e t =
     let c : CellIn ws s put h task = t .0 in

@@ -7,6 +7,7 @@ use lib.ListN.{length}
 use Rattle.rules.specs.Syntax.{Term, var, atom, pair, Constraint, differ, typed, absento, Goal, Goals, one, more, constrain, conj, disj}
 use Rattle.rules.specs.Reading.{kind-at, after}
 use Rattle.semantics.specs.Substitution.{shift, shift-constraint}
+use Rattle.engine.specs.Layout.{references}
 use Rattle.engine.specs.Reference.{TermAt, TermsAt, ConstraintAt, GoalsAt, pos-of, base-of, beyond, TaskAt, RestAt, VarsC, KeepsAt}
 use Rattle.rules.specs.Settings.{most-words}
 use Rattle.engine.proofs.ReferenceLaws.{pos-plus, base-plus, pos-beyond, base-beyond}
@@ -60,7 +61,7 @@ task-more ws w to base g gs h =
     }
 
 -- the goals inside a conjunction or a disjunction
-pub rest-inside : (ws : List ℕ) (w base : ℕ) (gs : Goals) → base-of w ≡ base → GoalsAt ws (pos-of w + 1) (after ws (pos-of w)) gs → after ws (pos-of w) ≤ most-words → after ws (pos-of w) ≤ length ws → w < 33570816 → RestAt ws (w + 1) (after ws (pos-of w)) base gs
+pub rest-inside : (ws : List ℕ) (w base : ℕ) (gs : Goals) → base-of w ≡ base → GoalsAt ws (pos-of w + 1) (after ws (pos-of w)) gs → after ws (pos-of w) ≤ most-words → after ws (pos-of w) ≤ length ws → w < references → RestAt ws (w + 1) (after ws (pos-of w)) base gs
 rest-inside ws w base gs e h le ins lt =
     let l : after ws (pos-of w + 1) ≤ after ws (pos-of w) = goals-longer ws (pos-of w + 1) (after ws (pos-of w)) gs h in
     record { is-base = base-plus w 1 (omega arith) ∙ e; goals = subst (λ k. GoalsAt ws k (after ws (pos-of w)) gs) (sym (pos-plus w 1 (omega arith))) h; small = le; inside = ins; below = omega arith }

@@ -17,7 +17,7 @@ use Rattle.semantics.proofs.ScanLaws.{ScanStep, hit, down, full, last, further,
 use Rattle.engine.specs.Reference.{at, Stands}
 use Rattle.engine.specs.Scan.{TestAs, scan-says, ScanAs}
 use Rattle.engine.specs.Trial.{EquationsKept}
-use Rattle.engine.specs.Look.{look-says, LookedAs, Looks, rights, ThroughAs}
+use Rattle.engine.specs.Look.{look-says, LookedThroughAs, Looks, rights, ThroughAs}
 use Rattle.engine.specs.declared.terms.scan.Scanned.{Scanned}
 use Rattle.engine.specs.declared.terms.scan.Scanned.the-variants.{Found, Clear, StepsOut, WaitingOut}
 use Rattle.engine.specs.declared.writer.look.LookedThrough.{LookedThrough}
@@ -47,20 +47,20 @@ module _ (bs : Substitution) (t : Term) (steps : ℕ) (r : Scanned) (h : ScanAs 
   said : scan never bs [] t steps ≡ scan-says r [] (λ us u left. scan never bs us u left)
   said = h never [] never-sought refl
 
-  pub look-clear : {left : ℕ} → r ≡ Clear left → LookedAs bs t steps (looked.Done left)
-  unfolding LookedAs scan-says
+  pub look-clear : {left : ℕ} → r ≡ Clear left → LookedThroughAs bs t steps (looked.Done left)
+  unfolding LookedThroughAs scan-says
   look-clear e = rw e at said
 
-  pub look-found : {left : ℕ} → r ≡ Found left → LookedAs bs t steps (looked.Done left)
-  unfolding LookedAs scan-says
+  pub look-found : {left : ℕ} → r ≡ Found left → LookedThroughAs bs t steps (looked.Done left)
+  unfolding LookedThroughAs scan-says
   look-found {left} e = absurd (never-found bs steps [] t left (rw e at said))
 
-  pub look-steps : r ≡ StepsOut → LookedAs bs t steps looked.StepsOut
-  unfolding LookedAs scan-says
+  pub look-steps : r ≡ StepsOut → LookedThroughAs bs t steps looked.StepsOut
+  unfolding LookedThroughAs scan-says
   look-steps e = rw e at said
 
-  pub look-path : {left : ℕ} → r ≡ WaitingOut left → LookedAs bs t steps (looked.WaitingOut left)
-  unfolding LookedAs scan-says
+  pub look-path : {left : ℕ} → r ≡ WaitingOut left → LookedThroughAs bs t steps (looked.WaitingOut left)
+  unfolding LookedThroughAs scan-says
   look-path e = rw e at said
 
 -- several terms, of which some are left to look at
@@ -75,9 +75,9 @@ module _ {bs : Substitution} {ts : List Term} {steps : ℕ} {later : List Term} 
   unfolding ThroughAs
   looking-end e = g .same ∙ ap (λ us. look-through bs us left) e
 
-  module _ (t : Term) (others : List Term) (is : later ≡ t ∷ others) (r : LookedThrough) (told : LookedAs bs t left r) where
+  module _ (t : Term) (others : List Term) (is : later ≡ t ∷ others) (r : LookedThrough) (told : LookedThroughAs bs t left r) where
     looks-is : look-through bs ts steps ≡ and-then (look-says false r) (λ _ l. look-through bs others l)
-    unfolding LookedAs
+    unfolding LookedThroughAs
     looks-is = g .same ∙ ap (λ us. look-through bs us left) is ∙ ap (λ o. and-then o (λ _ l. look-through bs others l)) told
 
     pub looking-steps : r ≡ looked.StepsOut → ThroughAs bs ts steps looked.StepsOut
@@ -124,7 +124,7 @@ module _ {ws s : List ℕ} {bs : Substitution} {cs : List (ℕ × Term)} {mark c
       go [] e h n = absurd (omega arith)
       go (b ∷ later) e h n = record { one = b; others = later; is = e; stands = h .0 .right; kept = h .1 }
 
-  module _ (n : RightsNext) (r : LookedThrough) (told : LookedAs bs (n .one .1) left r) where
+  module _ (n : RightsNext) (r : LookedThrough) (told : LookedThroughAs bs (n .one .1) left r) where
     rights-are : rights (g .later) ≡ n .one .1 ∷ rights (n .others)
     rights-are = ap rights (n .is)
 

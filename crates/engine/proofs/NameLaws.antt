@@ -15,8 +15,9 @@ use Rattle.semantics.specs.Substitution.{Substitution, lookup}
 use Rattle.semantics.specs.Answer.{member, index, appear}
 use Rattle.semantics.proofs.Basics.{clash, compared, same, other, none-of, or-right, by-choose}
 use Rattle.semantics.proofs.SubstitutionLaws.{lookup-other}
+use Rattle.engine.specs.Layout.{layout-words}
 use Rattle.engine.specs.Reference.{at}
-use Rattle.engine.specs.Memory.{Fresh, layout-words}
+use Rattle.engine.specs.Memory.{Fresh}
 use Rattle.engine.specs.Trail.{Apart}
 use Rattle.engine.specs.Names.{next-top, top-from, word-from, Distinct, Names, NamesGiven, Named}
 use Rattle.engine.proofs.TrailLaws.{fresh-few}

@@ -9,10 +9,10 @@ use lib.Seq.{getD-set-same, getD-set-other}
 use Rattle.rules.specs.Syntax.{Term, var, pair}
 use Rattle.semantics.specs.Answer.{appear, vars-in}
 use Rattle.semantics.proofs.Basics.{compared, same, other}
+use Rattle.engine.specs.Layout.{layout-words}
 use Rattle.engine.specs.Reference.{at}
 use Rattle.engine.specs.Walk.{Resolves, Shaped}
 use Rattle.engine.specs.Names.{next-top, top-from, Names, NamesGiven, Named}
-use Rattle.engine.specs.Memory.{layout-words}
 use Rattle.engine.specs.declared.terms.walk.Shape.{Shape}
 use Rattle.engine.specs.declared.terms.walk.Shape.the-variants.{Open, Atom as Leaf, Pair}
 use Rattle.engine.proofs.FollowLaws.{resolves-same}

@@ -11,7 +11,7 @@ use Rattle.semantics.specs.Answer.{appear, appear-all, reify, vars-in, paramete
 use Rattle.engine.specs.Walk.{Binds}
 use Rattle.engine.specs.Names.{Names, Named}
 use Rattle.engine.specs.Term.{Room, Puts, Laid, Missing, Placed, all-laid, some-missing}
-use Rattle.engine.specs.Look.{LookedAs, ThroughAs}
+use Rattle.engine.specs.Look.{LookedThroughAs, ThroughAs}
 use Rattle.engine.specs.Query.{Query, query-words}
 use Rattle.engine.specs.declared.writer.look.LookedThrough.{LookedThrough}
 use Rattle.engine.specs.declared.writer.look.LookedThrough.the-variants as looked
@@ -44,7 +44,7 @@ module _ {bs : Substitution} {n steps x left : ℕ} (g : LookingFrom bs n steps 
   pub from-end : n ≤ x → ThroughAs bs (parameters 0 n) steps (looked.Done left)
   from-end l = looking-end g (parameters-over x n l)
 
-  module _ (r : LookedThrough) (l : x < n) (h : LookedAs bs (var x) left r) where
+  module _ (r : LookedThrough) (l : x < n) (h : LookedThroughAs bs (var x) left r) where
     pub from-next : {rest : ℕ} → r ≡ looked.Done rest → LookingFrom bs n steps (x + 1) rest
     from-next e = looking-on g (var x) (parameters (x + 1) (n - (x + 1))) (parameters-next x n l) r h e
 

@@ -12,9 +12,11 @@ use Rattle.rules.specs.Reading.{kind-at, payload-at, after}
 use Rattle.rules.specs.Written.{sort-kind}
 use Rattle.rules.specs.Syntax.{Atom, symbol, number, empty, Term, var, atom, pair, Sort, symbols, numbers}
 use Rattle.semantics.specs.Substitution.{same-atom}
+use Rattle.semantics.specs.Invariant.{Vars}
 use Rattle.semantics.proofs.TermLaws.{same-atom-true, same-atom-refl, term-size}
-use Rattle.engine.specs.Walk.{NodeAt}
-use Rattle.engine.specs.Reference.{at, AtomIs, TermAt, TermsAt, refer, pos-of, base-of, beyond, Vars, Stands, positions}
+use Rattle.engine.specs.Layout.{positions, references}
+use Rattle.engine.specs.Walk.{PartAt}
+use Rattle.engine.specs.Reference.{at, AtomIs, TermAt, TermsAt, refer, pos-of, base-of, beyond, Stands}
 use Rattle.rules.specs.Settings.{most-words}
 
 -- references
@@ -74,7 +76,7 @@ pub record TwoAt (ws : List ℕ) (w : ℕ) (u v : Term) : Type 0 where
   pub first : Stands ws (w + 1) u
   pub second : (q : ℕ) → q + pos-of (w + 1) ≡ w + 1 + first .to → Stands ws q v
 
-pub two-terms : {ws : List ℕ} {w : ℕ} (base to : ℕ) (u v : Term) → base-of w ≡ base → TermsAt ws base (pos-of w + 1) to (u ∷ v ∷ []) → to ≤ length ws → to ≤ most-words → w < 33570816
+pub two-terms : {ws : List ℕ} {w : ℕ} (base to : ℕ) (u v : Term) → base-of w ≡ base → TermsAt ws base (pos-of w + 1) to (u ∷ v ∷ []) → to ≤ length ws → to ≤ most-words → w < references
     → Vars (λ x. x < 2048) u → Vars (λ x. x < 2048) v → TwoAt ws w u v
 unfolding stands-at
 two-terms {ws} {w} base to u v is-base h inside small below in-u in-v =
@@ -127,7 +129,7 @@ pub record Skips (ws : List ℕ) (w to w′ : ℕ) : Type 0 where
   pub same-base : base-of w′ ≡ base-of w
   pub forward : pos-of w < pos-of w′
 
-pub skip-pair : {ws : List ℕ} {w bits k p : ℕ} → NodeAt ws w bits k p → (t : Term) (h : Stands ws w t) → k ≡ 4 → Skips ws w (h .to) (w + 1 + p)
+pub skip-pair : {ws : List ℕ} {w bits k p : ℕ} → PartAt ws w bits k p → (t : Term) (h : Stands ws w t) → k ≡ 4 → Skips ws w (h .to) (w + 1 + p)
 unfolding stands-at
 skip-pair {ws} {w} node (var x) h e = absurd (omega (arith, h .reads .0, node .is-kind))
 skip-pair {ws} {w} node (atom a) h e = let l = atom-low (at ws (pos-of w)) a (h .reads .0) in absurd (omega (arith, l .1, node .is-kind))
@@ -145,7 +147,7 @@ skip-pair {ws} {w} {p = p} node (pair s t) h e =
       forward = omega arith;
     }
 
-pub skip-leaf : {ws : List ℕ} {w bits k p : ℕ} → NodeAt ws w bits k p → (t : Term) (h : Stands ws w t) → ¬ (k ≡ 4) → h .to ≡ pos-of w + 1
+pub skip-leaf : {ws : List ℕ} {w bits k p : ℕ} → PartAt ws w bits k p → (t : Term) (h : Stands ws w t) → ¬ (k ≡ 4) → h .to ≡ pos-of w + 1
 skip-leaf node (var x) h n = h .reads .2
 skip-leaf node (atom a) h n = h .reads .1
 skip-leaf node (pair s t) h n = absurd (n (node .is-kind ∙ h .reads .0))
@@ -160,10 +162,10 @@ pub record Skipping (ws : List ℕ) (start to w : ℕ) : Type 0 where
 pub skip-start : {ws : List ℕ} {w : ℕ} (t : Term) (h : Stands ws w t) → Skipping ws w (h .to) w
 skip-start t h = record { here = t; stands = h; ends = refl; same-base = refl }
 
-pub skip-ends : {ws : List ℕ} {start to w bits k p : ℕ} → Skipping ws start to w → NodeAt ws w bits k p → ¬ (k ≡ 4) → w + 1 + pos-of start ≡ start + to
+pub skip-ends : {ws : List ℕ} {start to w bits k p : ℕ} → Skipping ws start to w → PartAt ws w bits k p → ¬ (k ≡ 4) → w + 1 + pos-of start ≡ start + to
 skip-ends g node n = omega (arith, skip-leaf node (g .here) (g .stands) n, g .ends, g .same-base)
 
-pub skip-on : {ws : List ℕ} {start to w bits k p : ℕ} → Skipping ws start to w → NodeAt ws w bits k p → k ≡ 4 → Skipping ws start to (w + 1 + p)
+pub skip-on : {ws : List ℕ} {start to w bits k p : ℕ} → Skipping ws start to w → PartAt ws w bits k p → k ≡ 4 → Skipping ws start to (w + 1 + p)
 skip-on g node e = let q = skip-pair node (g .here) (g .stands) e in record { here = q .term; stands = q .stands; ends = q .ends ∙ g .ends; same-base = q .same-base ∙ g .same-base }
 
 -- A place holds one term, and it ends at one place.

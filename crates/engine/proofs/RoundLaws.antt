@@ -1,10 +1,9 @@
 -- One round, from answer to answer: what the loop of `round` keeps, and one law for each way in which it returns or goes on.
 use Prim.Native.Nat.{ℕ, suc, _+_, _≤_, _<_}
 use mathlib.Core.Path.{_≡_, refl, sym, ap, subst, _∙_}
-use mathlib.Core.Option.{some}
 use mathlib.Core.List.{List, [], _∷_, _++_, append-assoc, append-nil}
 use native.Mathlib.Omega.{arith}
-use lib.ListN.{length, take, getElem?, length-append}
+use lib.ListN.{length, take, length-append}
 use borrow.Author.Tests.{le-leb, lt-leb}
 use Rattle.rules.specs.Syntax.{Program, Relation}
 use Rattle.rules.proofs.Accepted.{read-is-written}
@@ -16,14 +15,15 @@ use Rattle.semantics.specs.Run.{usable, page}
 use Rattle.semantics.specs.Substitution.{argument}
 use Rattle.semantics.specs.Round as round
 use Rattle.semantics.specs.Round.{Tally, Next, over, Rounded, completed, broken, end-of, output-full, spend, write, backtrack, give, onward, search, start, one-round}
-use Rattle.semantics.specs.Invariant.{RelationIn, ProgramIn, StateFine}
+use Rattle.semantics.specs.Invariant.{ProgramIn, StateFine}
 use Rattle.semantics.proofs.Basics.{clash}
-use Rattle.semantics.proofs.Sound.{sound-start}
 use Rattle.semantics.proofs.StepLaws.{Spent}
 use Rattle.semantics.proofs.Counts.{answer-spent}
 use Rattle.semantics.proofs.Programs.{program-in}
 use Rattle.semantics.proofs.Fair.{RoundedFair, search-fair}
-use Rattle.engine.specs.Reference.{pos-of, positions}
+use Rattle.semantics.proofs.Whole.{start-fine}
+use Rattle.engine.specs.Layout.{positions}
+use Rattle.engine.specs.Reference.{pos-of}
 use Rattle.engine.specs.Memory.{Registers, Stored}
 use Rattle.engine.specs.Trail.{Undone}
 use Rattle.engine.specs.Report.{ran, end-says}
@@ -71,13 +71,6 @@ pub record Rounding (ws : List ℕ) (P : Program) (R : Relation) (k n : ℕ) (a 
 
 -- The start.
 
-fine-first : (P : Program) (wf : ProgramIn P) (query : ℕ) (R : Relation) (k : ℕ) (t : Tally) → getElem? P query ≡ some R → t .room < 268435456 → StateFine P wf (R .params) k (start R t)
-fine-first P wf query R k t e small = let r : RelationIn P R = wf query R e in record {
-  fine = record { sound = sound-start (R .vars) (omega (arith, r .few-vars)); query-made = r .params-vars; few-calls = omega arith; tasks-in = ((R .vars, omega arith, r .body-in), tt) };
-  fine-choices = tt;
-  small-room = small;
-}
-
 pub round-starts : {ws s output : List ℕ} {P : Program} {query : ℕ} {R : Relation} {k : ℕ} {t : code.Tally} {a : Tally} {n vars body : ℕ} → Starting ws s output P query R k t a → RelationIs ws n vars body R
     → Rounding ws P R k n a s output (record { head = 0; trail = 0; variables = vars; goals = 1; constraints = 0; calls = 0; choices = 0; steps = t .left }) body (t .used) (t .answers) 0
 round-starts {ws} {s} {output} {P} {query} {R} {k} {t} {a} {n} {vars} {body} h r =
@@ -99,7 +92,7 @@ round-starts {ws} {s} {output} {P} {query} {R} {k} {t} {a} {n} {vars} {body} h r
         left-is = sym (h .tally .left);
         cuts-are = refl;
         fits = omega (arith, h .tally .counted);
-        fine = subst (λ m. StateFine P wf m k (start R first)) (sym (r .params-is)) (fine-first P wf query R k first (h .ready .query-is) small);
+        fine = subst (λ m. StateFine P wf m k (start R first)) (sym (r .params-is)) (start-fine wf (wf query R (h .ready .query-is)) k first small);
       };
       enough = omega arith;
       same = ap (λ m. search P m k (suc (a .left)) (start R first)) (sym (r .params-is));

@@ -17,12 +17,13 @@ use Rattle.semantics.specs.Round.{Result, rounds}
 use Rattle.semantics.specs.Run.{Report, refusal, ran, returns, report-program, leave, run, run-as-written, usable, page}
 use Rattle.semantics.proofs.SameRuns.{run-same}
 use Rattle.semantics.proofs.Words.{demands-run}
+use Rattle.engine.specs.Layout.{layout-words}
 use Rattle.engine.specs.declared.report.Report as code
 use Rattle.engine.specs.Report.{end-says, RunPromise, RunAs}
 use Rattle.engine.specs.Run.{cleared, RefusalReport, Admitted}
 use Rattle.engine.specs.Rounds.{RunReady, ResultAs}
 use Rattle.engine.specs.Reference.{at}
-use Rattle.engine.specs.Memory.{TableIn, layout-words}
+use Rattle.engine.specs.Memory.{TableIn}
 use Rattle.engine.specs.Trail.{Same}
 use Rattle.rules.specs.Settings.{scratch-words}
 use Rattle.engine.proofs.ClearLaws.{cleared-rest, cleared-all}

@@ -15,7 +15,8 @@ use Rattle.semantics.specs.Invariant.{Without, Open, Good}
 use Rattle.semantics.proofs.Basics.{compared, same, other}
 use Rattle.semantics.proofs.SubstitutionLaws.{lookup-same, lookup-other, resolve-atom, resolve-pair, resolve-open, resolve-lookup, size}
 use Rattle.semantics.proofs.TermLaws.{term-size}
-use Rattle.engine.specs.Reference.{at, pos-of, beyond, Stands, positions}
+use Rattle.engine.specs.Layout.{positions}
+use Rattle.engine.specs.Reference.{at, pos-of, beyond, Stands}
 use Rattle.engine.specs.Memory.{BoundTo, Entry, BindingsIn}
 use Rattle.engine.specs.Walk.{Follows, Resolves}
 use Rattle.engine.proofs.ReferenceLaws.{atom-low, parts, stands-short}

@@ -7,8 +7,9 @@ use lib.ListN.{length}
 use Rattle.rules.specs.Syntax.{Relation, Program}
 use Rattle.semantics.specs.Path.{Path, ChoicePoint}
 use Rattle.semantics.specs.Round.{start, Tally}
+use Rattle.engine.specs.Layout.{layout-words}
 use Rattle.engine.specs.Reference.{at}
-use Rattle.engine.specs.Memory.{Registers, TableIn, BindingsIn, Nameless, Stored, layout-words}
+use Rattle.engine.specs.Memory.{Registers, TableIn, BindingsIn, Nameless, Stored}
 use Rattle.engine.specs.Trail.{Trailed}
 
 abbrev pub first-registers : ℕ → Registers

@@ -10,8 +10,9 @@ use Rattle.rules.specs.Syntax.{Constraint, Goal, Goals, one, more, Program}
 use Rattle.semantics.specs.Substitution.{Substitution}
 use Rattle.semantics.specs.Path.{Path, ChoicePoint, waiting-on}
 use Rattle.rules.specs.Reading.{after}
+use Rattle.engine.specs.Layout.{layout-words}
 use Rattle.engine.specs.Reference.{at, beyond, pos-of, TaskAt, RestAt}
-use Rattle.engine.specs.Memory.{goal-at, next-at, point-at, Registers, saved, BindingsIn, KeptIn, PathIn, Grown, ChoiceIn, Stored, cell, point, layout-words}
+use Rattle.engine.specs.Memory.{goal-at, next-at, point-at, Registers, saved, BindingsIn, KeptIn, PathIn, Grown, ChoiceIn, Stored, cell, point}
 use Rattle.engine.proofs.FrameLaws.{Untouched, frame, Outside, store, path-same, table-same, names-same, kept-same, choices-same}
 use Rattle.engine.specs.Trail.{Trailed, Undone}
 use Rattle.engine.proofs.TrailLaws.{fresh-few}

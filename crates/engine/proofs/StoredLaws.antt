@@ -69,8 +69,8 @@ module _ {P : Program} {ws s : List ℕ} {r : Registers} {n : ℕ} {p : Path} {c
   pub stored-binds : length ws ≤ most-words → Good (p .bindings) → Binds ws s (p .bindings)
   stored-binds short good = record { short = short; long = h .roomy .long; bindings-in = h .bindings-in; good = good }
 
-  pub stored-meets : length ws ≤ most-words → Good (p .bindings) → {a b : ℕ} {u v : Term} → Stands ws a u → Stands ws b v → TwoTerms ws s (p .bindings) a u b v (r .trail)
-  stored-meets short good su sv = record { held = stored-binds short good; first = su; second = sv; trail-is = h .path-in .trail }
+  pub stored-two : length ws ≤ most-words → Good (p .bindings) → {a b : ℕ} {u v : Term} → Stands ws a u → Stands ws b v → TwoTerms ws s (p .bindings) a u b v (r .trail)
+  stored-two short good su sv = record { held = stored-binds short good; first = su; second = sv; trail-is = h .path-in .trail }
 
   pub stored-kept : length ws ≤ most-words → Good (p .bindings) → ConstraintsHeld ws s (p .bindings) (p .kept) (r .trail) (r .constraints)
   stored-kept short good = record { held = stored-binds short good; kept-in = h .kept-in; kept-is = h .path-in .kept; few = h .roomy .kept; trail-is = h .path-in .trail }

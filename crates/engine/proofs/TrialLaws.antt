@@ -11,8 +11,9 @@ use Rattle.rules.specs.Syntax.{Term}
 use Rattle.semantics.specs.Substitution.{Substitution}
 use Rattle.semantics.proofs.Basics.{compared, same, other}
 use Rattle.semantics.proofs.SubstitutionLaws.{lookup-same}
+use Rattle.engine.specs.Layout.{layout-words}
 use Rattle.engine.specs.Reference.{at, Stands}
-use Rattle.engine.specs.Memory.{BoundTo, Entry, BindingsIn, layout-words}
+use Rattle.engine.specs.Memory.{BoundTo, Entry, BindingsIn}
 use Rattle.engine.specs.Trail.{Trailed, Apart}
 use Rattle.engine.specs.Line.{half}
 use Rattle.engine.specs.Trial.{HalfSet, EquationsKept, AllKept}

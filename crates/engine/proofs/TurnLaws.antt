@@ -1,4 +1,4 @@
--- A turn, as the code does it: one law for each way in which `leave`, `go_on` and `turn` return.
+-- A turn, as the code does it: one law for each way in which `leave_path`, `go_on` and `turn` return.
 use Prim.Native.Nat.{ℕ, _≤_}
 use mathlib.Core.Path.{_≡_, refl, sym, ap, subst, _∙_}
 use mathlib.Core.Bool.{true, false}
@@ -13,7 +13,7 @@ use Rattle.semantics.specs.Answer.{answer}
 use Rattle.semantics.specs.Round as round
 use Rattle.semantics.specs.Round.{Tally, Next, spend, backtrack, give, go-on, after, turn}
 use Rattle.engine.specs.Reference.{at}
-use Rattle.engine.specs.Memory.{goal-at, next-at, TasksIn, Stored}
+use Rattle.engine.specs.Memory.{goal-at, next-at, StackIn, Stored}
 use Rattle.engine.specs.Take.{registers, PathHeld, took-says, TookHolds, TookAs, OverAs, ResumedAs, BacktrackAs}
 use Rattle.engine.specs.Turn.{took-goal, tallied, NextAs, TurnedAs}
 use Rattle.engine.specs.declared.search.state.State.{State}
@@ -50,7 +50,7 @@ module _ (P : Program) (n k : ℕ) (ws s : List ℕ) (st : State) (t : Tally) (o
 pub cell-there : {P : Program} {ws s : List ℕ} (st : State) {p : Path} {cs : List ChoicePoint} → PathHeld P ws s st p cs → (st .head ≡ 0 → ⊥) → st .head ≤ 1024
 cell-there {P} {ws} {s} st {p} h e = go (p .stack) (h .path-in .tasks)
   where
-    go : (ts : List Task) → TasksIn ws s (st .goals) (st .head) ts → st .head ≤ 1024
+    go : (ts : List Task) → StackIn ws s (st .goals) (st .head) ts → st .head ≤ 1024
     go [] q = absurd (e q)
     go (x ∷ xs) q = omega (arith, q .0 .low, h .roomy .put)
 
@@ -61,7 +61,7 @@ module _ (P : Program) (n k : ℕ) (ws s : List ℕ) (st : State) (p : Path) (cs
   no-stack : st .head ≡ 0 → p .stack ≡ []
   no-stack e = go (p .stack) (h .path-in .tasks)
     where
-      go : (ts : List Task) → TasksIn ws s (st .goals) (st .head) ts → ts ≡ []
+      go : (ts : List Task) → StackIn ws s (st .goals) (st .head) ts → ts ≡ []
       go [] q = refl
       go (x ∷ xs) q = absurd (omega (arith, q .0 .is-cell))
 
@@ -86,7 +86,7 @@ module _ (P : Program) (n k : ℕ) (ws s : List ℕ) (st : State) (p : Path) (cs
   goes-goal e = go (p .stack) refl
     where
       go : (ts : List Task) → p .stack ≡ ts → goes-to s Goal (record { head = at s (next-at (st .head)); trail = st .trail; variables = st .variables; goals = st .goals; constraints = st .constraints; calls = st .calls; choices = st .choices; steps = st .steps }) (at s (goal-at (st .head))) 0
-      go [] q = absurd (e (subst (TasksIn ws s (st .goals) (st .head)) q (h .path-in .tasks)))
+      go [] q = absurd (e (subst (StackIn ws s (st .goals) (st .head)) q (h .path-in .tasks)))
       go (x ∷ xs) q =
           let g : Stored P ws s (registers st) (st .choices) (waiting-on p (x ∷ xs) (p .put)) cs = subst (λ ts. Stored P ws s (registers st) (st .choices) (waiting-on p ts (p .put)) cs) q h in
           let o = pop p x xs g in

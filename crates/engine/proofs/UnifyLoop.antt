@@ -12,12 +12,13 @@ use Rattle.rules.specs.Syntax.{Term}
 use Rattle.semantics.specs.Substitution.{Substitution}
 use Rattle.semantics.specs.Steps.{waiting, no-steps, at-bound, done, stop}
 use Rattle.semantics.specs.Unify.{Pairs, unify-next, unify, unify-terms}
+use Rattle.engine.specs.Layout.{layout-words}
 use Rattle.engine.specs.Reference.{at, Stands}
-use Rattle.engine.specs.Memory.{BindingsIn, layout-words}
+use Rattle.engine.specs.Memory.{BindingsIn}
 use Rattle.engine.specs.Trail.{Same}
 use Rattle.engine.specs.Unify.{TwoTerms, PairGoes, PairParts, PairEnds, PairUnifiedAs, Went, UnifiedAs}
 use Rattle.engine.specs.declared.terms.unify.PairUnified.{PairUnified}
-use Rattle.engine.specs.declared.terms.unify.PairUnified.the-variants as met
+use Rattle.engine.specs.declared.terms.unify.PairUnified.the-variants as paired
 use Rattle.engine.specs.declared.terms.unify.Unified.the-variants as unified
 use Rattle.engine.proofs.FrameLaws.{bindings-same}
 use Rattle.engine.proofs.TrailLaws.{fresh-few, apart-same, apart-trans}
@@ -66,8 +67,8 @@ unifying-start {s = s} {bs = bs} {u = u} {v = v} {steps = steps} m = record {
 }
 
 module _ {ws s₀ : List ℕ} {bs₀ : Substitution} {u₀ v₀ : Term} {steps : ℕ} {s : List ℕ} {a b top trail rest : ℕ} (g : Unifying ws s₀ bs₀ u₀ v₀ steps s a b top trail rest) where
-  pub unifying-meets : TwoTerms ws s (g .went .next) a (g .left) b (g .right) trail
-  unifying-meets = record { held = g .went .held; first = g .stands-left; second = g .stands-right; trail-is = g .went .trail-is }
+  pub unifying-two : TwoTerms ws s (g .went .next) a (g .left) b (g .right) trail
+  unifying-two = record { held = g .went .held; first = g .stands-left; second = g .stands-right; trail-is = g .went .trail-is }
 
   pub unify-out : rest ≡ 0 → UnifiedAs ws s₀ s bs₀ (unify-terms bs₀ u₀ v₀ steps) (unified.StepsOut trail)
   unfolding UnifiedAs
@@ -90,26 +91,26 @@ module _ {ws s₀ : List ℕ} {bs₀ : Substitution} {u₀ v₀ : Term} {steps :
       met-long = go r m ∙ g .went .apart .long
         where
           go : (r : PairUnified) → PairUnifiedAs ws s s′ (g .went .next) (g .left) (g .right) rest r → length s′ ≡ length s
-          go (met.Fails left) m = ap length (m .untouched)
-          go (met.Goes n left) m = m .long
-          go (met.Parts c d e f) m = ap length (m .untouched)
-          go met.StepsOut m = ap length (m .untouched)
-          go (met.WaitingOut left) m = ap length (m .untouched)
+          go (paired.Fails left) m = ap length (m .untouched)
+          go (paired.Goes n left) m = m .long
+          go (paired.Parts c d e f) m = ap length (m .untouched)
+          go paired.StepsOut m = ap length (m .untouched)
+          go (paired.WaitingOut left) m = ap length (m .untouched)
 
-      pub unify-failed : {after : ℕ} → r ≡ met.Fails after → UnifiedAs ws s₀ s′ bs₀ (unify-terms bs₀ u₀ v₀ steps) (unified.Failed trail after)
+      pub unify-failed : {after : ℕ} → r ≡ paired.Fails after → UnifiedAs ws s₀ s′ bs₀ (unify-terms bs₀ u₀ v₀ steps) (unified.Failed trail after)
       unfolding PairUnifiedAs UnifiedAs
       unify-failed {after} e = let q : PairEnds s s′ (g .went .next) (g .left) (g .right) rest (done none after) = rw e at m in (went-still (q .untouched), step-same ∙ q .same (g .fuel - 1) (g .pairs))
 
-      pub unify-stepped : r ≡ met.StepsOut → UnifiedAs ws s₀ s′ bs₀ (unify-terms bs₀ u₀ v₀ steps) (unified.StepsOut trail)
+      pub unify-stepped : r ≡ paired.StepsOut → UnifiedAs ws s₀ s′ bs₀ (unify-terms bs₀ u₀ v₀ steps) (unified.StepsOut trail)
       unfolding PairUnifiedAs UnifiedAs
       unify-stepped e = let q : PairEnds s s′ (g .went .next) (g .left) (g .right) rest (stop no-steps 0) = rw e at m in (went-still (q .untouched), step-same ∙ q .same (g .fuel - 1) (g .pairs))
 
-      pub unify-pathed : {after : ℕ} → r ≡ met.WaitingOut after → UnifiedAs ws s₀ s′ bs₀ (unify-terms bs₀ u₀ v₀ steps) (unified.WaitingOut trail after)
+      pub unify-pathed : {after : ℕ} → r ≡ paired.WaitingOut after → UnifiedAs ws s₀ s′ bs₀ (unify-terms bs₀ u₀ v₀ steps) (unified.WaitingOut trail after)
       unfolding PairUnifiedAs UnifiedAs
       unify-pathed {after} e = let q : PairEnds s s′ (g .went .next) (g .left) (g .right) rest (stop (at-bound waiting) after) = rw e at m in (went-still (q .untouched), step-same ∙ q .same (g .fuel - 1) (g .pairs))
 
       -- the pair is done with
-      module _ {n after : ℕ} (e : r ≡ met.Goes n after) where
+      module _ {n after : ℕ} (e : r ≡ paired.Goes n after) where
         goes : PairGoes ws s s′ (g .went .next) (g .left) (g .right) rest n after
         unfolding PairUnifiedAs
         goes = rw e at m
@@ -163,7 +164,7 @@ module _ {ws s₀ : List ℕ} {bs₀ : Substitution} {u₀ v₀ : Term} {steps :
                 }
 
       -- its parts come next
-      module _ {c d e f : ℕ} (y : r ≡ met.Parts c d e f) where
+      module _ {c d e f : ℕ} (y : r ≡ paired.Parts c d e f) where
         splits : PairParts ws s s′ (g .went .next) (g .left) (g .right) rest c d e f
         unfolding PairUnifiedAs
         splits = rw y at m

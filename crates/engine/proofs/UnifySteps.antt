@@ -19,23 +19,24 @@ use Rattle.semantics.proofs.ScanLaws.{scan-spent}
 use Rattle.semantics.proofs.SubstitutionLaws.{walk-followed}
 use Rattle.semantics.proofs.UnifyLaws.{LookRight, look-ok, bind-ok}
 use Rattle.semantics.proofs.UnifyLaws as laws
+use Rattle.engine.specs.Layout.{references}
 use Rattle.engine.specs.Reference.{at, AtomIs, base-of, Stands}
 use Rattle.engine.specs.Memory.{trail-at, BindingsIn, bound}
-use Rattle.engine.specs.Walk.{NodeAt, Binds, Follows}
+use Rattle.engine.specs.Walk.{PartAt, Binds, Follows}
 use Rattle.engine.specs.Scan.{ScanAs, scan-says}
-use Rattle.engine.specs.Unify.{BindsTo, PartsTo, ComparedAs, TwoTerms, PairGoes, PairUnifiedAs}
+use Rattle.engine.specs.Unify.{BindsTo, PartsTo, LookedAs, TwoTerms, PairGoes, PairUnifiedAs}
 use Rattle.engine.specs.declared.terms.scan.Scanned.{Scanned}
 use Rattle.engine.specs.declared.terms.scan.Scanned.the-variants as scanned
-use Rattle.engine.specs.declared.terms.unify.Compared.{Compared}
-use Rattle.engine.specs.declared.terms.unify.Compared.the-variants as compared
-use Rattle.engine.specs.declared.terms.unify.PairUnified.the-variants as met
+use Rattle.engine.specs.declared.terms.unify.Looked as code
+use Rattle.engine.specs.declared.terms.unify.Looked.the-variants as looked
+use Rattle.engine.specs.declared.terms.unify.PairUnified.the-variants as paired
 use Rattle.engine.proofs.ReferenceLaws.{atom-low, atom-test}
 use Rattle.engine.proofs.TrailLaws.{fresh-room, bind-in}
 use Rattle.engine.proofs.ScanSteps.{open-at, atom-at, pair-at, variable-sought}
 
 -- Two followed terms, by the kinds of their words
 
-module _ {ws : List ℕ} {a bits k p b bits′ k′ p′ : ℕ} (left : NodeAt ws a bits k p) (right : NodeAt ws b bits′ k′ p′) (u v : Term) (su : Stands ws a u) (sv : Stands ws b v) where
+module _ {ws : List ℕ} {a bits k p b bits′ k′ p′ : ℕ} (left : PartAt ws a bits k p) (right : PartAt ws b bits′ k′ p′) (u v : Term) (su : Stands ws a u) (sv : Stands ws b v) where
   left-bound : (x : ℕ) (v : Term) → Stands ws b v → ¬ (k′ ≡ 0) → look (var x) v ≡ binds x v
   left-bound x (var y) h n = absurd (n (right .is-kind ∙ h .reads .0))
   left-bound x (atom c) h n = refl
@@ -46,42 +47,42 @@ module _ {ws : List ℕ} {a bits k p b bits′ k′ p′ : ℕ} (left : NodeAt w
   right-bound y (atom c) h n = refl
   right-bound y (pair c d) h n = refl
 
-  pub compare-left : {x : ℕ} → x ≡ base-of a + p → k ≡ 0 → ¬ (k′ ≡ 0) → ComparedAs ws (look u v) (compared.Binds x b)
-  unfolding ComparedAs
-  compare-left i e n = let o = open-at left u su e in record {
+  pub look-left : {x : ℕ} → x ≡ base-of a + p → k ≡ 0 → ¬ (k′ ≡ 0) → LookedAs ws (look u v) (looked.Binds x b)
+  unfolding LookedAs
+  look-left i e n = let o = open-at left u su e in record {
     term = v;
     is = ap (λ z. look z v) (o .is) ∙ left-bound (o .number) v sv n ∙ ap (λ z. binds z v) (sym (i ∙ o .number-is));
     low = rw (i, o .number-is) (o .low);
     stands = sv;
   }
 
-  pub compare-right : {y : ℕ} → y ≡ base-of b + p′ → ¬ (k ≡ 0) → k′ ≡ 0 → ComparedAs ws (look u v) (compared.Binds y a)
-  unfolding ComparedAs
-  compare-right j n e = let o = open-at right v sv e in record {
+  pub look-right : {y : ℕ} → y ≡ base-of b + p′ → ¬ (k ≡ 0) → k′ ≡ 0 → LookedAs ws (look u v) (looked.Binds y a)
+  unfolding LookedAs
+  look-right j n e = let o = open-at right v sv e in record {
     term = u;
     is = ap (look u) (o .is) ∙ right-bound (o .number) u su n ∙ ap (λ z. binds z u) (sym (j ∙ o .number-is));
     low = rw (j, o .number-is) (o .low);
     stands = su;
   }
 
-  pub compare-same : {x y : ℕ} → x ≡ base-of a + p → y ≡ base-of b + p′ → k ≡ 0 → k′ ≡ 0 → y ≡ x → ComparedAs ws (look u v) compared.Agrees
-  unfolding ComparedAs
-  compare-same i j e f z =
+  pub look-same : {x y : ℕ} → x ≡ base-of a + p → y ≡ base-of b + p′ → k ≡ 0 → k′ ≡ 0 → y ≡ x → LookedAs ws (look u v) looked.Agrees
+  unfolding LookedAs
+  look-same i j e f z =
       let o = open-at left u su e in let q = open-at right v sv f in
       ap₂ look (o .is) (q .is) ∙ rw (eq-eqb (o .number) (q .number) (sym (i ∙ o .number-is) ∙ sym z ∙ j ∙ q .number-is))
 
-  pub compare-other : {x y : ℕ} → x ≡ base-of a + p → y ≡ base-of b + p′ → k ≡ 0 → k′ ≡ 0 → ¬ (y ≡ x) → ComparedAs ws (look u v) (compared.Binds x b)
-  unfolding ComparedAs
-  compare-other i j e f z = let o = open-at left u su e in let q = open-at right v sv f in record {
+  pub look-other : {x y : ℕ} → x ≡ base-of a + p → y ≡ base-of b + p′ → k ≡ 0 → k′ ≡ 0 → ¬ (y ≡ x) → LookedAs ws (look u v) (looked.Binds x b)
+  unfolding LookedAs
+  look-other i j e f z = let o = open-at left u su e in let q = open-at right v sv f in record {
     term = v;
     is = ap₂ look (o .is) (q .is) ∙ rw (ne-eqb (o .number) (q .number) (λ y. z (j ∙ q .number-is ∙ sym y ∙ sym (i ∙ o .number-is)))) (ap₂ binds (sym (i ∙ o .number-is)) (sym (q .is)));
     low = rw (i, o .number-is) (o .low);
     stands = sv;
   }
 
-  pub compare-parts : k ≡ 4 → k′ ≡ 4 → ComparedAs ws (look u v) (compared.Parts (a + 1) (a + 1 + p) (b + 1) (b + 1 + p′))
-  unfolding ComparedAs
-  compare-parts e f = let o = pair-at left u su e in let q = pair-at right v sv f in record {
+  pub look-parts : k ≡ 4 → k′ ≡ 4 → LookedAs ws (look u v) (looked.Parts (a + 1) (a + 1 + p) (b + 1) (b + 1 + p′))
+  unfolding LookedAs
+  look-parts e f = let o = pair-at left u su e in let q = pair-at right v sv f in record {
     first = o .left;
     second = o .right;
     third = q .left;
@@ -93,56 +94,56 @@ module _ {ws : List ℕ} {a bits k p b bits′ k′ p′ : ℕ} (left : NodeAt w
     stands-fourth = q .second;
   }
 
-  pub compare-pair : k ≡ 4 → ¬ (k′ ≡ 0) → ¬ (k′ ≡ 4) → ComparedAs ws (look u v) compared.Fails
-  unfolding ComparedAs
-  compare-pair e n m = let o = pair-at left u su e in let q = atom-at right v sv n m in ap₂ look (o .is) (q .is)
+  pub look-pair : k ≡ 4 → ¬ (k′ ≡ 0) → ¬ (k′ ≡ 4) → LookedAs ws (look u v) looked.Fails
+  unfolding LookedAs
+  look-pair e n m = let o = pair-at left u su e in let q = atom-at right v sv n m in ap₂ look (o .is) (q .is)
 
   -- an atom and a word that is no variable's: they are the same atom if the words are
-  pub compare-words : ¬ (k ≡ 0) → ¬ (k ≡ 4) → ¬ (k′ ≡ 0) → ¬ (bits ≡ bits′) → ComparedAs ws (look u v) compared.Fails
-  unfolding ComparedAs
-  compare-words n m n′ z = let o = atom-at left u su n m in ap (λ y. look y v) (o .is) ∙ go (o .which) (o .word-is) v sv
+  pub look-words : ¬ (k ≡ 0) → ¬ (k ≡ 4) → ¬ (k′ ≡ 0) → ¬ (bits ≡ bits′) → LookedAs ws (look u v) looked.Fails
+  unfolding LookedAs
+  look-words n m n′ z = let o = atom-at left u su n m in ap (λ y. look y v) (o .is) ∙ go (o .which) (o .word-is) v sv
     where
       go : (c : Atom) → AtomIs bits c → (v : Term) → Stands ws b v → look (atom c) v ≡ fails
       go c i (var y) h = absurd (n′ (right .is-kind ∙ h .reads .0))
       go c i (atom d) h = rw (atom-test bits bits′ c d i (rw (right .is-bits) (h .reads .0)) ∙ ne-eqb bits bits′ z)
       go c i (pair d e) h = refl
 
-  pub compare-equal : ¬ (k ≡ 0) → ¬ (k ≡ 4) → ¬ (k′ ≡ 0) → bits ≡ bits′ → ComparedAs ws (look u v) compared.Agrees
-  unfolding ComparedAs
-  compare-equal n m n′ z = let o = atom-at left u su n m in ap (λ y. look y v) (o .is) ∙ go (o .which) (o .word-is) v sv
+  pub look-equal : ¬ (k ≡ 0) → ¬ (k ≡ 4) → ¬ (k′ ≡ 0) → bits ≡ bits′ → LookedAs ws (look u v) looked.Agrees
+  unfolding LookedAs
+  look-equal n m n′ z = let o = atom-at left u su n m in ap (λ y. look y v) (o .is) ∙ go (o .which) (o .word-is) v sv
     where
       go : (c : Atom) → AtomIs bits c → (v : Term) → Stands ws b v → look (atom c) v ≡ agrees
       go c i (var y) h = absurd (n′ (right .is-kind ∙ h .reads .0))
       go c i (atom d) h = rw (atom-test bits bits′ c d i (rw (right .is-bits) (h .reads .0)) ∙ eq-eqb bits bits′ z)
       go c i (pair d e) h = let l = atom-low bits c i in absurd (omega (arith, l .1, h .reads .0, right .is-bits))
 
--- One pair met
+-- One pair unified
 
 module _ {ws s : List ℕ} {bs : Substitution} {a : ℕ} {u : Term} {b : ℕ} {v : Term} {trail steps : ℕ} (some-left : 0 < steps) (m : TwoTerms ws s bs a u b v trail) where
-  pub meets-first : Follows ws s bs a u
-  meets-first = record { binds = m .held; stands = m .first }
+  pub one-follows : Follows ws s bs a u
+  one-follows = record { binds = m .held; stands = m .first }
 
-  pub meets-second : Follows ws s bs b v
-  meets-second = record { binds = m .held; stands = m .second }
+  pub other-follows : Follows ws s bs b v
+  other-follows = record { binds = m .held; stands = m .second }
 
   one-more : steps ≡ suc (steps - 1)
   one-more = omega arith
 
-  looked : (o : Looked) → look (walk bs u) (walk bs v) ≡ o → (fuel : ℕ) (vs : Pairs) → unify (suc fuel) bs vs u v steps ≡ unify-pair o bs vs (steps - 1) (λ bs′ us x y l. unify fuel bs′ us x y l)
-  looked o e fuel vs = ap (unify (suc fuel) bs vs u v) one-more ∙ rw e
+  look-gives : (o : Looked) → look (walk bs u) (walk bs v) ≡ o → (fuel : ℕ) (vs : Pairs) → unify (suc fuel) bs vs u v steps ≡ unify-pair o bs vs (steps - 1) (λ bs′ us x y l. unify fuel bs′ us x y l)
+  look-gives o e fuel vs = ap (unify (suc fuel) bs vs u v) one-more ∙ rw e
 
-  module _ {r : Compared} (cmp : ComparedAs ws (look (walk bs u) (walk bs v)) r) where
-    pub meet-fails : r ≡ compared.Fails → PairUnifiedAs ws s s bs u v steps (met.Fails (steps - 1))
-    unfolding ComparedAs PairUnifiedAs
-    meet-fails e = record { untouched = refl; same = looked fails (rw e at cmp) }
+  module _ {r : code.Looked} (cmp : LookedAs ws (look (walk bs u) (walk bs v)) r) where
+    pub pair-fails : r ≡ looked.Fails → PairUnifiedAs ws s s bs u v steps (paired.Fails (steps - 1))
+    unfolding LookedAs PairUnifiedAs
+    pair-fails e = record { untouched = refl; same = look-gives fails (rw e at cmp) }
 
-    pub meet-agrees : r ≡ compared.Agrees → PairUnifiedAs ws s s bs u v steps (met.Goes trail (steps - 1))
-    unfolding ComparedAs PairUnifiedAs
-    meet-agrees e = record { next = bs; new = []; grows = refl; held = m .held; trail-is = m .trail-is; long = refl; above = λ i lo. refl; fewer = omega arith; same = looked agrees (rw e at cmp) }
+    pub pair-agrees : r ≡ looked.Agrees → PairUnifiedAs ws s s bs u v steps (paired.Goes trail (steps - 1))
+    unfolding LookedAs PairUnifiedAs
+    pair-agrees e = record { next = bs; new = []; grows = refl; held = m .held; trail-is = m .trail-is; long = refl; above = λ i lo. refl; fewer = omega arith; same = look-gives agrees (rw e at cmp) }
 
-    pub meet-parts : {c d e f : ℕ} → r ≡ compared.Parts c d e f → PairUnifiedAs ws s s bs u v steps (met.Parts c d e f)
-    unfolding ComparedAs PairUnifiedAs
-    meet-parts {c} {d} {e} {f} z =
+    pub pair-parts : {c d e f : ℕ} → r ≡ looked.Parts c d e f → PairUnifiedAs ws s s bs u v steps (paired.Parts c d e f)
+    unfolding LookedAs PairUnifiedAs
+    pair-parts {c} {d} {e} {f} z =
         let q : PartsTo ws (look (walk bs u) (walk bs v)) c d e f = rw z at cmp in
         record {
           untouched = refl;
@@ -154,14 +155,14 @@ module _ {ws s : List ℕ} {bs : Substitution} {a : ℕ} {u : Term} {b : ℕ} {v
           stands-second = q .stands-second;
           stands-third = q .stands-third;
           stands-fourth = q .stands-fourth;
-          same = λ fuel vs. looked (parts (q .first) (q .second) (q .third) (q .fourth)) (q .is) fuel vs
+          same = λ fuel vs. look-gives (parts (q .first) (q .second) (q .third) (q .fourth)) (q .is) fuel vs
               ∙ ap (λ z. choose (ltb (length vs) 512) (λ _. unify fuel bs ((q .second, q .fourth) ∷ vs) (q .first) (q .third) (steps - 1)) (λ _. stop (at-bound waiting) z)) (sym one-more);
         }
 
     -- a variable is to be bound, after its occurs check
-    module _ {x w : ℕ} (z : r ≡ compared.Binds x w) where
+    module _ {x w : ℕ} (z : r ≡ looked.Binds x w) where
       pub bound-term : BindsTo ws (look (walk bs u) (walk bs v)) x w
-      unfolding ComparedAs
+      unfolding LookedAs
       bound-term = rw z at cmp
 
       pub bound-follows : Follows ws s bs w (bound-term .term)
@@ -170,34 +171,34 @@ module _ {ws s : List ℕ} {bs : Substitution} {a : ℕ} {u : Term} {b : ℕ} {v
       told : laws.Binds 0 bs (walk bs u) (walk bs v) x (bound-term .term)
       told = subst (LookRight 0 bs (walk bs u) (walk bs v)) (bound-term .is) (look-ok 0 bs (walk bs u) (walk bs v) (walk-followed bs (m .held .good) u) (walk-followed bs (m .held .good) v))
 
-      pub bound-room : (x < 2048) × (trail < 2048) × (w < 33570816)
+      pub bound-room : (x < 2048) × (trail < 2048) × (w < references)
       bound-room = (bound-term .low, omega (arith, m .trail-is, fresh-room bs x (bound-term .term) (m .held .bindings-in .fresh) (bound-term .low) (told .opens)), bound-term .stands .below)
 
       module _ (sr : Scanned) (check : (bs : Substitution) (t : Term) → Follows ws s bs w t → ScanAs x bs t 0 (steps - 1) sr) where
         scan-is : scan (is-var x) bs [] (bound-term .term) (steps - 1) ≡ scan-says sr [] (λ us t l. scan (is-var x) bs us t l)
         scan-is = check bs (bound-term .term) bound-follows (is-var x) [] (variable-sought x (bound-term .low)) refl
 
-        pub meet-occurs : {rest : ℕ} → sr ≡ scanned.Found rest → PairUnifiedAs ws s s bs u v steps (met.Fails rest)
+        pub pair-occurs : {rest : ℕ} → sr ≡ scanned.Found rest → PairUnifiedAs ws s s bs u v steps (paired.Fails rest)
         unfolding PairUnifiedAs scan-says
-        meet-occurs {rest} y =
+        pair-occurs {rest} y =
             let e : scan (is-var x) bs [] (bound-term .term) (steps - 1) ≡ done true rest = rw y at scan-is in
-            record { untouched = refl; same = λ fuel vs. looked (binds x (bound-term .term)) (bound-term .is) fuel vs ∙ rw e }
+            record { untouched = refl; same = λ fuel vs. look-gives (binds x (bound-term .term)) (bound-term .is) fuel vs ∙ rw e }
 
-        pub meet-steps : sr ≡ scanned.StepsOut → PairUnifiedAs ws s s bs u v steps met.StepsOut
+        pub pair-steps : sr ≡ scanned.StepsOut → PairUnifiedAs ws s s bs u v steps paired.StepsOut
         unfolding PairUnifiedAs scan-says
-        meet-steps y =
+        pair-steps y =
             let e : scan (is-var x) bs [] (bound-term .term) (steps - 1) ≡ stop no-steps 0 = rw y at scan-is in
-            record { untouched = refl; same = λ fuel vs. looked (binds x (bound-term .term)) (bound-term .is) fuel vs ∙ rw e }
+            record { untouched = refl; same = λ fuel vs. look-gives (binds x (bound-term .term)) (bound-term .is) fuel vs ∙ rw e }
 
-        pub meet-path : {rest : ℕ} → sr ≡ scanned.WaitingOut rest → PairUnifiedAs ws s s bs u v steps (met.WaitingOut rest)
+        pub pair-path : {rest : ℕ} → sr ≡ scanned.WaitingOut rest → PairUnifiedAs ws s s bs u v steps (paired.WaitingOut rest)
         unfolding PairUnifiedAs scan-says
-        meet-path {rest} y =
+        pair-path {rest} y =
             let e : scan (is-var x) bs [] (bound-term .term) (steps - 1) ≡ stop (at-bound waiting) rest = rw y at scan-is in
-            record { untouched = refl; same = λ fuel vs. looked (binds x (bound-term .term)) (bound-term .is) fuel vs ∙ rw e }
+            record { untouched = refl; same = λ fuel vs. look-gives (binds x (bound-term .term)) (bound-term .is) fuel vs ∙ rw e }
 
-        pub meet-binds : {rest n : ℕ} {s′ : List ℕ} → sr ≡ scanned.Clear rest → n ≡ trail + 1 → s′ ≡ bound s x w trail → PairUnifiedAs ws s s′ bs u v steps (met.Goes n rest)
+        pub pair-binds : {rest n : ℕ} {s′ : List ℕ} → sr ≡ scanned.Clear rest → n ≡ trail + 1 → s′ ≡ bound s x w trail → PairUnifiedAs ws s s′ bs u v steps (paired.Goes n rest)
         unfolding PairUnifiedAs scan-says
-        meet-binds {rest} {n} {s′} y n-is s-is =
+        pair-binds {rest} {n} {s′} y n-is s-is =
             let t : Term = bound-term .term in
             let e : scan (is-var x) bs [] t (steps - 1) ≡ done false rest = rw y at scan-is in
             let is : bind bs x t (steps - 1) ≡ done (some ((x, t) ∷ bs)) rest = rw e in
@@ -216,5 +217,5 @@ module _ {ws s : List ℕ} {bs : Substitution} {a : ℕ} {u : Term} {b : ℕ} {v
               long = simp length-set;
               above = λ i lo. getD-set-other (set s x (w + 1)) (trail-at trail) i x 0 (omega arith) ∙ getD-set-other s x i (w + 1) 0 (omega arith);
               fewer = omega arith;
-              same = λ fuel vs. looked (binds x t) (bound-term .is) fuel vs ∙ rw e;
+              same = λ fuel vs. look-gives (binds x t) (bound-term .is) fuel vs ∙ rw e;
             })

@@ -16,7 +16,7 @@ use Rattle.rules.specs.Written.{term-words}
 use Rattle.semantics.specs.Substitution.{Substitution, lookup, resolve}
 use Rattle.semantics.specs.Steps.{done}
 use Rattle.semantics.specs.Unify.{scan, scan-node, never}
-use Rattle.semantics.specs.Answer.{member, index, appear, reify, vars-in, Line, lacks, line-in, line-words, any-same, same-words, lacks-each, trial-bindings, resolve-right}
+use Rattle.semantics.specs.Answer.{member, index, appear, reify, vars-in, Line, lacks, line-in, line-words, any-same, same-words, lacks-each, stays, trial-bindings, resolve-right}
 use Rattle.semantics.specs.Invariant.{Good}
 use Rattle.semantics.proofs.Basics.{one-of}
 use Rattle.semantics.proofs.SubstitutionLaws.{walk-some, walk-open, resolve-lookup, resolve-open}
@@ -25,7 +25,7 @@ use Rattle.engine.specs.Memory.{Entry, BindingsIn}
 use Rattle.engine.specs.Walk.{Binds, Follows, Resolves}
 use Rattle.engine.specs.Names.{Named}
 use Rattle.engine.specs.Term.{Puts, Placed}
-use Rattle.engine.specs.Look.{LookedAs}
+use Rattle.engine.specs.Look.{LookedThroughAs}
 use Rattle.engine.specs.declared.writer.term.Put.{Put}
 use Rattle.engine.specs.declared.writer.look.LookedThrough.{LookedThrough}
 use Rattle.engine.specs.declared.writer.look.LookedThrough.the-variants as looked
@@ -37,7 +37,7 @@ use Rattle.engine.proofs.LinesLaws.{lacks-append, add-append}
 
 -- a line that would not be added
 abbrev Settled : List ℕ → List (List ℕ) → Line → Type 0
-Settled names ws l = (line-in names l && not (any-same (line-words names l) ws)) ≡ false
+Settled names ws l = stays names ws l ≡ false
 
 settled-adds : (names : List ℕ) (ws : List (List ℕ)) (l : Line) → Settled names ws l → add-line names ws l ≡ ws
 unfolding add-line
@@ -49,12 +49,12 @@ never-new false b e = refl
 
 settled-added : (names : List ℕ) (ws : List (List ℕ)) (l : Line) → Settled names (add-line names ws l) l
 unfolding add-line
-settled-added names ws l = go (line-in names l && not (any-same (line-words names l) ws)) refl
+settled-added names ws l = go (stays names ws l) refl
   where
     v : List ℕ
     v = line-words names l
 
-    go : (b : Bool) → (line-in names l && not (any-same v ws)) ≡ b → Settled names (choose b (λ _. ws ++ (v ∷ [])) (λ _. ws)) l
+    go : (b : Bool) → stays names ws l ≡ b → Settled names (choose b (λ _. ws ++ (v ∷ [])) (λ _. ws)) l
     go false e = e
     go true e = never-new (line-in names l) (any-same v (ws ++ (v ∷ []))) (any-snoc v v ws ∙ ap (λ b. b || any-same v ws) (same-self v))
 
@@ -66,7 +66,7 @@ more-false false b c e = refl
 
 settled-kept : (names : List ℕ) (ws : List (List ℕ)) (l m : Line) → Settled names ws l → Settled names (add-line names ws m) l
 unfolding add-line
-settled-kept names ws l m h = go (line-in names m && not (any-same (line-words names m) ws))
+settled-kept names ws l m h = go (stays names ws m)
   where
     go : (b : Bool) → Settled names (choose b (λ _. ws ++ (line-words names m ∷ [])) (λ _. ws)) l
     go false = h
@@ -159,28 +159,28 @@ module _ {ws s : List ℕ} {bs : Substitution} (x : ℕ) (b : Binds ws s bs) (lo
   pub parameter-resolves : ¬ (at s x ≡ 0) → Resolves ws s (at s x - 1) (resolve bs (var x))
   parameter-resolves n = resolves-bound x b (parameter-bound x (b .bindings-in) low n)
 
-  stays : at s x ≡ 0 → resolve bs (var x) ≡ var x
-  stays z = resolve-open bs x (parameter-open x (b .bindings-in) low z)
+  parameter-itself : at s x ≡ 0 → resolve bs (var x) ≡ var x
+  parameter-itself z = resolve-open bs x (parameter-open x (b .bindings-in) low z)
 
   pub parameter-named : {s′ : List ℕ} {top : ℕ} (names : List ℕ) → at s x ≡ 0 → Named s s′ top (appear names (var x)) → Named s s′ top (appear names (resolve bs (var x)))
-  parameter-named {s′} {top} names z h = subst (λ t. Named s s′ top (appear names t)) (sym (stays z)) h
+  parameter-named {s′} {top} names z h = subst (λ t. Named s s′ top (appear names t)) (sym (parameter-itself z)) h
 
   pub parameter-puts : {o : List ℕ} {start end : ℕ} {names : List ℕ} → at s x ≡ 0 → Puts s o start end names (vars-in names (resolve bs (var x))) → Puts s o start end names (member x names)
-  parameter-puts {o} {start} {end} {names} z g = subst (λ t. Puts s o start end names (vars-in names t)) (stays z) g
+  parameter-puts {o} {start} {end} {names} z g = subst (λ t. Puts s o start end names (vars-in names t)) (parameter-itself z) g
 
   pub parameter-put : {o o′ : List ℕ} {start end : ℕ} {write : Bool} {r : Put} (names : List ℕ) → at s x ≡ 0 → Placed o o′ start end write (term-words (var (index x names))) r → Placed o o′ start end write (term-words (reify names (resolve bs (var x)))) r
-  parameter-put {o} {o′} {start} {end} {write} {r} names z h = subst (λ t. Placed o o′ start end write (term-words (reify names t)) r) (sym (stays z)) h
+  parameter-put {o} {o′} {start} {end} {write} {r} names z h = subst (λ t. Placed o o′ start end write (term-words (reify names t)) r) (sym (parameter-itself z)) h
 
-  pub parameter-no-steps : (steps : ℕ) → steps ≡ 0 → LookedAs bs (var x) steps looked.StepsOut
-  unfolding LookedAs
+  pub parameter-no-steps : (steps : ℕ) → steps ≡ 0 → LookedThroughAs bs (var x) steps looked.StepsOut
+  unfolding LookedThroughAs
   parameter-no-steps zero e = refl
   parameter-no-steps (suc n) e = absurd (omega arith)
 
-  pub parameter-step : (steps : ℕ) → at s x ≡ 0 → ¬ (steps ≡ 0) → LookedAs bs (var x) steps (looked.Done (steps - 1))
-  unfolding LookedAs
+  pub parameter-step : (steps : ℕ) → at s x ≡ 0 → ¬ (steps ≡ 0) → LookedThroughAs bs (var x) steps (looked.Done (steps - 1))
+  unfolding LookedThroughAs
   parameter-step zero z n = absurd (n refl)
   parameter-step (suc m) z n = let k : suc m - 1 ≡ m = omega arith in scan-open bs x m (parameter-open x (b .bindings-in) low z) ∙ ap (λ l. done false l) (sym k)
 
-  pub parameter-looked : (steps : ℕ) (r : LookedThrough) (n : ¬ (at s x ≡ 0)) → LookedAs bs (parameter-bound x (b .bindings-in) low n .term) steps r → LookedAs bs (var x) steps r
-  unfolding LookedAs
+  pub parameter-looked : (steps : ℕ) (r : LookedThrough) (n : ¬ (at s x ≡ 0)) → LookedThroughAs bs (parameter-bound x (b .bindings-in) low n .term) steps r → LookedThroughAs bs (var x) steps r
+  unfolding LookedThroughAs
   parameter-looked steps r n h = let p = parameter-bound x (b .bindings-in) low n in scan-bound never bs (b .good) [] x (p .term) steps (p .is) ∙ h

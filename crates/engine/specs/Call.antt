@@ -8,8 +8,9 @@ use Rattle.rules.specs.Lists.{Each}
 use Rattle.semantics.specs.Substitution.{shift, Substitution}
 use Rattle.semantics.specs.Path.{bind-params}
 use Rattle.semantics.specs.Invariant.{TermIn, Sound}
+use Rattle.engine.specs.Layout.{most-variables, layout-words}
 use Rattle.engine.specs.Reference.{TermsAt, refer}
-use Rattle.engine.specs.Memory.{BindingsIn, layout-words}
+use Rattle.engine.specs.Memory.{BindingsIn}
 use Rattle.engine.specs.Trail.{Apart}
 use Rattle.rules.specs.Settings.{most-words}
 
@@ -25,11 +26,11 @@ pub record BindingParameters (ws s₀ s : List ℕ) (base to : ℕ) (whole : Sub
   pub terms : TermsAt ws 0 from to args
   pub inside : to ≤ length ws
   pub short : length ws ≤ most-words
-  pub low : base ≤ 2048
+  pub low : base ≤ most-variables
   pub is-n : n ≡ length now-bound
   pub sound : Sound now-bound kept x
   pub in-range : Each (λ t. TermIn x (shift base t)) args
-  pub fits : x + count ≤ 2048
+  pub fits : x + count ≤ most-variables
   pub long : layout-words ≤ length s
   pub bindings-in : BindingsIn ws s now-bound
   pub apart : Apart s₀ s

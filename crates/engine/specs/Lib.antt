@@ -1,3 +1,4 @@
+pub mod Layout
 pub mod Reference
 pub mod Memory
 pub mod Walk

@@ -4,6 +4,7 @@ use mathlib.Core.Path.{_≡_}
 use mathlib.Core.Bool.{true}
 use mathlib.Core.List.{List, [], _∷_, _++_}
 use lib.ListN.{length}
+use Rattle.rules.specs.Lists.{joined}
 use Rattle.rules.specs.Reading.{choose}
 use Rattle.rules.specs.Syntax.{Atom, Term, var, atom, pair, Sort}
 use Rattle.rules.specs.Written.{part, atom-word, sort-kind}
@@ -12,11 +13,6 @@ use Rattle.semantics.specs.Answer.{Line, line-words, stays}
 use Rattle.engine.specs.Walk.{Resolves}
 use Rattle.engine.specs.Names.{NamesGiven}
 use Rattle.engine.specs.Term.{Room, Touched, Laid}
-
--- words one after the other
-unfoldable pub joined : List (List ℕ) → List ℕ
-joined [] = []
-joined (w ∷ ws) = w ++ joined ws
 
 -- the words of the lines that stay, after one line more
 unfoldable pub add-line : List ℕ → List (List ℕ) → Line → List (List ℕ)

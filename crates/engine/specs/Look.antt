@@ -9,6 +9,7 @@ use Rattle.semantics.specs.Substitution.{Substitution}
 use Rattle.semantics.specs.Steps.{waiting, no-steps, at-bound, Outcome, done, stop}
 use Rattle.semantics.specs.Unify.{scan, never}
 use Rattle.semantics.specs.Answer.{look-through}
+use Rattle.engine.specs.Layout.{most-variables}
 use Rattle.engine.specs.Walk.{Binds}
 use Rattle.engine.specs.Trial.{EquationsKept}
 use Rattle.engine.specs.declared.writer.look.LookedThrough.{LookedThrough}
@@ -21,15 +22,15 @@ look-says a StepsOut = stop no-steps 0
 look-says a (WaitingOut left) = stop (at-bound waiting) left
 
 -- one term: nothing is found
-unfoldable pub LookedAs : Substitution → Term → ℕ → LookedThrough → Type 0
-LookedAs bs t steps r = scan never bs [] t steps ≡ look-says false r
+unfoldable pub LookedThroughAs : Substitution → Term → ℕ → LookedThrough → Type 0
+LookedThroughAs bs t steps r = scan never bs [] t steps ≡ look-says false r
 
 -- a trial's equations, all of them kept
 pub record Looks (ws s : List ℕ) (bs : Substitution) (cs : List (ℕ × Term)) (mark count : ℕ) : Type 0 where
   pub held : Binds ws s bs
   pub kept : EquationsKept ws s mark 0 cs
   pub count-is : count ≡ length cs
-  pub few : mark + count ≤ 2048
+  pub few : mark + count ≤ most-variables
 
 -- the right sides one after the other
 abbrev pub rights : List (ℕ × Term) → List Term

@@ -8,15 +8,12 @@ use lib.Seq.{sets}
 use Rattle.rules.specs.Syntax.{Term, Constraint, Relation, Program}
 use Rattle.semantics.specs.Substitution.{Substitution, lookup}
 use Rattle.semantics.specs.Path.{Task, Path, ChoicePoint}
+use Rattle.engine.specs.Layout.{most-variables, most-goals, most-disjunctions, most-constraints, layout-words, trail-area, names-area, cells-area, points-area, constraints-area, relations-area, most-relations}
 use Rattle.engine.specs.Reference.{at, Stands, TaskAt, RestAt, KeepsAt, RelationAt}
 
--- how many words of the scratch the layout may use: it ends at 12,032, and the words up to here are free
-abbrev pub layout-words : ℕ
-layout-words = 12288
-
--- Places. Bindings 0, trail 2048, names 4096, cells 6144, choice points 8192, constraints 10240, pairs 10752, relations 11776, end 12032.
+-- Places in the scratch.
 abbrev pub trail-at : ℕ → ℕ
-trail-at n = 2048 + n
+trail-at n = trail-area + n
 
 -- cells are numbered from 1 on, and 0 is no cell
 abbrev pub goal-at : ℕ → ℕ
@@ -26,13 +23,13 @@ abbrev pub next-at : ℕ → ℕ
 next-at h = 6143 + 2 * h
 
 abbrev pub point-at : ℕ → ℕ
-point-at n = 8192 + 8 * n
+point-at n = points-area + 8 * n
 
 abbrev pub kept-at : ℕ → ℕ
-kept-at n = 10240 + n
+kept-at n = constraints-area + n
 
 abbrev pub table-at : ℕ → ℕ
-table-at r = 11776 + r
+table-at r = relations-area + r
 
 -- What a choice point saves, and no more: the same six words, of the path that is under way, are the registers.
 pub record Registers : Type 0 where
@@ -46,7 +43,7 @@ pub record Registers : Type 0 where
 abbrev pub saved : List ℕ → ℕ → Registers
 saved s n = record { head = at s (point-at n + 2); trail = at s (point-at n + 3); variables = at s (point-at n + 4); goals = at s (point-at n + 5); constraints = at s (point-at n + 6); calls = at s (point-at n + 7) }
 
--- Bindings. The word of a variable says what it is bound to; every word below 2048 is right, of variables not made too.
+-- Bindings. The word of a variable says what it is bound to; every word below the trail's is right, of variables not made too.
 pub record BoundTo (ws : List ℕ) (w : ℕ) (t : Term) : Type 0 where
   pub some-word : 0 < w
   pub stands : Stands ws (w - 1) t
@@ -63,10 +60,10 @@ TrailIn s (b ∷ bs) = (at s (trail-at (length bs)) ≡ b .0) × TrailIn s bs
 -- each variable was open when it was bound
 abbrev pub Fresh : Substitution → Type 0
 Fresh [] = Unit {0}
-Fresh (b ∷ bs) = (b .0 < 2048) × (lookup bs (b .0) ≡ none) × Fresh bs
+Fresh (b ∷ bs) = (b .0 < most-variables) × (lookup bs (b .0) ≡ none) × Fresh bs
 
 pub record BindingsIn (ws s : List ℕ) (bs : Substitution) : Type 0 where
-  pub words : (x : ℕ) → x < 2048 → Entry ws (at s x) (lookup bs x)
+  pub words : (x : ℕ) → x < most-variables → Entry ws (at s x) (lookup bs x)
   pub trail : TrailIn s bs
   pub fresh : Fresh bs
 
@@ -76,9 +73,9 @@ pub record CellIn (ws s : List ℕ) (put h : ℕ) (task : Task) : Type 0 where
   pub low : h ≤ put
   pub task-is : TaskAt ws (at s (goal-at h)) task
 
-abbrev pub TasksIn : List ℕ → List ℕ → ℕ → ℕ → List Task → Type 0
-TasksIn ws s put h [] = h ≡ 0
-TasksIn ws s put h (t ∷ ts) = CellIn ws s put h t × TasksIn ws s put (at s (next-at h)) ts
+abbrev pub StackIn : List ℕ → List ℕ → ℕ → ℕ → List Task → Type 0
+StackIn ws s put h [] = h ≡ 0
+StackIn ws s put h (t ∷ ts) = CellIn ws s put h t × StackIn ws s put (at s (next-at h)) ts
 
 -- Constraints, from the n-th on.
 abbrev pub KeptIn : List ℕ → List ℕ → ℕ → List Constraint → Type 0
@@ -87,7 +84,7 @@ KeptIn ws s n (c ∷ cs) = KeepsAt ws (at s (kept-at n)) c × KeptIn ws s (suc n
 
 -- What the registers say of a path, also those that a choice point saved.
 pub record PathIn (ws s : List ℕ) (r : Registers) (p : Path) : Type 0 where
-  pub tasks : TasksIn ws s (r .goals) (r .head) (p .stack)
+  pub tasks : StackIn ws s (r .goals) (r .head) (p .stack)
   pub trail : r .trail ≡ length (p .bindings)
   pub made : r .variables ≡ p .made
   pub put : r .goals ≡ p .put
@@ -106,7 +103,7 @@ pub record Grown (q p : Path) : Type 0 where
 -- Choice point n of a path p. Substitution and constraints are not read again: the path that was left has some of those that are there now.
 pub record ChoiceIn (ws s : List ℕ) (n : ℕ) (p : Path) (c : ChoicePoint) : Type 0 where
   pub grown : Grown (c .path) p
-  pub room : c .path .put < 1024
+  pub room : c .path .put < most-goals
   pub path-in : PathIn ws s (saved s n) (c .path)
   pub rest-at : RestAt ws (at s (point-at n)) (at s (point-at n + 1)) (c .base) (c .rest)
 
@@ -116,20 +113,20 @@ ChoicesIn ws s p (c ∷ cs) = ChoiceIn ws s (length cs) p c × ChoicesIn ws s (c
 
 -- where each relation begins
 abbrev pub TableIn : List ℕ → List ℕ → Program → Type 0
-TableIn ws s P = (k : ℕ) (R : Relation) → getElem? P k ≡ some R → (k < 256) × RelationAt ws (at s (table-at k)) R
+TableIn ws s P = (k : ℕ) (R : Relation) → getElem? P k ≡ some R → (k < most-relations) × RelationAt ws (at s (table-at k)) R
 
 -- between answers no variable has a number of the writer's
 abbrev pub Nameless : List ℕ → Type 0
-Nameless s = (i : ℕ) → 4096 ≤ i → i < 6144 → at s i ≡ 0
+Nameless s = (i : ℕ) → names-area ≤ i → i < cells-area → at s i ≡ 0
 
 -- the areas do not run over
 pub record Roomy (s : List ℕ) (r : Registers) (n : ℕ) : Type 0 where
   pub long : layout-words ≤ length s
-  pub trail : r .trail ≤ 2048
-  pub made : r .variables ≤ 2048
-  pub put : r .goals ≤ 1024
-  pub choices : n ≤ 256
-  pub kept : r .constraints ≤ 512
+  pub trail : r .trail ≤ most-variables
+  pub made : r .variables ≤ most-variables
+  pub put : r .goals ≤ most-goals
+  pub choices : n ≤ most-disjunctions
+  pub kept : r .constraints ≤ most-constraints
 
 -- The relation: words, scratch, registers and number of choice points hold the program, the path and the choices.
 pub record Stored (P : Program) (ws s : List ℕ) (r : Registers) (n : ℕ) (p : Path) (cs : List ChoicePoint) : Type 0 where

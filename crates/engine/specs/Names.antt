@@ -7,8 +7,8 @@ use lib.Dec.{eqb}
 use lib.ListN.{length}
 use Rattle.rules.specs.Reading.{choose}
 use Rattle.semantics.specs.Answer.{member}
+use Rattle.engine.specs.Layout.{most-variables, layout-words, names-area, cells-area}
 use Rattle.engine.specs.Reference.{at}
-use Rattle.engine.specs.Memory.{layout-words}
 
 -- `top` after one name more
 abbrev pub next-top : ℕ → ℕ → ℕ
@@ -24,15 +24,15 @@ unfoldable pub word-from : ℕ → List ℕ → ℕ → ℕ
 word-from top [] y = 0
 word-from top (x ∷ xs) y = choose (eqb y x) (λ _. top + 1) (λ _. word-from (next-top top x) xs y)
 
--- variables below 2048, none twice
+-- variables of a path, none twice
 unfoldable pub Distinct : List ℕ → Type 0
 Distinct [] = Unit {0}
-Distinct (x ∷ xs) = (x < 2048) × (member x xs ≡ false) × Distinct xs
+Distinct (x ∷ xs) = (x < most-variables) × (member x xs ≡ false) × Distinct xs
 
 -- these are the names given, in order
 pub record Names (s : List ℕ) (top : ℕ) (names : List ℕ) : Type 0 where
   pub top-is : top ≡ top-from 0 names
-  pub words : (y : ℕ) → y < 2048 → at s (4096 + y) ≡ word-from 0 names y
+  pub words : (y : ℕ) → y < most-variables → at s (names-area + y) ≡ word-from 0 names y
   pub distinct : Distinct names
 
 -- names are given, in a scratch that is long enough
@@ -44,6 +44,6 @@ pub record NamesGiven (s : List ℕ) (names : List ℕ) : Type 0 where
 -- these are the names now, and nothing but names was written
 pub record Named (s s′ : List ℕ) (top : ℕ) (names : List ℕ) : Type 0 where
   pub given : Names s′ top names
-  pub below : (i : ℕ) → i < 4096 → at s′ i ≡ at s i
-  pub above : (i : ℕ) → 6144 ≤ i → at s′ i ≡ at s i
+  pub below : (i : ℕ) → i < names-area → at s′ i ≡ at s i
+  pub above : (i : ℕ) → cells-area ≤ i → at s′ i ≡ at s i
   pub long : length s′ ≡ length s

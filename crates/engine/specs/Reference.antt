@@ -9,7 +9,9 @@ use Rattle.rules.specs.Reading.{kind-at, payload-at, after}
 use Rattle.rules.specs.Written.{sort-kind}
 use Rattle.rules.specs.Syntax.{Atom, symbol, number, empty, Term, var, atom, pair, Constraint, differ, typed, absento, Goal, Goals, equal, constrain, conj, disj, call, one, more, Relation}
 use Rattle.semantics.specs.Path.{Task}
+use Rattle.semantics.specs.Invariant.{Vars}
 use Rattle.rules.specs.Settings.{most-words}
+use Rattle.engine.specs.Layout.{most-variables, positions, references}
 
 -- the word at a place of a list
 abbrev pub at : List ℕ → ℕ → ℕ
@@ -62,11 +64,7 @@ pub record RelationAt (ws : List ℕ) (pos : ℕ) (R : Relation) : Type 0 where
   pub inside : after ws (pos + 3) ≤ length ws
   pub small : after ws (pos + 3) ≤ most-words
 
--- how many positions a reference can have: those of the longest program
-abbrev pub positions : ℕ
-positions = 16384
-
--- A reference: a position below 16384 and a base up to 2048. The base 2048 is met: a relation with no variables, called when 2048 are made.
+-- a reference: a position, and so many times as there are positions, a base
 abbrev pub refer : ℕ → ℕ → ℕ
 refer pos base = pos + positions * base
 
@@ -80,20 +78,14 @@ base-of w = w / positions
 abbrev pub beyond : List ℕ → ℕ → ℕ
 beyond ws w = w + 1 + payload-at ws (pos-of w)
 
--- every variable of a term has the property
-abbrev pub Vars : (ℕ → Type 0) → Term → Type 0
-Vars Q (var x) = Q x
-Vars Q (atom a) = Unit {0}
-Vars Q (pair s t) = Vars Q s × Vars Q t
-
 -- a reference stands for a term as it is on the path
 pub record Stands (ws : List ℕ) (w : ℕ) (t : Term) : Type 0 where
   pub to : ℕ
   pub reads : TermAt ws (base-of w) (pos-of w) to t
   pub inside : to ≤ length ws
   pub small : to ≤ most-words
-  pub below : w < 33570816
-  pub in-range : Vars (λ x. x < 2048) t
+  pub below : w < references
+  pub in-range : Vars (λ x. x < most-variables) t
 
 -- a reference stands for a goal with its base
 pub record TaskAt (ws : List ℕ) (w : ℕ) (task : Task) : Type 0 where
@@ -101,7 +93,7 @@ pub record TaskAt (ws : List ℕ) (w : ℕ) (task : Task) : Type 0 where
   pub goal : GoalAt ws (pos-of w) (task .1)
   pub inside : after ws (pos-of w) ≤ length ws
   pub small : after ws (pos-of w) ≤ most-words
-  pub below : w < 33570816
+  pub below : w < references
 
 -- a reference to the first of several goals, which end at `to`
 pub record RestAt (ws : List ℕ) (w to base : ℕ) (gs : Goals) : Type 0 where
@@ -109,7 +101,7 @@ pub record RestAt (ws : List ℕ) (w to base : ℕ) (gs : Goals) : Type 0 where
   pub goals : GoalsAt ws (pos-of w) to gs
   pub inside : to ≤ length ws
   pub small : to ≤ most-words
-  pub below : w < 33570816
+  pub below : w < references
 
 abbrev pub VarsC : (ℕ → Type 0) → Constraint → Type 0
 VarsC Q (differ s t) = Vars Q s × Vars Q t
@@ -121,5 +113,5 @@ pub record KeepsAt (ws : List ℕ) (w : ℕ) (c : Constraint) : Type 0 where
   pub reads : ConstraintAt ws (base-of w) (pos-of w) c
   pub inside : after ws (pos-of w) ≤ length ws
   pub small : after ws (pos-of w) ≤ most-words
-  pub below : w < 33570816
-  pub in-range : VarsC (λ x. x < 2048) c
+  pub below : w < references
+  pub in-range : VarsC (λ x. x < most-variables) c

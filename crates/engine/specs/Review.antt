@@ -7,6 +7,7 @@ use lib.ListN.{length}
 use Rattle.rules.specs.Syntax.{Term, Sort, symbols, numbers, Constraint}
 use Rattle.semantics.specs.Substitution.{Substitution}
 use Rattle.semantics.specs.Steps.{waiting, no-steps, at-bound, Outcome, done, stop}
+use Rattle.engine.specs.Layout.{most-constraints}
 use Rattle.engine.specs.Reference.{Stands, KeepsAt}
 use Rattle.engine.specs.Memory.{BindingsIn, KeptIn}
 use Rattle.engine.specs.Walk.{Binds}
@@ -29,7 +30,7 @@ pub record ConstraintsHeld (ws s : List ℕ) (bs : Substitution) (cs : List Cons
   pub held : Binds ws s bs
   pub kept-in : KeptIn ws s 0 cs
   pub kept-is : kept ≡ length cs
-  pub few : kept ≤ 512
+  pub few : kept ≤ most-constraints
   pub trail-is : trail ≡ length bs
 
 -- a constraint by its reference, with a path's bindings ..

@@ -9,8 +9,9 @@ use Rattle.rules.specs.Accept.{read, accepted}
 use Rattle.semantics.specs.Path.{Path, ChoicePoint}
 use Rattle.semantics.specs.Round as definition
 use Rattle.semantics.specs.Run.{usable, page}
+use Rattle.engine.specs.Layout.{most-variables, layout-words}
 use Rattle.engine.specs.Reference.{at, TaskAt}
-use Rattle.engine.specs.Memory.{TableIn, Nameless, layout-words}
+use Rattle.engine.specs.Memory.{TableIn, Nameless}
 use Rattle.engine.specs.Report.{ran, end-says}
 use Rattle.engine.specs.Take.{PathHeld}
 use Rattle.engine.specs.Answer.{Answering}
@@ -27,7 +28,7 @@ use Rattle.engine.specs.declared.round.Rounded.the-variants.{Completed, 
 pub record Clean (ws s : List ℕ) (P : Program) : Type 0 where
   pub long : layout-words ≤ length s
   pub table : TableIn ws s P
-  pub open-all : (x : ℕ) → x < 2048 → at s x ≡ 0
+  pub open-all : (x : ℕ) → x < most-variables → at s x ≡ 0
   pub nameless : Nameless s
 
 -- an accepted program with its query relation, its scratch clean, and a round limit in its bounds

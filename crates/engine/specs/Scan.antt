@@ -9,6 +9,7 @@ use Rattle.rules.specs.Syntax.{Atom, Term, var, atom, pair}
 use Rattle.semantics.specs.Substitution.{Substitution}
 use Rattle.semantics.specs.Steps.{waiting, no-steps, at-bound, Outcome, done, stop}
 use Rattle.semantics.specs.Unify.{scan, scan-next}
+use Rattle.engine.specs.Layout.{most-variables}
 use Rattle.engine.specs.Reference.{AtomIs, base-of}
 use Rattle.engine.specs.declared.terms.scan.Scanned.{Scanned}
 use Rattle.engine.specs.declared.terms.scan.Scanned.the-variants.{Found, Clear, StepsOut, WaitingOut}
@@ -20,7 +21,7 @@ pub record LeafWord (w bits k p r : ℕ) : Type 0 where
 
 -- The word sought and the definition's test agree: an open variable has its number for a word, an atom its own word; no pair is sought.
 pub record TestAs (sought : ℕ) (test : Term → Bool) : Type 0 where
-  pub on-var : (x : ℕ) → x < 2048 → test (var x) ≡ eqb x sought
+  pub on-var : (x : ℕ) → x < most-variables → test (var x) ≡ eqb x sought
   pub on-atom : (a : Atom) (w : ℕ) → AtomIs w a → test (atom a) ≡ eqb w sought
   pub on-pair : (s t : Term) → test (pair s t) ≡ false
 

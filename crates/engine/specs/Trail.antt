@@ -4,8 +4,9 @@ use mathlib.Core.Path.{_≡_}
 use mathlib.Core.List.{List, _++_}
 use lib.ListN.{length}
 use Rattle.semantics.specs.Substitution.{Substitution}
+use Rattle.engine.specs.Layout.{layout-words, trail-area, names-area, pairs-area, relations-area}
 use Rattle.engine.specs.Reference.{at}
-use Rattle.engine.specs.Memory.{BindingsIn, layout-words}
+use Rattle.engine.specs.Memory.{BindingsIn}
 
 -- two scratches are the same from lo up to hi
 abbrev pub Same : List ℕ → List ℕ → ℕ → ℕ → Type 0
@@ -22,10 +23,10 @@ pub record Trailed (ws s : List ℕ) (new bs : Substitution) (mark trail : ℕ) 
 pub record Undone (ws s s′ : List ℕ) (bs : Substitution) : Type 0 where
   pub bindings-in : BindingsIn ws s′ bs
   pub long : length s′ ≡ length s
-  pub above : (i : ℕ) → 2048 ≤ i → at s′ i ≡ at s i
+  pub above : (i : ℕ) → trail-area ≤ i → at s′ i ≡ at s i
 
 -- nothing but bindings, trail and waiting pairs is touched
 pub record Apart (s s′ : List ℕ) : Type 0 where
   pub long : length s′ ≡ length s
-  pub middle : Same s s′ 4096 10752
-  pub above : (i : ℕ) → 11776 ≤ i → at s′ i ≡ at s i
+  pub middle : Same s s′ names-area pairs-area
+  pub above : (i : ℕ) → relations-area ≤ i → at s′ i ≡ at s i

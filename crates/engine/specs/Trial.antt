@@ -5,6 +5,7 @@ use mathlib.Core.List.{List, [], _∷_, reverse}
 use lib.ListN.{length}
 use Rattle.rules.specs.Syntax.{Term}
 use Rattle.semantics.specs.Substitution.{Substitution}
+use Rattle.engine.specs.Layout.{most-variables, trail-area, pairs-area, relations-area}
 use Rattle.engine.specs.Reference.{at, Stands}
 use Rattle.engine.specs.Memory.{BindingsIn}
 use Rattle.engine.specs.Trail.{Apart}
@@ -14,15 +15,15 @@ use Rattle.engine.specs.Line.{half}
 pub record HalfSet (s s′ : List ℕ) (i x : ℕ) : Type 0 where
   pub here : half s′ i ≡ x
   pub other : (j : ℕ) → ¬ (j ≡ i) → half s′ j ≡ half s j
-  pub below : (k : ℕ) → k < 10752 → at s′ k ≡ at s k
-  pub above : (k : ℕ) → 11776 ≤ k → at s′ k ≡ at s k
+  pub below : (k : ℕ) → k < pairs-area → at s′ k ≡ at s k
+  pub above : (k : ℕ) → relations-area ≤ k → at s′ k ≡ at s k
   pub long : length s′ ≡ length s
 
 -- equation i is kept, its right side as it stood
 pub record Keeps (ws s : List ℕ) (mark i : ℕ) (b : ℕ × Term) : Type 0 where
   pub variable : half s i ≡ b .0
-  pub low : b .0 < 2048
-  pub right : Stands ws (at s (2048 + mark + i)) (b .1)
+  pub low : b .0 < most-variables
+  pub right : Stands ws (at s (trail-area + mark + i)) (b .1)
 
 -- from equation i on
 unfoldable pub EquationsKept : List ℕ → List ℕ → ℕ → ℕ → List (ℕ × Term) → Type 0

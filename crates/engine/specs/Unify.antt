@@ -10,22 +10,23 @@ use Rattle.rules.specs.Syntax.{Term}
 use Rattle.semantics.specs.Substitution.{Substitution}
 use Rattle.semantics.specs.Steps.{waiting, no-steps, at-bound, Outcome, done, stop}
 use Rattle.semantics.specs.Unify.{Looked, fails, agrees, binds, parts, Pairs, unify-next, unify}
+use Rattle.engine.specs.Layout.{most-variables, most-pairs, names-area}
 use Rattle.engine.specs.Reference.{at, Stands}
 use Rattle.engine.specs.Walk.{Binds}
 use Rattle.engine.specs.Trail.{Apart}
-use Rattle.engine.specs.declared.terms.unify.Compared.{Compared}
-use Rattle.engine.specs.declared.terms.unify.Compared.the-variants as compared
+use Rattle.engine.specs.declared.terms.unify.Looked as code
+use Rattle.engine.specs.declared.terms.unify.Looked.the-variants as looked
 use Rattle.engine.specs.declared.terms.unify.PairUnified.{PairUnified}
 use Rattle.engine.specs.declared.terms.unify.PairUnified.the-variants as pair
 use Rattle.engine.specs.declared.terms.unify.Unified.{Unified}
 use Rattle.engine.specs.declared.terms.unify.Unified.the-variants as unified
 
--- `compare`: what looking at two followed terms comes to
+-- `look`: what looking at two followed terms comes to
 
 pub record BindsTo (ws : List ℕ) (o : Looked) (x w : ℕ) : Type 0 where
   pub term : Term
   pub is : o ≡ binds x term
-  pub low : x < 2048
+  pub low : x < most-variables
   pub stands : Stands ws w term
 
 pub record PartsTo (ws : List ℕ) (o : Looked) (a b c d : ℕ) : Type 0 where
@@ -39,11 +40,11 @@ pub record PartsTo (ws : List ℕ) (o : Looked) (a b c d : ℕ) : Type 0 where
   pub stands-third : Stands ws c third
   pub stands-fourth : Stands ws d fourth
 
-unfoldable pub ComparedAs : List ℕ → Looked → Compared → Type 0
-ComparedAs ws o compared.Fails = o ≡ fails
-ComparedAs ws o compared.Agrees = o ≡ agrees
-ComparedAs ws o (compared.Binds x w) = BindsTo ws o x w
-ComparedAs ws o (compared.Parts a b c d) = PartsTo ws o a b c d
+unfoldable pub LookedAs : List ℕ → Looked → code.Looked → Type 0
+LookedAs ws o looked.Fails = o ≡ fails
+LookedAs ws o looked.Agrees = o ≡ agrees
+LookedAs ws o (looked.Binds x w) = BindsTo ws o x w
+LookedAs ws o (looked.Parts a b c d) = PartsTo ws o a b c d
 
 -- `unify_pair`: one pair looked at, with its occurs check and binding
 
@@ -61,7 +62,7 @@ pub record PairGoes (ws s s′ : List ℕ) (bs : Substitution) (u v : Term) (ste
   pub held : Binds ws s′ next
   pub trail-is : n ≡ length next
   pub long : length s′ ≡ length s
-  pub above : (i : ℕ) → 4096 ≤ i → at s′ i ≡ at s i
+  pub above : (i : ℕ) → names-area ≤ i → at s′ i ≡ at s i
   pub fewer : left < steps
   pub same : (fuel : ℕ) (vs : Pairs) → unify (suc fuel) bs vs u v steps ≡ unify-next vs next left (λ bs′ us x y l. unify fuel bs′ us x y l)
 
@@ -75,7 +76,7 @@ pub record PairParts (ws s s′ : List ℕ) (bs : Substitution) (u v : Term) (st
   pub stands-second : Stands ws b second
   pub stands-third : Stands ws c third
   pub stands-fourth : Stands ws d fourth
-  pub same : (fuel : ℕ) (vs : Pairs) → unify (suc fuel) bs vs u v steps ≡ choose (ltb (length vs) 512) (λ _. unify fuel bs ((second, fourth) ∷ vs) first third (steps - 1)) (λ _. stop (at-bound waiting) steps)
+  pub same : (fuel : ℕ) (vs : Pairs) → unify (suc fuel) bs vs u v steps ≡ choose (ltb (length vs) most-pairs) (λ _. unify fuel bs ((second, fourth) ∷ vs) first third (steps - 1)) (λ _. stop (at-bound waiting) steps)
 
 pub record PairEnds (s s′ : List ℕ) (bs : Substitution) (u v : Term) (steps : ℕ) (o : Outcome (Option Substitution)) : Type 0 where
   pub untouched : s′ ≡ s

@@ -1,4 +1,4 @@
--- What `node_at`, `walk` and `follow` promise.
+-- What `part_at`, `walk` and `follow` promise.
 use Prim.Native.Nat.{ℕ, _≤_, _<_}
 use mathlib.Core.Path.{_≡_}
 use mathlib.Core.List.{List}
@@ -7,23 +7,24 @@ use Rattle.rules.specs.Reading.{kind-at, payload-at}
 use Rattle.rules.specs.Syntax.{Term, Atom, var, atom, pair}
 use Rattle.semantics.specs.Substitution.{Substitution, walk, resolve}
 use Rattle.semantics.specs.Invariant.{Good}
+use Rattle.engine.specs.Layout.{most-variables, layout-words}
 use Rattle.engine.specs.Reference.{at, pos-of, Stands}
-use Rattle.engine.specs.Memory.{BindingsIn, layout-words}
+use Rattle.engine.specs.Memory.{BindingsIn}
 use Rattle.engine.specs.declared.terms.walk.Walked.{Walked}
 use Rattle.rules.specs.Written.{atom-word}
 use Rattle.rules.specs.Settings.{most-words}
 use Rattle.engine.specs.declared.terms.walk.Shape.{Shape}
 use Rattle.engine.specs.declared.terms.walk.Shape.the-variants.{Open, Atom as Leaf, Pair}
 
--- the word at a reference, with its kind and payload
-pub record NodeAt (ws : List ℕ) (w bits k p : ℕ) : Type 0 where
+-- the part at a reference: its first word, with kind and payload
+pub record PartAt (ws : List ℕ) (w bits k p : ℕ) : Type 0 where
   pub is-bits : bits ≡ at ws (pos-of w)
   pub is-kind : k ≡ kind-at ws (pos-of w)
   pub is-payload : p ≡ payload-at ws (pos-of w)
 
 -- a followed term has the word at its reference
 abbrev pub IsNode : List ℕ → Walked → Type 0
-IsNode ws n = NodeAt ws (n .at) (n .bits) (n .kind) (n .payload)
+IsNode ws n = PartAt ws (n .at) (n .bits) (n .kind) (n .payload)
 
 -- the scratch holds a path's bindings, and they are acyclic
 pub record Binds (ws s : List ℕ) (bs : Substitution) : Type 0 where
@@ -51,6 +52,6 @@ pub record Resolves (ws s : List ℕ) (w : ℕ) (r : Term) : Type 0 where
 
 -- what each case says
 unfoldable pub Shaped : List ℕ → List ℕ → Shape → Term → Type 0
-Shaped ws s (Open x) r = (r ≡ var x) × (x < 2048)
+Shaped ws s (Open x) r = (r ≡ var x) × (x < most-variables)
 Shaped ws s (Leaf v) r = (a : Atom) × (r ≡ atom a) × (v ≡ atom-word a)
 Shaped ws s (Pair f g) r = (a : Term) × (b : Term) × (r ≡ pair a b) × Resolves ws s f a × Resolves ws s g b

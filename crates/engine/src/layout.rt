@@ -36,6 +36,9 @@ pub(crate) const PAIRS: usize = 10752;
 // Where each relation begins.
 pub(crate) const RELATIONS: usize = 11776;
 
+// The words of the output that are used at most.
+pub(crate) const MOST_OUTPUT: usize = 268435455;
+
 // Bounds of one path, in the order of document 01.
 pub(crate) const MOST_VARIABLES: u32 = 2048;
 

@@ -2,6 +2,8 @@
 // Prints what the listing program prints of each.
 use libc::STDIN_FILENO;
 use libc::STDOUT_FILENO;
+use word::Word;
+use word::at_most;
 ghost use Prim.Native.Nat.{_≤_};
 ghost use lib.ListN.{length};
 
@@ -15,12 +17,13 @@ fn read_part(bytes: &mut [u8], size: usize)
 fn setting(settings: &[u8; 16], at: usize) -> u32
     requires { ⌜ at ≤ 12 ⌝ }
 {
-    list_text::word(
+    let word = Word::from_bytes(
         settings[at],
         settings[at + 1],
         settings[at + 2],
         settings[at + 3],
-    )
+    );
+    word.bits
 }
 
 // The run with these settings, whose bytes come next.
@@ -28,7 +31,7 @@ fn list_with(settings: &[u8; 16], bytes: &mut [u8]) {
     let rounds = setting(settings, 0);
     let steps = setting(settings, 4);
     let room = setting(settings, 8) as usize;
-    let size = list_text::at_most(setting(settings, 12) as usize, bytes.len());
+    let size = at_most(setting(settings, 12) as usize, bytes.len());
     read_part(bytes, size);
     let mut out = [0u8; 65536];
     let count = list_text::text(&bytes[..size], rounds, steps, room, &mut out);

@@ -9,7 +9,8 @@ use Rattle.semantics.specs.Run as run
 use Rattle.engine.specs.Report.{RunPromise, end-says}
 use Rattle.engine.specs.declared.report.Report.{Report}
 use Rattle.semantics.specs.Path.{as-written}
-use Rattle.list_text.specs.Listing.{Listed, first-line, joined, line, printed-text, report-answers, report-text, words-of}
+use Rattle.rules.specs.Lists.{joined}
+use Rattle.list_text.specs.Listing.{TextAs, first-line, line, printed-text, report-answers, report-text, words-of}
 use Rattle.list_text.specs.Writing.{Wrote}
 use Rattle.rules.specs.Settings.{scratch-words}
 use Rattle.list_text.proofs.TextLaws.{behind, sets-start}
@@ -43,7 +44,7 @@ list-text {out = out} {after = after} {next = next} z kept w v = subst (λ (t : 
 -- the list of the words that were read, on an output of zeros, is that of the file
 pub file-text : (bytes : List ℕ) {program output out after : List ℕ} {count : ℕ} (rounds steps n : ℕ) (scratch : List ℕ) → program ≡ take 16385 (words-of bytes) → output ≡ replicate n 0 →
     Wrote (report-text (run.run-as-written program rounds steps output scratch .report)) 0 out count after → count ≤ 65536 →
-    Listed (report-text (run.run-as-written (words-of bytes) rounds steps (replicate n 0) scratch .report)) out count after
+    TextAs (report-text (run.run-as-written (words-of bytes) rounds steps (replicate n 0) scratch .report)) out count after
 file-text bytes {program} {output} {out} {after} {count} rounds steps n scratch p o w h =
     let words = words-of bytes in
     let same : report-text (run.run-as-written program rounds steps output scratch .report) ≡ report-text (run.run-as-written words rounds steps (replicate n 0) scratch .report) =
@@ -52,7 +53,7 @@ file-text bytes {program} {output} {out} {after} {count} rounds steps n scratch 
     ∙ ap (λ (o : List ℕ). report-text (run.run-as-written words rounds steps o scratch .report)) o in
     laid (subst (λ (t : List ℕ). Wrote t 0 out count after) same w) h
   where
-    laid : {text out after : List ℕ} {count : ℕ} → Wrote text 0 out count after → count ≤ 65536 → Listed text out count after
+    laid : {text out after : List ℕ} {count : ℕ} → Wrote text 0 out count after → count ≤ 65536 → TextAs text out count after
     laid {text} {out} w h = record { is-long = omega (arith, w .is-next); is-there = w .is-after ∙ sets-start text out; is-short = h }
 
 -- The listing program reads no more bytes than 65,540: it prints what it would print of the whole file.

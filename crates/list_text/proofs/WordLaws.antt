@@ -15,14 +15,15 @@ use Rattle.rules.specs.Reading.{choose}
 use Rattle.rules.specs.Settings.{settings-good, most-words}
 use Rattle.semantics.specs.Run as run
 use Rattle.semantics.specs.Path.{as-written}
-use Rattle.list_text.specs.Listing.{whole-words, word-of, words-of}
+use Rattle.word.specs.Word.{from-bytes}
+use Rattle.list_text.specs.Listing.{whole-words, words-of}
 use Rattle.list_text.specs.Writing.{words-read}
 use Rattle.list_text.proofs.PartLaws.{take-within}
 
 four : (i : ℕ) → 4 * suc i ≡ suc (suc (suc (suc (4 * i))))
 four i = omega arith
 
-pub word-is : (i : ℕ) (bytes : List ℕ) → 4 * i + 3 < length bytes → getD (whole-words bytes) i 0 ≡ word-of (getD bytes (4 * i) 0) (getD bytes (4 * i + 1) 0) (getD bytes (4 * i + 2) 0) (getD bytes (4 * i + 3) 0)
+pub word-is : (i : ℕ) (bytes : List ℕ) → 4 * i + 3 < length bytes → getD (whole-words bytes) i 0 ≡ from-bytes (getD bytes (4 * i) 0) (getD bytes (4 * i + 1) 0) (getD bytes (4 * i + 2) 0) (getD bytes (4 * i + 3) 0)
 unfolding whole-words
 word-is i [] h = absurd (omega arith)
 word-is i (a ∷ []) h = absurd (omega arith)
@@ -40,7 +41,7 @@ words-long (a ∷ b ∷ c ∷ []) = refl
 words-long (a ∷ b ∷ c ∷ d ∷ later) = omega (arith, words-long later)
 
 -- one more word is read
-pub word-more : (words bytes : List ℕ) (i w : ℕ) → take i words ≡ take i (whole-words bytes) → i < length words → 4 * i + 3 < length bytes → w ≡ word-of (getD bytes (4 * i) 0) (getD bytes (4 * i + 1) 0) (getD bytes (4 * i + 2) 0) (getD bytes (4 * i + 3) 0) → take (i + 1) (set words i w) ≡ take (i + 1) (whole-words bytes)
+pub word-more : (words bytes : List ℕ) (i w : ℕ) → take i words ≡ take i (whole-words bytes) → i < length words → 4 * i + 3 < length bytes → w ≡ from-bytes (getD bytes (4 * i) 0) (getD bytes (4 * i + 1) 0) (getD bytes (4 * i + 2) 0) (getD bytes (4 * i + 3) 0) → take (i + 1) (set words i w) ≡ take (i + 1) (whole-words bytes)
 word-more words bytes i w e l h q =
     rw (add-one i, take-suc-set words i w l, take-suc (whole-words bytes) i 0 (omega (arith, words-long bytes)), e, word-is i bytes h, q)
 

@@ -6,7 +6,8 @@ use mathlib.Core.Path.{_≡_}
 use mathlib.Core.List.{List, [], _∷_, _++_, map}
 use lib.Dec.{eqb, ltb}
 use lib.ListN.{length, take, drop, replicate}
-use Rattle.word.specs.Word.{kind, payload}
+use Rattle.word.specs.Word.{from-bytes, kind, payload}
+use Rattle.rules.specs.Lists.{joined}
 use Rattle.rules.specs.Reading.{choose}
 use Rattle.semantics.specs.Round as round
 use Rattle.semantics.specs.Run as run
@@ -18,11 +19,6 @@ use Rattle.rules.specs.Settings.{scratch-words}
 abbrev pub codes : String → List ℕ
 codes ε = []
 codes (c and cs) = code c ∷ codes cs
-
--- texts one behind the other
-abbrev pub joined : List (List ℕ) → List ℕ
-joined [] = []
-joined (t ∷ ts) = t ++ joined ts
 
 -- the code of a digit
 abbrev pub digit : ℕ → ℕ
@@ -36,17 +32,13 @@ decimal-by (suc more) n = choose (ltb n 10) (λ _. digit n ∷ []) (λ _. decima
 abbrev pub decimal : ℕ → List ℕ
 decimal n = decimal-by n n
 
--- "words from standard input, four bytes each, low byte first"
-abbrev pub word-of : ℕ → ℕ → ℕ → ℕ → ℕ
-word-of low second third high = low + 256 * second + 65536 * third + 16777216 * high
-
--- bytes left over, fewer than four, make no word
+-- "words from standard input, four bytes each"; bytes left over, fewer than four, make no word
 unfoldable pub whole-words : List ℕ → List ℕ
 whole-words [] = []
 whole-words (a ∷ []) = []
 whole-words (a ∷ b ∷ []) = []
 whole-words (a ∷ b ∷ c ∷ []) = []
-whole-words (a ∷ b ∷ c ∷ d ∷ later) = word-of a b c d ∷ whole-words later
+whole-words (a ∷ b ∷ c ∷ d ∷ later) = from-bytes a b c d ∷ whole-words later
 
 -- "a byte count not a multiple of four" is refused as no words are
 abbrev pub words-of : List ℕ → List ℕ
@@ -101,7 +93,7 @@ abbrev pub printed-text : List ℕ → List ℕ
 printed-text bytes = listing-text bytes 16 1000000 4096
 
 -- The promise of `text` and `printed_text`: how long the text is, and the text at the start of the lent bytes, as far as they reach, with what is behind it as lent.
-pub record Listed (text out : List ℕ) (count : ℕ) (after : List ℕ) : Type 0 where
+pub record TextAs (text out : List ℕ) (count : ℕ) (after : List ℕ) : Type 0 where
   pub is-long : count ≡ length text
   pub is-there : after ≡ take (length out) text ++ drop (length text) out
   pub is-short : count ≤ 65536

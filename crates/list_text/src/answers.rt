@@ -1,13 +1,14 @@
 // The answers on a page, each as a line.
-use crate::at_most;
 use crate::put::put_byte;
 use crate::put::put_number;
 use word::Word;
+use word::at_most;
 ghost use mathlib.Core.List.{map};
 ghost use Prim.Native.Nat.{_+_, _*_, _<_, _≤_};
 ghost use lib.ListN.{length};
+ghost use Rattle.rules.specs.Lists.{joined};
 ghost use Rattle.semantics.specs.Run.{answers-on};
-ghost use Rattle.list_text.specs.Listing.{joined, line, word-text};
+ghost use Rattle.list_text.specs.Listing.{line, word-text};
 ghost use Rattle.list_text.specs.Writing.{Wrote};
 
 // A word takes at most 12 bytes: two for its kind, nine for its payload.

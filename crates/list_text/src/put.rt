@@ -15,7 +15,7 @@ pub(crate) fn put_byte(byte: u8, at: usize, out: &mut [u8]) -> usize
     at + 1
 }
 
-pub(crate) fn put(text: &[u8], at: usize, out: &mut [u8]) -> usize
+pub(crate) fn put_text(text: &[u8], at: usize, out: &mut [u8]) -> usize
     requires { ⌜ at + length (now text) ≤ 65536 ⌝ }
     ensures { λ r. ⌜ Wrote (now (text .entry)) at (now (out .entry)) r (now (out .exit)) ⌝ }
 {

@@ -1,5 +1,5 @@
 // The first line of a list.
-use crate::put::put;
+use crate::put::put_text;
 use crate::put::put_number;
 use engine::End;
 use engine::Report;
@@ -14,28 +14,28 @@ fn put_counts(round: u32, steps: u32, answers: u32, at: usize, out: &mut [u8]) -
     requires { ⌜ at ≤ 46 ⌝ }
     ensures { λ r. ⌜ Wrote (counts-text round steps answers) at (now (out .entry)) r (now (out .exit)) × (r ≤ 100) ⌝ }
 {
-    let mut next = put(b" round ", at, out);
+    let mut next = put_text(b" round ", at, out);
     next = put_number(round as usize, next, out);
-    next = put(b" steps ", next, out);
+    next = put_text(b" steps ", next, out);
     next = put_number(steps as usize, next, out);
-    next = put(b" answers ", next, out);
+    next = put_text(b" answers ", next, out);
     next = put_number(answers as usize, next, out);
-    put(b"\n", next, out)
+    put_text(b"\n", next, out)
 }
 
 fn put_ran(name: &[u8], round: u32, steps: u32, answers: u32, out: &mut [u8]) -> usize
     requires { ⌜ length (now name) ≤ 8 ⌝ }
     ensures { λ r. ⌜ Wrote (codes "end " ++ (now (name .entry) ++ counts-text round steps answers)) 0 (now (out .entry)) r (now (out .exit)) × (r ≤ 100) ⌝ }
 {
-    let mut next = put(b"end ", 0, out);
-    next = put(name, next, out);
+    let mut next = put_text(b"end ", 0, out);
+    next = put_text(name, next, out);
     put_counts(round, steps, answers, next, out)
 }
 
 fn put_path(number: u32, round: u32, steps: u32, answers: u32, out: &mut [u8]) -> usize
     ensures { λ r. ⌜ Wrote (codes "end path " ++ (decimal number ++ counts-text round steps answers)) 0 (now (out .entry)) r (now (out .exit)) × (r ≤ 100) ⌝ }
 {
-    let mut next = put(b"end path ", 0, out);
+    let mut next = put_text(b"end path ", 0, out);
     next = put_number(number as usize, next, out);
     put_counts(round, steps, answers, next, out)
 }
@@ -43,11 +43,11 @@ fn put_path(number: u32, round: u32, steps: u32, answers: u32, out: &mut [u8]) -
 fn put_refusal(number: u32, place: usize, out: &mut [u8]) -> usize
     ensures { λ r. ⌜ Wrote (first-line (refused number place) 0 0 0) 0 (now (out .entry)) r (now (out .exit)) × (r ≤ 100) ⌝ }
 {
-    let mut next = put(b"refused ", 0, out);
+    let mut next = put_text(b"refused ", 0, out);
     next = put_number(number as usize, next, out);
-    next = put(b" at ", next, out);
+    next = put_text(b" at ", next, out);
     next = put_number(place, next, out);
-    put(b"\n", next, out)
+    put_text(b"\n", next, out)
 }
 
 pub(crate) fn put_report(report: Report, out: &mut [u8]) -> usize

@@ -1,6 +1,6 @@
 // The words of a file.
-use crate::at_most;
-use crate::word;
+use word::Word;
+use word::at_most;
 ghost use mathlib.Core.Path.{_≡_};
 ghost use Prim.Native.Nat.{_*_, _≤_};
 ghost use lib.ListN.{length, take};
@@ -24,7 +24,8 @@ pub(crate) fn read_words(bytes: &[u8], words: &mut [u32], count: usize)
     let mut i = 0;
     while i < count {
         let at = 4 * i;
-        words[i] = word(bytes[at], bytes[at + 1], bytes[at + 2], bytes[at + 3]);
+        let word = Word::from_bytes(bytes[at], bytes[at + 1], bytes[at + 2], bytes[at + 3]);
+        words[i] = word.bits;
         i += 1;
     }
 }

@@ -11,7 +11,7 @@ use Rattle.rules.specs.Syntax.{symbol, number, empty, Term, var, atom, p
 use Rattle.rules.specs.Written.{atom-word, term-words, terms-words, goal-words, goals-words, relation-words, written, part, sort-kind}
 use Rattle.rules.specs.WellFormed.{TermGood, TermsGood, GoalGood, GoalsGood, RelationGood, RelationsGood}
 use Rattle.rules.specs.Calls.{Fault, sound, fault, or-else, call-fault, goal-fault, goals-fault, relations-fault}
-use Rattle.rules.specs.Inner.{Spells, PartAt, TermAt, TermsAt, RelationsAt, Item, relation, goal, item-words, item-fault, items-words, ItemsGood, items-fault, Rest, Moves, params-of, ends, stops}
+use Rattle.rules.specs.Inner.{Spells, PartAt, GoodTermAt, GoodTermsAt, RelationsAt, Item, relation, goal, item-words, item-fault, items-words, ItemsGood, items-fault, Rest, Moves, params-of, ends, stops}
 use Rattle.rules.proofs.Spelled.{stands-at, stands-append, stands-split, term-some, kind-of, payload-of}
 
 -- what a part at a place is, where its word is known
@@ -22,19 +22,19 @@ part-size : (ws : List ℕ) (at k p q n : ℕ) → PartAt ws at k p → getD ws 
 part-size ws at k p q n s e l = s .is-size ∙ payload-of ws at q n e l
 
 -- past a term
-pub term-inside : (ws : List ℕ) (at : ℕ) (t : Term) → TermAt ws at t → at < length ws
+pub term-inside : (ws : List ℕ) (at : ℕ) (t : Term) → GoodTermAt ws at t → at < length ws
 term-inside ws at t h = omega (arith, h .within, term-some t)
 
 pub record Onward (ws : List ℕ) (at to : ℕ) (t : Term) : Type 0 where
   pub rest : Term
-  pub there : TermAt ws to rest
+  pub there : GoodTermAt ws to rest
   pub same : to + length (term-words rest) ≡ at + length (term-words t)
   pub forward : at < to
 
 differs : {C : Type 0} (k a b : ℕ) → k ≡ a → k ≡ b → (a ≡ b → ⊥) → C
 differs k a b e f n = absurd (n (sym e ∙ f))
 
-pub skip-pair : (ws : List ℕ) (at k p : ℕ) (t : Term) → TermAt ws at t → PartAt ws at k p → k ≡ 4 → Onward ws at (at + 1 + p) t
+pub skip-pair : (ws : List ℕ) (at k p : ℕ) (t : Term) → GoodTermAt ws at t → PartAt ws at k p → k ≡ 4 → Onward ws at (at + 1 + p) t
 unfolding term-words TermGood Spells
 skip-pair ws at k p (var x) h s e = differs k 4 0 e (part-kind ws at k p 0 x s (h .stands .0) (omega (arith, h .good, h .few))) (omega arith)
 skip-pair ws at k p (atom (symbol q)) h s e = differs k 4 1 e (part-kind ws at k p 1 q s (h .stands .0) (h .good)) (omega arith)
@@ -52,7 +52,7 @@ skip-pair ws at k p (pair a b) h s e =
       forward = omega arith;
     }
 
-pub skip-leaf : (ws : List ℕ) (at k p : ℕ) (t : Term) → TermAt ws at t → PartAt ws at k p → (k ≡ 4 → ⊥) → length (term-words t) ≡ 1
+pub skip-leaf : (ws : List ℕ) (at k p : ℕ) (t : Term) → GoodTermAt ws at t → PartAt ws at k p → (k ≡ 4 → ⊥) → length (term-words t) ≡ 1
 unfolding term-words Spells
 skip-leaf ws at k p (var x) h s n = refl
 skip-leaf ws at k p (atom a) h s n = refl
@@ -62,10 +62,10 @@ skip-leaf ws at k p (pair a b) h s n =
 
 -- counting terms
 pub record Counted (ws : List ℕ) (at end : ℕ) (t : Term) (ts : List Term) : Type 0 where
-  pub term : TermAt ws at t
-  pub rest : TermsAt ws (at + length (term-words t)) end ts
+  pub term : GoodTermAt ws at t
+  pub rest : GoodTermsAt ws (at + length (term-words t)) end ts
 
-pub terms-split : (ws : List ℕ) (at end : ℕ) (t : Term) (ts : List Term) → TermsAt ws at end (t ∷ ts) → Counted ws at end t ts
+pub terms-split : (ws : List ℕ) (at end : ℕ) (t : Term) (ts : List Term) → GoodTermsAt ws at end (t ∷ ts) → Counted ws at end t ts
 unfolding terms-words TermsGood
 terms-split ws at end t ts h =
     let z : length (term-words t ++ terms-words ts) ≡ length (term-words t) + length (terms-words ts) = length-append (term-words t) (terms-words ts) in
@@ -76,12 +76,12 @@ terms-split ws at end t ts h =
     }
 
 -- there is a term before the end, and none at it
-pub terms-some : (ws : List ℕ) (at end : ℕ) (ts : List Term) → TermsAt ws at end ts → at < end → (t : Term) × (us : List Term) × (ts ≡ t ∷ us)
+pub terms-some : (ws : List ℕ) (at end : ℕ) (ts : List Term) → GoodTermsAt ws at end ts → at < end → (t : Term) × (us : List Term) × (ts ≡ t ∷ us)
 unfolding terms-words
 terms-some ws at end [] h l = absurd (omega (arith, h .to))
 terms-some ws at end (t ∷ us) h l = (t, us, refl)
 
-pub terms-none : (ws : List ℕ) (at end : ℕ) (ts : List Term) → TermsAt ws at end ts → end ≤ at → length ts ≡ 0
+pub terms-none : (ws : List ℕ) (at end : ℕ) (ts : List Term) → GoodTermsAt ws at end ts → end ≤ at → length ts ≡ 0
 unfolding terms-words
 terms-none ws at end [] h l = refl
 terms-none ws at end (t ∷ us) h l =
@@ -367,7 +367,7 @@ module _ (ws : List ℕ) (P : Program) (at k p : ℕ) (is : List Item) (s : Part
     unfolding item-inner Spells GoalGood
     call-wanted q m t = part-size ws (at + 1) q m 2 n t (called .inner .0) (h .good .0 .0 .0)
 
-    pub call-terms : TermsAt ws (at + 2) (at + 1 + p) ts
+    pub call-terms : GoodTermsAt ws (at + 2) (at + 1 + p) ts
     unfolding item-inner Spells GoalGood
     call-terms = record {
       vars = vars;
@@ -476,13 +476,13 @@ seek-none ws P wanted at left h l =
     sym (ap params-of e)
 
 -- the first of terms that are left, and the rest of them
-pub term-first : (ws : List ℕ) (at end : ℕ) (us : List Term) → TermsAt ws at end us → at < end → (t : Term) × TermAt ws at t
+pub term-first : (ws : List ℕ) (at end : ℕ) (us : List Term) → GoodTermsAt ws at end us → at < end → (t : Term) × GoodTermAt ws at t
 term-first ws at end us h l =
     let q = terms-some ws at end us h l in
     (q .0, terms-split ws at end (q .0) (q .1) (rw (q .2) at h) .term)
 
-pub term-rest : (ws : List ℕ) (at end n : ℕ) (us : List Term) → TermsAt ws at end us → at < end → ((t : Term) → TermAt ws at t → n ≡ at + length (term-words t))
-    → (vs : List Term) × TermsAt ws n end vs × (length us ≡ length vs + 1) × (at < n)
+pub term-rest : (ws : List ℕ) (at end n : ℕ) (us : List Term) → GoodTermsAt ws at end us → at < end → ((t : Term) → GoodTermAt ws at t → n ≡ at + length (term-words t))
+    → (vs : List Term) × GoodTermsAt ws n end vs × (length us ≡ length vs + 1) × (at < n)
 term-rest ws at end n us h l f =
     let q = terms-some ws at end us h l in
     let d = terms-split ws at end (q .0) (q .1) (rw (q .2) at h) in

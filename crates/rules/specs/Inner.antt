@@ -52,7 +52,7 @@ Spells ws at [] = Unit {0}
 Spells ws at (x ∷ xs) = (getD ws at 0 ≡ x) × Spells ws (at + 1) xs
 
 -- a written term at a place of a program
-pub record TermAt (ws : List ℕ) (at : ℕ) (t : Term) : Type 0 where
+pub record GoodTermAt (ws : List ℕ) (at : ℕ) (t : Term) : Type 0 where
   pub vars : ℕ
   pub few : vars ≤ 255
   pub good : TermGood vars t
@@ -61,7 +61,7 @@ pub record TermAt (ws : List ℕ) (at : ℕ) (t : Term) : Type 0 where
   pub short : length ws ≤ most-words
 
 -- written terms that fill a part
-pub record TermsAt (ws : List ℕ) (at end : ℕ) (ts : List Term) : Type 0 where
+pub record GoodTermsAt (ws : List ℕ) (at end : ℕ) (ts : List Term) : Type 0 where
   pub vars : ℕ
   pub few : vars ≤ 255
   pub good : TermsGood vars ts

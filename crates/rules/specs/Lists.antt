@@ -1,5 +1,5 @@
--- What holds of the elements of a list.
-use mathlib.Core.List.{List, [], _∷_}
+-- Lists: what holds of their elements, and lists one after the other.
+use mathlib.Core.List.{List, [], _∷_, _++_}
 use mathlib.Core.Logic.{_⊎_}
 
 -- of every element
@@ -11,3 +11,8 @@ Each Q (x ∷ xs) = Q x × Each Q xs
 abbrev pub Some : {A : Type 0} → (A → Type 0) → List A → Type 0
 Some Q [] = ⊥
 Some Q (x ∷ xs) = Q x ⊎ Some Q xs
+
+-- lists one after the other
+abbrev pub joined : {A : Type 0} → List (List A) → List A
+joined [] = []
+joined (xs ∷ later) = xs ++ joined later

@@ -13,7 +13,7 @@ ghost use Rattle.rules.specs.Written.{term-words};
 ghost use Rattle.rules.specs.Calls.{relations-fault};
 ghost use Rattle.rules.specs.Accept.{judge};
 ghost use Rattle.rules.specs.Verdict.{said, meaning};
-ghost use Rattle.rules.specs.Inner.{outcome, TermAt, TermsAt, RelationsAt, params-of, found-params, Item, goal, Rest, Moves};
+ghost use Rattle.rules.specs.Inner.{outcome, GoodTermAt, GoodTermsAt, RelationsAt, params-of, found-params, Item, goal, Rest, Moves};
 
 // The parameters of a relation, if it is there.
 pub enum Found {
@@ -23,8 +23,8 @@ pub enum Found {
 
 // Past the term at `at`: a pair's first part is skipped by its payload.
 fn skip_term(program: &[u32], start: usize) -> usize
-    requires { ⌜ ((t : Term) × TermAt (now program) start t) ⌝ }
-    ensures { λ r. ⌜ ((t : Term) → TermAt (now (program .entry)) start t → r ≡ start + length (term-words t)) ⌝ }
+    requires { ⌜ ((t : Term) × GoodTermAt (now program) start t) ⌝ }
+    ensures { λ r. ⌜ ((t : Term) → GoodTermAt (now (program .entry)) start t → r ≡ start + length (term-words t)) ⌝ }
 {
     let mut at = start;
     loop {
@@ -38,8 +38,8 @@ fn skip_term(program: &[u32], start: usize) -> usize
 
 // How many terms stand between `start` and `end`.
 fn count_terms(program: &[u32], start: usize, end: usize) -> usize
-    requires { ⌜ ((ts : List Term) × TermsAt (now program) start end ts) ⌝ }
-    ensures { λ r. ⌜ ((ts : List Term) → TermsAt (now (program .entry)) start end ts → r ≡ length ts) ⌝ }
+    requires { ⌜ ((ts : List Term) × GoodTermsAt (now program) start end ts) ⌝ }
+    ensures { λ r. ⌜ ((ts : List Term) → GoodTermsAt (now (program .entry)) start end ts → r ≡ length ts) ⌝ }
 {
     let mut at = start;
     let mut count = 0;

@@ -10,7 +10,7 @@ use Rattle.rules.specs.Lists.{Each, Some}
 use Rattle.rules.specs.Syntax.{Program, Relation}
 use Rattle.rules.specs.Written.{written}
 use Rattle.semantics.specs.Demand.{AnswerRight, Completed, Demand3, ShowsIn, ShowsIt, ShowsUpTo}
-use Rattle.semantics.specs.Invariant.{ProgramIn, StateFine}
+use Rattle.semantics.specs.Invariant.{ProgramIn, RelationIn, StateFine}
 use Rattle.semantics.specs.Logic.{Assignment, Gives, Holds, Tree}
 use Rattle.semantics.specs.Round.{Answer, End, Result, Rounded, Tally, after-cuts, after-round, broken, completed, finished, one-round, result, rounds, rounds-used, start}
 use Rattle.semantics.proofs.Basics.{clash, each-append, each-map, some-both, some-each, some-left, some-map, some-right}
@@ -36,6 +36,14 @@ pub record RoundDone (P : Program) (k : ℕ) (before : List Answer) (t : Tally) 
 abbrev pub RoundClaim : Program → ℕ → List Answer → Rounded → Type 0
 RoundClaim P k before (completed t) = (t .room < 268435456) × RoundDone P k before t
 RoundClaim P k before (broken e t) = Breaks e × RoundWrote P k before (t .written)
+
+-- a round of a relation of the program sets out well
+pub start-fine : {P : Program} (wf : ProgramIn P) {R : Relation} → RelationIn P R → (k : ℕ) (t : Tally) → t .room < 268435456 → StateFine P wf (R .params) k (start R t)
+start-fine wf {R} r k t small = record {
+  fine = record { sound = sound-start (R .vars) (omega (arith, r .few-vars)); query-made = r .params-vars; few-calls = omega arith; tasks-in = ((R .vars, omega arith, r .body-in), tt) };
+  fine-choices = tt;
+  small-room = small;
+}
 
 module _ (R : Relation) (Rs : Program) (wf : ProgramIn (R ∷ Rs)) where
   abbrev P : Program
@@ -67,13 +75,6 @@ module _ (R : Relation) (Rs : Program) (wf : ProgramIn (R ∷ Rs)) where
       from-zero : (α : Assignment) → from 0 α ≡ α
       from-zero α = fun-ext (λ i. ap α (omega arith))
 
-  pub start-fine : (k : ℕ) (t : Tally) → t .room < 268435456 → StateFine P wf (R .params) k (start R t)
-  start-fine k t small = record {
-    fine = record { sound = sound-start (R .vars) (omega (arith, wf 0 R refl .few-vars)); query-made = wf 0 R refl .params-vars; few-calls = omega arith; tasks-in = ((R .vars, omega arith, wf 0 R refl .body-in), tt) };
-    fine-choices = tt;
-    small-room = small;
-  }
-
   -- A round by itself
   module _ (k : ℕ) (before : List Answer) where
     right : (a : Answer) → Right P wf (R .params) k (Gives P) a → (a .0 ≡ k) × AnswerRight P a
@@ -96,7 +97,7 @@ module _ (R : Relation) (Rs : Program) (wf : ProgramIn (R ∷ Rs)) where
 
     pub round-claim : (room left : ℕ) → room < 268435456 → RoundClaim P k before (one-round P R k room left before)
     round-claim room left small = claim (one-round P R k room left before) (search-well P wf (R .params) k (Gives P) before 0 (suc left) (start R t)
-        (start-fine k t small)
+        (start-fine wf (wf 0 R refl) k t small)
         (record {
           so-far = record { new = []; is-new = sym (append-nil before); each-right = tt };
           cuts-grow = omega arith;

@@ -12,6 +12,7 @@ use Rattle.semantics.specs.Logic.{Assignment, value}
 use Rattle.semantics.specs.Path.{ChoicePoint, Path, Task}
 use Rattle.semantics.specs.Review.{other-sort, sort-of}
 use Rattle.semantics.specs.Round.{State}
+use Rattle.semantics.specs.Steps.{constraints, most, variables}
 use Rattle.semantics.specs.Substitution.{Substitution, lookup, resolve}
 use Rattle.semantics.specs.Unify.{is-atom}
 
@@ -105,8 +106,8 @@ Passes bs cs (absento a t) = some-node (is-atom a) (resolve bs t) ≡ false
 pub record Sound (bs : Substitution) (kept : List Constraint) (made : ℕ) : Type 0 where
   pub good : Good bs
   pub scope : In made bs
-  pub few-made : made ≤ 2048
-  pub few-kept : length kept ≤ 512
+  pub few-made : made ≤ most variables
+  pub few-kept : length kept ≤ most constraints
   pub kept-in : Each (ConstraintIn made) kept
   pub passes : Each (Passes bs kept) kept
 

@@ -126,13 +126,13 @@ abbrev pub with-empty : List ℕ → List ℕ
 with-empty term = word 4 (length term) ∷ (term ++ (word 3 0 ∷ []))
 
 -- a term inside so many of them, each time the first part
-abbrev pub deep : ℕ → List ℕ → List ℕ
-deep zero term = term
-deep (suc n) term = with-empty (deep n term)
+abbrev pub nested : ℕ → List ℕ → List ℕ
+nested zero term = term
+nested (suc n) term = with-empty (nested n term)
 
 -- a relation, called with the empty list, has absento 7 in its parameter and calls itself with the parameter 128 pairs deeper: in the sixth call one node too many waits
 abbrev pub W : List ℕ
-W = query (word 12 2 ∷ word 2 1 ∷ word 3 0 ∷ []) ++ part 13 (word 2 1 ∷ word 2 1 ∷ part 10 (word 9 2 ∷ word 1 7 ∷ word 0 0 ∷ part 12 (word 2 1 ∷ deep 128 (word 0 0 ∷ []))))
+W = query (word 12 2 ∷ word 2 1 ∷ word 3 0 ∷ []) ++ part 13 (word 2 1 ∷ word 2 1 ∷ part 10 (word 9 2 ∷ word 1 7 ∷ word 0 0 ∷ part 12 (word 2 1 ∷ nested 128 (word 0 0 ∷ []))))
 
 -- an alternative for each of symbolo and numbero of a symbol and a number: those that hold
 abbrev pub atoms-typed : List ℕ

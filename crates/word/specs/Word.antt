@@ -15,6 +15,10 @@ payload w = w % 268435456
 abbrev pub word : ℕ → ℕ → ℕ
 word k p = k * 268435456 + p
 
+-- "words from standard input, four bytes each, low byte first"
+abbrev pub from-bytes : ℕ → ℕ → ℕ → ℕ → ℕ
+from-bytes low second third high = low + 256 * second + 65536 * third + 16777216 * high
+
 -- a kind and a payload below 2^28 go in and come out
 pub kind-word : (k p : ℕ) → p < 268435456 → kind (word k p) ≡ k
 kind-word k p h = omega arith

@@ -1,7 +1,7 @@
 // A 32-bit word of a program or of an answer: the kind in the top four bits, the payload in the low 28.
 ghost use mathlib.Core.Path.{_≡_};
-ghost use Prim.Native.Nat.{_%_};
-ghost use Rattle.word.specs.Word.{kind, payload, word};
+ghost use Prim.Native.Nat.{_%_, min};
+ghost use Rattle.word.specs.Word.{from-bytes, kind, payload, word};
 
 pub struct Word {
     pub bits: u32,
@@ -46,6 +46,17 @@ impl Word {
         Word { bits }
     }
 
+    // The word of four bytes of a file.
+    pub fn from_bytes(low: u8, second: u8, third: u8, high: u8) -> Word
+        ensures { λ r. ⌜ r .bits ≡ from-bytes low second third high ⌝ }
+    {
+        let lower = low as u32 + 256 * (second as u32);
+        let upper = third as u32 + 256 * (high as u32);
+        Word {
+            bits: lower + 65536 * upper,
+        }
+    }
+
     // The word of a kind and a payload. Only the low 4 and 28 bits are taken, so that no input overflows.
     pub fn new(kind: u32, payload: u32) -> Word
         ensures { λ r. ⌜ r .bits ≡ word (kind % 16) (payload % 268435456) ⌝ }
@@ -66,4 +77,14 @@ impl Word {
     {
         self.bits % 268435456
     }
+}
+
+// The smaller of two counts, where one of them is the most there may be.
+pub fn at_most(n: usize, most: usize) -> usize
+    ensures { λ r. ⌜ r ≡ min n most ⌝ }
+{
+    if n < most {
+        return n;
+    }
+    most
 }

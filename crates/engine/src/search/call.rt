@@ -10,7 +10,7 @@ use crate::search::state::Took;
 use crate::search::state::Way;
 use crate::search::table::relation;
 use crate::terms::trail::bind;
-use crate::terms::walk::node_at;
+use crate::terms::walk::part_at;
 use crate::terms::walk::skip;
 use crate::terms::walk::variable_at;
 use word::Word;
@@ -31,15 +31,15 @@ fn last_variable(program: &[u32], scratch: &[u32], term: u32) -> u32
 {
     let mut at = term;
     loop {
-        let node = node_at(program, at);
-        if node.kind != Word::VARIABLE {
+        let part = part_at(program, at);
+        if part.kind != Word::VARIABLE {
             return at;
         }
-        let entry = scratch[variable_at(at, node.payload) as usize];
+        let entry = scratch[variable_at(at, part.payload) as usize];
         if entry == 0 {
             return at;
         }
-        if node_at(program, entry - 1).kind != Word::VARIABLE {
+        if part_at(program, entry - 1).kind != Word::VARIABLE {
             return at;
         }
         at = entry - 1;
@@ -91,7 +91,7 @@ pub(crate) fn take_call(
             state: st,
         };
     }
-    let called = relation(program, scratch, node_at(program, goal + 1).payload);
+    let called = relation(program, scratch, part_at(program, goal + 1).payload);
     if MOST_VARIABLES < st.variables + called.vars {
         return Took {
             way: Way::Stops(Stop::Path(Bound::Variables), st.steps + 1),

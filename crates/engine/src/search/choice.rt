@@ -10,7 +10,7 @@ use crate::search::state::Stop;
 use crate::search::state::Took;
 use crate::search::state::Way;
 use crate::terms::trail::undo;
-use crate::terms::walk::node_at;
+use crate::terms::walk::part_at;
 use crate::terms::walk::part_end;
 ghost use mathlib.Core.Path.{_≡_};
 ghost use mathlib.Core.List.{List};
@@ -19,12 +19,13 @@ ghost use lib.ListN.{length};
 ghost use Rattle.rules.specs.Syntax.{Program, Goals, disj};
 ghost use Rattle.semantics.specs.Path.{Path, ChoicePoint, take-disj};
 ghost use Rattle.semantics.specs.Round.{Tally, backtrack};
-ghost use Rattle.engine.specs.Memory.{point, layout-words};
+ghost use Rattle.engine.specs.Layout.{most-goals, most-disjunctions, layout-words};
+ghost use Rattle.engine.specs.Memory.{point};
 ghost use Rattle.engine.specs.Take.{registers, one-choice-more, resumed, PathHeld, BacktrackAs, Taking, TookAs};
 
 // Makes a choice point: the alternatives left, from a reference up to the position `end`, and all that the path has when it is come back to.
 pub(crate) fn push_choice(scratch: &mut [u32], st: State, rest: u32, end: u32) -> State
-    requires { ⌜ (layout-words ≤ length (now scratch)) × (st .choices < 256) ⌝ }
+    requires { ⌜ (layout-words ≤ length (now scratch)) × (st .choices < most-disjunctions) ⌝ }
     ensures { λ r. ⌜ (r ≡ one-choice-more st) × (now (scratch .exit) ≡ point (now (scratch .entry)) (st .choices) rest end (registers st)) ⌝ }
 {
     let at = (POINTS + 8 * st.choices) as usize;
@@ -50,7 +51,7 @@ pub(crate) fn push_choice(scratch: &mut [u32], st: State, rest: u32, end: u32) -
 
 // The state that the newest choice point has saved, with one goal more put to wait, when so many choice points are left.
 fn saved_state(scratch: &[u32], st: State, choices: u32) -> State
-    requires { ⌜ (layout-words ≤ length (now scratch)) × (0 < st .choices) × (st .choices ≤ 256) × (resumed (now scratch) st choices .goals ≤ 1024) ⌝ }
+    requires { ⌜ (layout-words ≤ length (now scratch)) × (0 < st .choices) × (st .choices ≤ most-disjunctions) × (resumed (now scratch) st choices .goals ≤ most-goals) ⌝ }
     ensures { λ r. ⌜ r ≡ resumed (now (scratch .entry)) st choices ⌝ }
 {
     let at = (POINTS + 8 * (st.choices - 1)) as usize;
@@ -80,7 +81,7 @@ pub(crate) fn backtrack(program: &[u32], scratch: &mut [u32], st: State) -> Resu
     let end = scratch[at + 1];
     let mark = scratch[at + 3];
     undo(scratch, mark, st.trail);
-    let size = node_at(program, goal).payload;
+    let size = part_at(program, goal).payload;
     if part_end(goal, size) == end {
         return Resumed::Goal(saved_state(scratch, st, st.choices - 1), goal);
     }
@@ -100,9 +101,9 @@ pub(crate) fn take_disj(program: &[u32], scratch: &mut [u32], st: State, disjunc
             state: st,
         };
     }
-    let end = part_end(disjunction, node_at(program, disjunction).payload);
+    let end = part_end(disjunction, part_at(program, disjunction).payload);
     let first = disjunction + 1;
-    let size = node_at(program, first).payload;
+    let size = part_at(program, first).payload;
     if part_end(first, size) == end {
         return Took {
             way: Way::Goes,

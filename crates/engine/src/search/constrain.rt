@@ -1,4 +1,4 @@
-// Taking equalities and constraints: they narrow a path, or it is left.
+// Taking equalities and constraints: the path goes on with what they ask, or it is left.
 use crate::layout::CONSTRAINTS;
 use crate::layout::MOST_CONSTRAINTS;
 use crate::report::Bound;

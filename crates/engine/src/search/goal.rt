@@ -7,7 +7,7 @@ use crate::search::state::State;
 use crate::search::state::Stop;
 use crate::search::state::Took;
 use crate::search::state::Way;
-use crate::terms::walk::node_at;
+use crate::terms::walk::part_at;
 use crate::terms::walk::part_end;
 ghost use mathlib.Core.Path.{_≡_};
 ghost use mathlib.Core.List.{List};
@@ -15,7 +15,8 @@ ghost use Prim.Native.Nat.{ℕ, _+_, _<_, _≤_};
 ghost use lib.ListN.{length};
 ghost use Rattle.rules.specs.Syntax.{Goals, conj, Program};
 ghost use Rattle.semantics.specs.Path.{Path, ChoicePoint, take-conj};
-ghost use Rattle.engine.specs.Memory.{cell, layout-words};
+ghost use Rattle.engine.specs.Layout.{most-goals, layout-words};
+ghost use Rattle.engine.specs.Memory.{cell};
 ghost use Rattle.engine.specs.Take.{Taking, TookAs, one-goal-more};
 
 // A conjunction puts its goals to wait: in cells one after the other, each linked to the next and the last to the old head.
@@ -24,7 +25,7 @@ pub(crate) fn take_conj(program: &[u32], scratch: &mut [u32], st: State, conjunc
     ensures { λ r. ⌜ ((P : Program) (p : Path) (cs : List ChoicePoint) (base : ℕ) (gs : Goals) → Taking P (now (program .entry)) (now (scratch .entry)) st conjunction p cs (base, conj gs)
         → TookAs P (now (program .entry)) (now (scratch .exit)) cs (take-conj p cs base gs (st .steps)) (r .way) (r .state)) ⌝ }
 {
-    let end = part_end(conjunction, node_at(program, conjunction).payload);
+    let end = part_end(conjunction, part_at(program, conjunction).payload);
     let mut goal = conjunction + 1;
     let mut filled = st.goals;
     loop {
@@ -34,7 +35,7 @@ pub(crate) fn take_conj(program: &[u32], scratch: &mut [u32], st: State, conjunc
                 state: st,
             };
         }
-        let size = node_at(program, goal).payload;
+        let size = part_at(program, goal).payload;
         let at = (CELL_GOAL + 2 * (filled + 1)) as usize;
         scratch[at] = goal;
         if part_end(goal, size) == end {
@@ -61,7 +62,7 @@ pub(crate) fn take_conj(program: &[u32], scratch: &mut [u32], st: State, conjunc
 
 // Puts a goal to wait: it stands ahead of all older ones.
 pub(crate) fn push_goal(scratch: &mut [u32], st: State, goal: u32) -> State
-    requires { ⌜ (layout-words ≤ length (now scratch)) × (st .goals < 1024) ⌝ }
+    requires { ⌜ (layout-words ≤ length (now scratch)) × (st .goals < most-goals) ⌝ }
     ensures { λ r. ⌜ (r ≡ one-goal-more st) × (now (scratch .exit) ≡ cell (now (scratch .entry)) (st .goals + 1) goal (st .head)) ⌝ }
 {
     let at = (CELL_GOAL + 2 * (st.goals + 1)) as usize;

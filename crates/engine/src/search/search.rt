@@ -11,7 +11,7 @@ ghost use Rattle.semantics.specs.Invariant.{ProgramIn};
 ghost use Rattle.engine.specs.Search.{count-cuts, Searching, SearchedAs};
 
 // One more if a branch was cut.
-fn counted(cuts: u32, cut: u32) -> u32
+fn count_cuts(cuts: u32, cut: u32) -> u32
     requires { ⌜ cuts < 4294967295 ⌝ }
     ensures { λ r. ⌜ r ≡ count-cuts cuts cut ⌝ }
 {
@@ -45,10 +45,10 @@ pub(crate) fn search(
             Lead::Goal => {
                 st = next;
                 goal = turned.goal;
-                cuts = counted(cuts, turned.cuts);
+                cuts = count_cuts(cuts, turned.cuts);
             }
             Lead::Over => {
-                return Searched::Over(next, counted(cuts, turned.cuts));
+                return Searched::Over(next, count_cuts(cuts, turned.cuts));
             }
             Lead::Answer => {
                 return Searched::Answer(next, cuts);

@@ -1,13 +1,14 @@
 // The table of relations: where each one begins. It is filled once a run.
 use crate::layout::RELATIONS;
-use crate::terms::walk::node_at;
+use crate::terms::walk::part_at;
 ghost use mathlib.Core.Path.{_≡_};
 ghost use mathlib.Core.Option.{some};
 ghost use Prim.Native.Nat.{_≤_};
 ghost use lib.ListN.{length, getElem?};
 ghost use Rattle.rules.specs.Syntax.{Relation, Program};
 ghost use Rattle.rules.specs.Inner.{RelationsAt};
-ghost use Rattle.engine.specs.Memory.{TableIn, layout-words};
+ghost use Rattle.engine.specs.Layout.{layout-words, relations-area, most-relations};
+ghost use Rattle.engine.specs.Memory.{TableIn};
 ghost use Rattle.engine.specs.Trail.{Same};
 ghost use Rattle.engine.specs.Take.{RelationIs};
 
@@ -19,15 +20,15 @@ pub struct RelationHead {
 }
 
 pub(crate) fn fill_relations(program: &[u32], scratch: &mut [u32])
-    requires { ⌜ ((P : Program) × RelationsAt (now program) 0 P × (length P ≤ 256) × (layout-words ≤ length (now scratch))) ⌝ }
-    ensures { λ _. ⌜ ((P : Program) → RelationsAt (now (program .entry)) 0 P → length P ≤ 256 → TableIn (now (program .entry)) (now (scratch .exit)) P)
-        × Same (now (scratch .entry)) (now (scratch .exit)) 0 11776 ⌝ }
+    requires { ⌜ ((P : Program) × RelationsAt (now program) 0 P × (length P ≤ most-relations) × (layout-words ≤ length (now scratch))) ⌝ }
+    ensures { λ _. ⌜ ((P : Program) → RelationsAt (now (program .entry)) 0 P → length P ≤ most-relations → TableIn (now (program .entry)) (now (scratch .exit)) P)
+        × Same (now (scratch .entry)) (now (scratch .exit)) 0 relations-area ⌝ }
 {
     let mut at = 0;
     let mut number = 0;
     while (at as usize) < program.len() {
         scratch[RELATIONS + number] = at;
-        at = at + 1 + node_at(program, at).payload;
+        at = at + 1 + part_at(program, at).payload;
         number += 1;
     }
 }
@@ -39,8 +40,8 @@ pub(crate) fn relation(program: &[u32], scratch: &[u32], number: u32) -> Relatio
 {
     let at = scratch[RELATIONS + number as usize];
     RelationHead {
-        params: node_at(program, at + 1).payload,
-        vars: node_at(program, at + 2).payload,
+        params: part_at(program, at + 1).payload,
+        vars: part_at(program, at + 2).payload,
         body: at + 3,
     }
 }

@@ -9,7 +9,7 @@ use crate::search::state::State;
 use crate::search::state::Stop;
 use crate::search::state::Took;
 use crate::search::state::Way;
-use crate::terms::walk::node_at;
+use crate::terms::walk::part_at;
 use word::Word;
 ghost use mathlib.Core.List.{List};
 ghost use Rattle.rules.specs.Syntax.{Program};
@@ -29,7 +29,7 @@ pub(crate) fn take(program: &[u32], scratch: &mut [u32], st: State, goal: u32, r
         };
     }
     let taking = with_counts(st, st.trail, st.constraints, st.steps - 1);
-    let kind = node_at(program, goal).kind;
+    let kind = part_at(program, goal).kind;
     if kind == Word::EQUAL {
         return take_equal(program, scratch, taking, goal);
     }

@@ -18,7 +18,7 @@ ghost use Rattle.engine.specs.Take.{PathHeld};
 ghost use Rattle.engine.specs.Turn.{Turning, took-goal, tallied, TurnedAs};
 
 // The path is left; `cuts` is 1 if it was cut.
-fn leave(program: &[u32], scratch: &mut [u32], st: State, cuts: u32) -> Turned
+fn leave_path(program: &[u32], scratch: &mut [u32], st: State, cuts: u32) -> Turned
     requires { ⌜ ((P : Program) × (p : Path) × (cs : List ChoicePoint) × PathHeld P (now program) (now scratch) st p cs) ⌝ }
     ensures { λ r. ⌜ ((P : Program) (n k : ℕ) (p : Path) (cs : List ChoicePoint) (t : definition.Tally) (o : Outcome Taken) → PathHeld P (now (program .entry)) (now (scratch .entry)) st p cs
         → TurnedAs P n k (now (program .entry)) (now (scratch .exit)) t o (definition.backtrack cs (tallied t (st .steps) cuts)) r) ⌝ }
@@ -54,7 +54,7 @@ fn go_on(program: &[u32], scratch: &mut [u32], st: State, round: u32) -> Turned
                 cuts: 0,
             };
         }
-        return leave(program, scratch, st, 0);
+        return leave_path(program, scratch, st, 0);
     }
     let goal = (CELL_GOAL + 2 * st.head) as usize;
     let next = (CELL_NEXT + 2 * st.head) as usize;
@@ -86,8 +86,8 @@ pub(crate) fn turn(program: &[u32], scratch: &mut [u32], st: State, goal: u32, r
     let next = took.state;
     match way {
         Way::Goes => go_on(program, scratch, next, round),
-        Way::Leaves => leave(program, scratch, next, 0),
-        Way::Cut => leave(program, scratch, next, 1),
+        Way::Leaves => leave_path(program, scratch, next, 0),
+        Way::Cut => leave_path(program, scratch, next, 1),
         Way::Stops(why, left) => Turned {
             lead: Lead::Stops(why, left),
             state: next,

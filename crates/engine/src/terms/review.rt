@@ -5,7 +5,7 @@ use crate::terms::scan::scan;
 use crate::terms::trail::undo;
 use crate::terms::unify::Unified;
 use crate::terms::unify::unify;
-use crate::terms::walk::node_at;
+use crate::terms::walk::part_at;
 use crate::terms::walk::skip;
 use crate::terms::walk::variable_at;
 use crate::terms::walk::walk;
@@ -34,7 +34,7 @@ fn reaches(program: &[u32], scratch: &[u32], constraint: u32, kind: u32, variabl
     ensures { λ r. ⌜ ((bs : Substitution) (c : Constraint) (k : Sort) → Constrains (now (program .entry)) (now (scratch .entry)) bs constraint c → kind ≡ other-kind k
         → r ≡ definition.reaches bs k variable c) ⌝ }
 {
-    if node_at(&*program, constraint).kind != kind {
+    if part_at(&*program, constraint).kind != kind {
         return false;
     }
     let node = walk(&*program, &*scratch, constraint + 1);
@@ -118,7 +118,7 @@ fn review_absento(program: &[u32], scratch: &[u32], constraint: u32, left: u32) 
     ensures { λ r. ⌜ ((bs : Substitution) (a : Atom) (t : Term) → Constrains (now (program .entry)) (now (scratch .entry)) bs constraint (absento a t)
         → unification.scan (unification.is-atom a) bs [] t left ≡ review-says r) ⌝ }
 {
-    let tag = node_at(&*program, constraint + 1).bits;
+    let tag = part_at(&*program, constraint + 1).bits;
     match scan(&*program, &*scratch, tag, constraint + 2, 0, left) {
         Scanned::Found(rest) => Reviewed::Fails(rest),
         Scanned::Clear(rest) => Reviewed::Holds(rest),
@@ -180,7 +180,7 @@ pub(crate) fn review(
         return Reviewed::StepsOut;
     }
     let left = steps - 1;
-    let kind = node_at(&*program, constraint).kind;
+    let kind = part_at(&*program, constraint).kind;
     if kind == Word::DIFFER {
         let second = skip(&*program, constraint + 1);
         return review_differ(&*program, scratch, constraint + 1, second, trail, left);

@@ -12,13 +12,13 @@ ghost use mathlib.Core.List.{List};
 ghost use Prim.Native.Nat.{ℕ, _<_};
 ghost use Rattle.rules.specs.Syntax.{Term};
 ghost use Rattle.semantics.specs.Substitution.{Substitution};
-ghost use Rattle.semantics.specs.Unify.{look, unify-terms};
+ghost use Rattle.semantics.specs.Unify as definition;
 ghost use Rattle.engine.specs.Reference.{Stands};
 ghost use Rattle.engine.specs.Walk.{IsNode};
-ghost use Rattle.engine.specs.Unify.{ComparedAs, TwoTerms, PairUnifiedAs, UnifiedAs};
+ghost use Rattle.engine.specs.Unify.{LookedAs, TwoTerms, PairUnifiedAs, UnifiedAs};
 
 // What two followed terms come to: a variable is to be bound to a term, or the parts (first and second of the one, then of the other) are to be equal.
-pub enum Compared {
+pub enum Looked {
     Fails,
     Agrees,
     Binds(u32, u32),
@@ -43,9 +43,9 @@ pub enum Unified {
 }
 
 // Two followed terms are looked at.
-fn compare(a: Walked, b: Walked) -> Compared
+fn look(a: Walked, b: Walked) -> Looked
     requires { ⌜ ((ws : List ℕ) × (u : Term) × (v : Term) × IsNode ws a × IsNode ws b × Stands ws (a .at) u × Stands ws (b .at) v) ⌝ }
-    ensures { λ r. ⌜ ((ws : List ℕ) (u v : Term) → IsNode ws a → IsNode ws b → Stands ws (a .at) u → Stands ws (b .at) v → ComparedAs ws (look u v) r) ⌝ }
+    ensures { λ r. ⌜ ((ws : List ℕ) (u v : Term) → IsNode ws a → IsNode ws b → Stands ws (a .at) u → Stands ws (b .at) v → LookedAs ws (definition.look u v) r) ⌝ }
 {
     let a_at = a.at;
     let b_at = b.at;
@@ -56,21 +56,21 @@ fn compare(a: Walked, b: Walked) -> Compared
     if a_kind == Word::VARIABLE {
         let x = variable_at(a_at, a_payload);
         if b_kind != Word::VARIABLE {
-            return Compared::Binds(x, b_at);
+            return Looked::Binds(x, b_at);
         }
         if variable_at(b_at, b_payload) == x {
-            return Compared::Agrees;
+            return Looked::Agrees;
         }
-        return Compared::Binds(x, b_at);
+        return Looked::Binds(x, b_at);
     }
     if b_kind == Word::VARIABLE {
-        return Compared::Binds(variable_at(b_at, b_payload), a_at);
+        return Looked::Binds(variable_at(b_at, b_payload), a_at);
     }
     if a_kind == Word::PAIR {
         if b_kind != Word::PAIR {
-            return Compared::Fails;
+            return Looked::Fails;
         }
-        return Compared::Parts(
+        return Looked::Parts(
             a_at + 1,
             a_at + 1 + a_payload,
             b_at + 1,
@@ -78,12 +78,12 @@ fn compare(a: Walked, b: Walked) -> Compared
         );
     }
     if a.bits != b.bits {
-        return Compared::Fails;
+        return Looked::Fails;
     }
-    Compared::Agrees
+    Looked::Agrees
 }
 
-// One pair is looked at: followed, compared, and a variable bound unless it occurs in the other side.
+// One pair is unified: its terms are followed and looked at, and a variable is bound unless it occurs in the other side.
 fn unify_pair(
     program: &[u32],
     scratch: &mut [u32],
@@ -98,11 +98,11 @@ fn unify_pair(
 {
     let a = walk(program, scratch, first);
     let b = walk(program, scratch, second);
-    match compare(a, b) {
-        Compared::Fails => PairUnified::Fails(steps - 1),
-        Compared::Agrees => PairUnified::Goes(trail, steps - 1),
-        Compared::Parts(c, d, e, f) => PairUnified::Parts(c, d, e, f),
-        Compared::Binds(variable, term) => match scan(
+    match look(a, b) {
+        Looked::Fails => PairUnified::Fails(steps - 1),
+        Looked::Agrees => PairUnified::Goes(trail, steps - 1),
+        Looked::Parts(c, d, e, f) => PairUnified::Parts(c, d, e, f),
+        Looked::Binds(variable, term) => match scan(
             &*program,
             scratch,
             variable,
@@ -132,7 +132,7 @@ pub(crate) fn unify(
 ) -> Unified
     requires { ⌜ ((bs : Substitution) × (u : Term) × (v : Term) × TwoTerms (now program) (now scratch) bs first u second v mark) ⌝ }
     ensures { λ r. ⌜ ((bs : Substitution) (u v : Term) → TwoTerms (now (program .entry)) (now (scratch .entry)) bs first u second v mark
-        → UnifiedAs (now (program .entry)) (now (scratch .entry)) (now (scratch .exit)) bs (unify-terms bs u v steps) r) ⌝ }
+        → UnifiedAs (now (program .entry)) (now (scratch .entry)) (now (scratch .exit)) bs (definition.unify-terms bs u v steps) r) ⌝ }
 {
     let mut a = first;
     let mut b = second;

@@ -7,22 +7,22 @@ ghost use lib.ListN.{length};
 ghost use Rattle.rules.specs.Syntax.{Term};
 ghost use Rattle.semantics.specs.Substitution.{Substitution};
 ghost use Rattle.engine.specs.Reference.{base-of, pos-of, Stands};
-ghost use Rattle.engine.specs.Walk.{NodeAt, Follows, WalkedTo, Resolves, Shaped};
+ghost use Rattle.engine.specs.Walk.{PartAt, Follows, WalkedTo, Resolves, Shaped};
 
-// The word at a reference.
-pub struct Node {
+// The part at a reference: its first word.
+pub struct Part {
     pub bits: u32,
     pub kind: u32,
     pub payload: u32,
 }
 
-pub(crate) fn node_at(program: &[u32], reference: u32) -> Node
+pub(crate) fn part_at(program: &[u32], reference: u32) -> Part
     requires { ⌜ pos-of reference < length (now program) ⌝ }
-    ensures { λ r. ⌜ NodeAt (now (program .entry)) reference (r .bits) (r .kind) (r .payload) ⌝ }
+    ensures { λ r. ⌜ PartAt (now (program .entry)) reference (r .bits) (r .kind) (r .payload) ⌝ }
 {
     let bits = program[(reference % POSITIONS) as usize];
     let word = Word::from_bits(bits);
-    Node {
+    Part {
         bits,
         kind: word.kind(),
         payload: word.payload(),
@@ -60,17 +60,17 @@ pub(crate) fn walk(program: &[u32], scratch: &[u32], term: u32) -> Walked
 {
     let mut at = term;
     loop {
-        let node = node_at(program, at);
+        let part = part_at(program, at);
         let here = Walked {
             at,
-            bits: node.bits,
-            kind: node.kind,
-            payload: node.payload,
+            bits: part.bits,
+            kind: part.kind,
+            payload: part.payload,
         };
-        if node.kind != Word::VARIABLE {
+        if part.kind != Word::VARIABLE {
             return here;
         }
-        let entry = scratch[variable_at(at, node.payload) as usize];
+        let entry = scratch[variable_at(at, part.payload) as usize];
         if entry == 0 {
             return here;
         }
@@ -85,11 +85,11 @@ pub(crate) fn skip(program: &[u32], term: u32) -> u32
 {
     let mut at = term;
     loop {
-        let node = node_at(program, at);
-        if node.kind != Word::PAIR {
+        let part = part_at(program, at);
+        if part.kind != Word::PAIR {
             return at + 1;
         }
-        at = at + 1 + node.payload;
+        at = at + 1 + part.payload;
     }
 }
 

@@ -1,4 +1,5 @@
 // The writer: the answer of a path, behind those already in the output.
+use crate::layout::MOST_OUTPUT;
 use crate::search::state::State;
 use crate::writer::constraint::Added;
 use crate::writer::constraint::add_constraints;
@@ -10,14 +11,14 @@ use crate::writer::query::put_parameters;
 use crate::writer::term::Put;
 use crate::writer::term::put_head;
 use word::Word;
-ghost use mathlib.Core.Path.{_≡_};
+use word::at_most;
 ghost use mathlib.Core.List.{List, []};
 ghost use Prim.Native.Nat.{ℕ, _≤_, _+_};
 ghost use Rattle.rules.specs.Syntax.{Program};
 ghost use Rattle.semantics.specs.Substitution.{Substitution};
 ghost use Rattle.semantics.specs.Path.{Path, ChoicePoint};
 ghost use Rattle.semantics.specs.Answer.{answer};
-ghost use Rattle.semantics.specs.Run.{usable as words-used};
+ghost use Rattle.engine.specs.Layout.{most-variables};
 ghost use Rattle.engine.specs.Term.{Room};
 ghost use Rattle.engine.specs.Lines.{AnswerSoFar};
 ghost use Rattle.engine.specs.Query.{Query, query-words};
@@ -31,16 +32,6 @@ pub enum Answered {
     WaitingOut(u32),
 }
 
-// At most the first 268,435,455 words of the output are used.
-fn usable(output: usize) -> usize
-    ensures { λ r. ⌜ r ≡ words-used output ⌝ }
-{
-    if 268435455 < output {
-        return 268435455;
-    }
-    output
-}
-
 // The query terms, one word behind `start`: the answer's own word goes in last, when its length is known.
 fn begin_answer(
     program: &[u32],
@@ -50,7 +41,7 @@ fn begin_answer(
     start: usize,
     end: usize,
 ) -> usize
-    requires { ⌜ Room (now output) end × (params ≤ 2048) × ((bs : Substitution) × (names : List ℕ) × Query (now program) (now scratch) params bs names) ⌝ }
+    requires { ⌜ Room (now output) end × (params ≤ most-variables) × ((bs : Substitution) × (names : List ℕ) × Query (now program) (now scratch) params bs names) ⌝ }
     ensures { λ r. ⌜ ((bs : Substitution) (names : List ℕ) → Query (now (program .entry)) (now (scratch .entry)) params bs names
         → AnswerSoFar (now (output .entry)) (now (output .exit)) (start + 1) r end r (query-words bs names 0 params) []) ⌝ }
 {
@@ -110,7 +101,7 @@ pub(crate) fn write_answer(
         }
         LookedThrough::Done(left) => {
             let start = used as usize;
-            let end = usable(output.len());
+            let end = at_most(output.len(), MOST_OUTPUT);
             let top = name_parameters(program, scratch, params);
             let first = begin_answer(program, scratch, output, params, start, end);
             let added = add_constraints(

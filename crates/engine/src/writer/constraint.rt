@@ -3,7 +3,7 @@ use crate::layout::CONSTRAINTS;
 use crate::terms::trail::undo;
 use crate::terms::unify::Unified;
 use crate::terms::unify::unify;
-use crate::terms::walk::node_at;
+use crate::terms::walk::part_at;
 use crate::terms::walk::skip;
 use crate::writer::line::Listed;
 use crate::writer::lines::add_absent;
@@ -114,7 +114,7 @@ fn absence_lines(
             return Added::WaitingOut(rest);
         }
         LookedThrough::Done(rest) => {
-            let tag = node_at(program, constraint + 1).bits;
+            let tag = part_at(program, constraint + 1).bits;
             let next = add_absent(program, scratch, output, tag, term, first, end, at);
             return Added::Done(next, rest);
         }
@@ -171,7 +171,7 @@ fn add_constraint(
         → Lists (now (program .entry)) (now (scratch .entry)) bs cs constraint c trail
         → AddedAs (now (program .entry)) (now (scratch .entry)) (now (scratch .exit)) g (now (output .exit)) bs (lines-of bs c steps) r) ⌝ }
 {
-    let kind = node_at(program, constraint).kind;
+    let kind = part_at(program, constraint).kind;
     if kind == Word::DIFFER {
         let second = skip(program, constraint + 1);
         return differ_lines(

@@ -16,10 +16,10 @@ ghost use lib.ListN.{length};
 ghost use Rattle.rules.specs.Syntax.{Term, var};
 ghost use Rattle.rules.specs.Written.{part, term-words};
 ghost use Rattle.semantics.specs.Answer.{member, index, bindings-in, line-in, line-words, Line, not-all};
+ghost use Rattle.engine.specs.Layout.{most-variables, layout-words};
 ghost use Rattle.engine.specs.Names.{NamesGiven};
 ghost use Rattle.engine.specs.Term.{Puts, Placed};
 ghost use Rattle.engine.specs.Line.{half, Equation, EquationsIn, equation-in, equation-words, equations-words, LineAs};
-ghost use Rattle.engine.specs.Memory.{layout-words};
 
 // A type's kind and the variable; absento's tag and the variable; a trial's mark and how many equations it has.
 pub enum Listed {
@@ -30,7 +30,7 @@ pub enum Listed {
 
 // The variable of equation `i`.
 pub(crate) fn equation_variable(scratch: &[u32], i: usize) -> u32
-    requires { ⌜ (layout-words ≤ length (now scratch)) × (i < 2048) ⌝ }
+    requires { ⌜ (layout-words ≤ length (now scratch)) × (i < most-variables) ⌝ }
     ensures { λ r. ⌜ r ≡ half (now (scratch .entry)) i ⌝ }
 {
     let bits = scratch[PAIRS + i / 2];
@@ -51,7 +51,7 @@ pub(crate) fn put_equation(
     end: usize,
     write: bool,
 ) -> Put
-    requires { ⌜ (mark + i < 2048) × ((b : ℕ × Term) × (names : List ℕ) × Equation (now program) (now scratch) mark i b
+    requires { ⌜ (mark + i < most-variables) × ((b : ℕ × Term) × (names : List ℕ) × Equation (now program) (now scratch) mark i b
         × Puts (now scratch) (now output) start end names (equation-in names b)) ⌝ }
     ensures { λ r. ⌜ ((b : ℕ × Term) (names : List ℕ) → Equation (now (program .entry)) (now (scratch .entry)) mark i b
         → Puts (now (scratch .entry)) (now (output .entry)) start end names (equation-in names b)
@@ -122,7 +122,7 @@ pub(crate) fn put_typed(
     end: usize,
     write: bool,
 ) -> Put
-    requires { ⌜ (x < 2048) × (kind < 16) × ((names : List ℕ) × Puts (now scratch) (now output) start end names (member x names)) ⌝ }
+    requires { ⌜ (x < most-variables) × (kind < 16) × ((names : List ℕ) × Puts (now scratch) (now output) start end names (member x names)) ⌝ }
     ensures { λ r. ⌜ ((names : List ℕ) → Puts (now (scratch .entry)) (now (output .entry)) start end names (member x names)
         → Placed (now (output .entry)) (now (output .exit)) start end write (part kind (term-words (var (index x names)))) r) ⌝ }
 {
@@ -146,7 +146,7 @@ pub(crate) fn put_lacks(
     end: usize,
     write: bool,
 ) -> Put
-    requires { ⌜ (x < 2048) × ((names : List ℕ) × Puts (now scratch) (now output) start end names (member x names)) ⌝ }
+    requires { ⌜ (x < most-variables) × ((names : List ℕ) × Puts (now scratch) (now output) start end names (member x names)) ⌝ }
     ensures { λ r. ⌜ ((names : List ℕ) → Puts (now (scratch .entry)) (now (output .entry)) start end names (member x names)
         → Placed (now (output .entry)) (now (output .exit)) start end write (part 9 (tag ∷ term-words (var (index x names)))) r) ⌝ }
 {
@@ -227,7 +227,7 @@ pub(crate) fn put_line(
 }
 
 pub(crate) fn has_name(scratch: &[u32], x: u32) -> bool
-    requires { ⌜ (layout-words ≤ length (now scratch)) × (x < 2048) ⌝ }
+    requires { ⌜ (layout-words ≤ length (now scratch)) × (x < most-variables) ⌝ }
     ensures { λ r. ⌜ ((names : List ℕ) → NamesGiven (now (scratch .entry)) names → r ≡ member x names) ⌝ }
 {
     if scratch[NAMES + x as usize] == 0 {
@@ -238,7 +238,7 @@ pub(crate) fn has_name(scratch: &[u32], x: u32) -> bool
 
 // Whether every variable of equation `i` has a name.
 pub(crate) fn equation_named(program: &[u32], scratch: &[u32], mark: usize, i: usize) -> bool
-    requires { ⌜ (mark + i < 2048) × ((b : ℕ × Term) × (names : List ℕ) × Equation (now program) (now scratch) mark i b × NamesGiven (now scratch) names) ⌝ }
+    requires { ⌜ (mark + i < most-variables) × ((b : ℕ × Term) × (names : List ℕ) × Equation (now program) (now scratch) mark i b × NamesGiven (now scratch) names) ⌝ }
     ensures { λ r. ⌜ ((b : ℕ × Term) (names : List ℕ) → Equation (now (program .entry)) (now (scratch .entry)) mark i b → NamesGiven (now (scratch .entry)) names
         → r ≡ equation-in names b) ⌝ }
 {

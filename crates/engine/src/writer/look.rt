@@ -8,7 +8,7 @@ ghost use Prim.Native.Nat.{ℕ};
 ghost use Rattle.rules.specs.Syntax.{Term};
 ghost use Rattle.semantics.specs.Substitution.{Substitution};
 ghost use Rattle.engine.specs.Walk.{Follows};
-ghost use Rattle.engine.specs.Look.{LookedAs, Looks, rights, ThroughAs};
+ghost use Rattle.engine.specs.Look.{LookedThroughAs, Looks, rights, ThroughAs};
 
 // A number is the steps left.
 pub enum LookedThrough {
@@ -20,7 +20,7 @@ pub enum LookedThrough {
 // The word sought is no leaf's, so the scan finds nothing and goes on to the end.
 pub(crate) fn look_through(program: &[u32], scratch: &[u32], term: u32, steps: u32) -> LookedThrough
     requires { ⌜ ((bs : Substitution) × (t : Term) × Follows (now program) (now scratch) bs term t) ⌝ }
-    ensures { λ r. ⌜ ((bs : Substitution) (t : Term) → Follows (now (program .entry)) (now (scratch .entry)) bs term t → LookedAs bs t steps r) ⌝ }
+    ensures { λ r. ⌜ ((bs : Substitution) (t : Term) → Follows (now (program .entry)) (now (scratch .entry)) bs term t → LookedThroughAs bs t steps r) ⌝ }
 {
     match scan(&*program, &*scratch, PAIR_WORD, term, 0, steps) {
         Scanned::Found(left) | Scanned::Clear(left) => {

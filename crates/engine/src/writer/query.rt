@@ -13,15 +13,16 @@ ghost use Rattle.rules.specs.Syntax.{var};
 ghost use Rattle.rules.specs.Written.{term-words};
 ghost use Rattle.semantics.specs.Substitution.{Substitution, resolve};
 ghost use Rattle.semantics.specs.Answer.{appear, reify, vars-in, names-of, parameters};
+ghost use Rattle.engine.specs.Layout.{most-variables};
 ghost use Rattle.engine.specs.Walk.{Binds};
 ghost use Rattle.engine.specs.Names.{Names, Named};
 ghost use Rattle.engine.specs.Term.{Room, Puts, Placed};
-ghost use Rattle.engine.specs.Look.{LookedAs, ThroughAs};
+ghost use Rattle.engine.specs.Look.{LookedThroughAs, ThroughAs};
 ghost use Rattle.engine.specs.Query.{Query, query-words};
 
 pub(crate) fn look_parameter(program: &[u32], scratch: &[u32], x: u32, steps: u32) -> LookedThrough
-    requires { ⌜ (x < 2048) × ((bs : Substitution) × Binds (now program) (now scratch) bs) ⌝ }
-    ensures { λ r. ⌜ ((bs : Substitution) → Binds (now (program .entry)) (now (scratch .entry)) bs → LookedAs bs (var x) steps r) ⌝ }
+    requires { ⌜ (x < most-variables) × ((bs : Substitution) × Binds (now program) (now scratch) bs) ⌝ }
+    ensures { λ r. ⌜ ((bs : Substitution) → Binds (now (program .entry)) (now (scratch .entry)) bs → LookedThroughAs bs (var x) steps r) ⌝ }
 {
     let entry = scratch[x as usize];
     if entry != 0 {
@@ -34,7 +35,7 @@ pub(crate) fn look_parameter(program: &[u32], scratch: &[u32], x: u32, steps: u3
 }
 
 pub(crate) fn name_parameter(program: &[u32], scratch: &mut [u32], x: u32, top: u32) -> u32
-    requires { ⌜ (x < 2048) × ((bs : Substitution) × (names : List ℕ) × Binds (now program) (now scratch) bs × Names (now scratch) top names) ⌝ }
+    requires { ⌜ (x < most-variables) × ((bs : Substitution) × (names : List ℕ) × Binds (now program) (now scratch) bs × Names (now scratch) top names) ⌝ }
     ensures { λ r. ⌜ ((bs : Substitution) (names : List ℕ) → Binds (now (program .entry)) (now (scratch .entry)) bs → Names (now (scratch .entry)) top names
         → Named (now (scratch .entry)) (now (scratch .exit)) r (appear names (resolve bs (var x)))) ⌝ }
 {
@@ -53,7 +54,7 @@ pub(crate) fn put_parameter(
     start: usize,
     end: usize,
 ) -> Put
-    requires { ⌜ (x < 2048) × ((bs : Substitution) × (names : List ℕ) × Binds (now program) (now scratch) bs
+    requires { ⌜ (x < most-variables) × ((bs : Substitution) × (names : List ℕ) × Binds (now program) (now scratch) bs
         × Puts (now scratch) (now output) start end names (vars-in names (resolve bs (var x)))) ⌝ }
     ensures { λ r. ⌜ ((bs : Substitution) (names : List ℕ) → Binds (now (program .entry)) (now (scratch .entry)) bs
         → Puts (now (scratch .entry)) (now (output .entry)) start end names (vars-in names (resolve bs (var x)))
@@ -73,7 +74,7 @@ pub(crate) fn look_parameters(
     count: u32,
     steps: u32,
 ) -> LookedThrough
-    requires { ⌜ (count ≤ 2048) × ((bs : Substitution) × Binds (now program) (now scratch) bs) ⌝ }
+    requires { ⌜ (count ≤ most-variables) × ((bs : Substitution) × Binds (now program) (now scratch) bs) ⌝ }
     ensures { λ r. ⌜ ((bs : Substitution) → Binds (now (program .entry)) (now (scratch .entry)) bs → ThroughAs bs (parameters 0 count) steps r) ⌝ }
 {
     let mut left = steps;
@@ -96,7 +97,7 @@ pub(crate) fn look_parameters(
 }
 
 pub(crate) fn name_parameters(program: &[u32], scratch: &mut [u32], count: u32) -> u32
-    requires { ⌜ (count ≤ 2048) × ((bs : Substitution) × Binds (now program) (now scratch) bs × Names (now scratch) 0 []) ⌝ }
+    requires { ⌜ (count ≤ most-variables) × ((bs : Substitution) × Binds (now program) (now scratch) bs × Names (now scratch) 0 []) ⌝ }
     ensures { λ r. ⌜ ((bs : Substitution) → Binds (now (program .entry)) (now (scratch .entry)) bs → Names (now (scratch .entry)) 0 []
         → Named (now (scratch .entry)) (now (scratch .exit)) r (names-of bs count)) ⌝ }
 {
@@ -117,7 +118,7 @@ pub(crate) fn put_parameters(
     start: usize,
     end: usize,
 ) -> Put
-    requires { ⌜ (start ≤ end) × Room (now output) end × (count ≤ 2048) × ((bs : Substitution) × (names : List ℕ) × Query (now program) (now scratch) count bs names) ⌝ }
+    requires { ⌜ (start ≤ end) × Room (now output) end × (count ≤ most-variables) × ((bs : Substitution) × (names : List ℕ) × Query (now program) (now scratch) count bs names) ⌝ }
     ensures { λ r. ⌜ ((bs : Substitution) (names : List ℕ) → Query (now (program .entry)) (now (scratch .entry)) count bs names
         → Placed (now (output .entry)) (now (output .exit)) start end true (query-words bs names 0 count) r) ⌝ }
 {

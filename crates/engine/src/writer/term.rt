@@ -10,6 +10,7 @@ ghost use lib.ListN.{length};
 ghost use Rattle.rules.specs.Syntax.{Term, var};
 ghost use Rattle.rules.specs.Written.{part, term-words};
 ghost use Rattle.semantics.specs.Answer.{member, index, reify, vars-in};
+ghost use Rattle.engine.specs.Layout.{most-variables};
 ghost use Rattle.engine.specs.Walk.{Resolves};
 ghost use Rattle.engine.specs.Term.{Room, Puts, WordPut, Laid, Placed};
 
@@ -76,7 +77,7 @@ pub(crate) fn put_variable(
     end: usize,
     write: bool,
 ) -> Put
-    requires { ⌜ (x < 2048) × ((names : List ℕ) × Puts (now scratch) (now output) at end names (member x names)) ⌝ }
+    requires { ⌜ (x < most-variables) × ((names : List ℕ) × Puts (now scratch) (now output) at end names (member x names)) ⌝ }
     ensures { λ r. ⌜ ((names : List ℕ) → Puts (now (scratch .entry)) (now (output .entry)) at end names (member x names)
         → Placed (now (output .entry)) (now (output .exit)) at end write (term-words (var (index x names))) r) ⌝ }
 {

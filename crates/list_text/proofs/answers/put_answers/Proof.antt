@@ -6,7 +6,8 @@ use native.Mathlib.Omega.{arith}
 use lib.ListN.{length, drop, getD, length-drop, length-take, take}
 use Rattle.word.specs.Word.{kind, payload}
 use Rattle.semantics.specs.Run.{answers-on}
-use Rattle.list_text.specs.Listing.{joined, line}
+use Rattle.rules.specs.Lists.{joined}
+use Rattle.list_text.specs.Listing.{line}
 use Rattle.list_text.proofs.PageLaws.{no-answer, no-page, one-answer}
 use Rattle.list_text.proofs.TextLaws.{Left, begin, done, step}
 use borrow.Author.Needs.{needs}

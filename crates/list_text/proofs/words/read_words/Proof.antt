@@ -21,29 +21,29 @@ loop-holds c = (omega arith, refl, refl)
 mul-at : tie.Need-mul-at Inv-loop μ-loop
 mul-at c = search needs
 
-shared-slice-read-word : tie.Need-shared-slice-read-word Inv-loop μ-loop
-shared-slice-read-word c = search needs
+shared-slice-read-from-bytes : tie.Need-shared-slice-read-from-bytes Inv-loop μ-loop
+shared-slice-read-from-bytes c = search needs
 
-add-word : tie.Need-add-word Inv-loop μ-loop
-add-word c = search needs
+add-from-bytes : tie.Need-add-from-bytes Inv-loop μ-loop
+add-from-bytes c = search needs
 
-shared-slice-read-word-2 : tie.Need-shared-slice-read-word-2 Inv-loop μ-loop
-shared-slice-read-word-2 c = search needs
+shared-slice-read-from-bytes-2 : tie.Need-shared-slice-read-from-bytes-2 Inv-loop μ-loop
+shared-slice-read-from-bytes-2 c = search needs
 
-add-word-2 : tie.Need-add-word-2 Inv-loop μ-loop
-add-word-2 c = search needs
+add-from-bytes-2 : tie.Need-add-from-bytes-2 Inv-loop μ-loop
+add-from-bytes-2 c = search needs
 
-shared-slice-read-word-3 : tie.Need-shared-slice-read-word-3 Inv-loop μ-loop
-shared-slice-read-word-3 c = search needs
+shared-slice-read-from-bytes-3 : tie.Need-shared-slice-read-from-bytes-3 Inv-loop μ-loop
+shared-slice-read-from-bytes-3 c = search needs
 
-add-word-3 : tie.Need-add-word-3 Inv-loop μ-loop
-add-word-3 c = search needs
+add-from-bytes-3 : tie.Need-add-from-bytes-3 Inv-loop μ-loop
+add-from-bytes-3 c = search needs
 
-shared-slice-read-word-4 : tie.Need-shared-slice-read-word-4 Inv-loop μ-loop
-shared-slice-read-word-4 c = search needs
+shared-slice-read-from-bytes-4 : tie.Need-shared-slice-read-from-bytes-4 Inv-loop μ-loop
+shared-slice-read-from-bytes-4 c = search needs
 
-word-requires : tie.Need-word-requires Inv-loop μ-loop
-word-requires c κs = search needs
+from-bytes-requires : tie.Need-from-bytes-requires Inv-loop μ-loop
+from-bytes-requires c κs = search needs
 
 mul-words : tie.Need-mul-words Inv-loop μ-loop
 mul-words c = search needs
@@ -63,7 +63,7 @@ loop-again c =
     let bytes = l .before .before .before .args .bytes .now in
     let inside : l .loop .i < length (l .loop .words) = omega arith in
     let whole : 4 * l .loop .i + 3 < length bytes = omega arith in
-    (omega arith, simp length-set (omega arith), word-more (l .loop .words) bytes (l .loop .i) _ (l .loop .inv .2) inside whole (c .word .ensures))
+    (omega arith, simp length-set (omega arith), word-more (l .loop .words) bytes (l .loop .i) _ (l .loop .inv .2) inside whole (c .from-bytes .ensures))
 
 same-length : tie.Need-same-length Inv-loop μ-loop
 same-length c = c .before .loop .inv .1
@@ -79,14 +79,14 @@ read-words-spec =
     μ-loop
     loop-holds
     mul-at
-    shared-slice-read-word
-    add-word
-    shared-slice-read-word-2
-    add-word-2
-    shared-slice-read-word-3
-    add-word-3
-    shared-slice-read-word-4
-    word-requires
+    shared-slice-read-from-bytes
+    add-from-bytes
+    shared-slice-read-from-bytes-2
+    add-from-bytes-2
+    shared-slice-read-from-bytes-3
+    add-from-bytes-3
+    shared-slice-read-from-bytes-4
+    from-bytes-requires
     mul-words
     slice-write-words
     add-i

@@ -5,13 +5,13 @@ use Prim.Native.Nat.{_+_, _-_, _≤_}
 use native.Mathlib.Omega.{arith}
 use lib.ListN.{length}
 use Rattle.rules.specs.Syntax.{Term}
-use Rattle.rules.specs.Inner.{TermsAt}
+use Rattle.rules.specs.Inner.{GoodTermsAt}
 use Rattle.rules.proofs.Pass.{term-first, term-rest, terms-none}
 use Rattle.rules.proofs.calls.count_terms.Statement.{statement}
 use Rattle.rules.proofs.calls.count_terms.Tie as tie
 
 abbrev Inv-loop : tie.InvT-loop
-Inv-loop program start end at₀ count₀ at count = (count ≤ at) × ((ts : List Term) → TermsAt program start end ts → (us : List Term) × TermsAt program at end us × (count + length us ≡ length ts))
+Inv-loop program start end at₀ count₀ at count = (count ≤ at) × ((ts : List Term) → GoodTermsAt program start end ts → (us : List Term) × GoodTermsAt program at end us × (count + length us ≡ length ts))
 
 abbrev μ-loop : tie.MeasureT-loop
 μ-loop program start end at₀ count₀ at count = end - at

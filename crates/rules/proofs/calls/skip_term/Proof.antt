@@ -5,13 +5,13 @@ use native.Mathlib.Omega.{arith}
 use lib.ListN.{length}
 use Rattle.rules.specs.Syntax.{Term}
 use Rattle.rules.specs.Written.{term-words}
-use Rattle.rules.specs.Inner.{TermAt}
+use Rattle.rules.specs.Inner.{GoodTermAt}
 use Rattle.rules.proofs.Pass.{term-inside, skip-pair, skip-leaf}
 use Rattle.rules.proofs.calls.skip_term.Statement.{statement}
 use Rattle.rules.proofs.calls.skip_term.Tie as tie
 
 abbrev Inv-loop : tie.InvT-loop
-Inv-loop program start at₀ at = (t : Term) → TermAt program start t → (u : Term) × TermAt program at u × (at + length (term-words u) ≡ start + length (term-words t))
+Inv-loop program start at₀ at = (t : Term) → GoodTermAt program start t → (u : Term) × GoodTermAt program at u × (at + length (term-words u) ≡ start + length (term-words t))
 
 abbrev μ-loop : tie.MeasureT-loop
 μ-loop program start at₀ at = length program - at

@@ -20,44 +20,44 @@ abbrev μ-loop : tie.MeasureT-loop
 loop-holds : tie.Need-loop-holds Inv-loop μ-loop
 loop-holds c = λ bs t f. (t, f, refl)
 
-node-at-requires : tie.Need-node-at-requires Inv-loop μ-loop
-node-at-requires c κs = stands-inside ((c .loop .inv (c .before .before .before .pre .0) (c .before .before .before .pre .1) (c .before .before .before .pre .2) .1) .stands)
+part-at-requires : tie.Need-part-at-requires Inv-loop μ-loop
+part-at-requires c κs = stands-inside ((c .loop .inv (c .before .before .before .pre .0) (c .before .before .before .pre .1) (c .before .before .before .pre .2) .1) .stands)
 
 returns : tie.Need-returns Inv-loop μ-loop
-returns c = λ bs t f. let q = c .before .before .before .loop .inv bs t f in subst (Stands _ _) (q .2) (last-other _ bs _ _ _ _ (q .0) (q .1 .stands) (c .before .before .node-at .ensures) (c .if1 .taken))
+returns c = λ bs t f. let q = c .before .before .before .loop .inv bs t f in subst (Stands _ _) (q .2) (last-other _ bs _ _ _ _ (q .0) (q .1 .stands) (c .before .before .part-at .ensures) (c .if1 .taken))
 
 variable-at-requires : tie.Need-variable-at-requires Inv-loop μ-loop
-variable-at-requires c κs = omega (arith, walk-variable (c .before .before .before .loop .inv (c .before .before .before .before .before .before .pre .0) (c .before .before .before .before .before .before .pre .1) (c .before .before .before .before .before .before .pre .2) .1) (c .before .before .node-at .ensures) (c .if1 .left))
+variable-at-requires c κs = omega (arith, walk-variable (c .before .before .before .loop .inv (c .before .before .before .before .before .before .pre .0) (c .before .before .before .before .before .before .pre .1) (c .before .before .before .before .before .before .pre .2) .1) (c .before .before .part-at .ensures) (c .if1 .left))
 
 cast-entry : tie.Need-cast-entry Inv-loop μ-loop
-cast-entry c = omega (arith, c .variable-at .ensures, walk-variable (c .before .before .before .before .loop .inv (c .before .before .before .before .before .before .before .pre .0) (c .before .before .before .before .before .before .before .pre .1) (c .before .before .before .before .before .before .before .pre .2) .1) (c .before .before .before .node-at .ensures) (c .before .if1 .left))
+cast-entry c = omega (arith, c .variable-at .ensures, walk-variable (c .before .before .before .before .loop .inv (c .before .before .before .before .before .before .before .pre .0) (c .before .before .before .before .before .before .before .pre .1) (c .before .before .before .before .before .before .before .pre .2) .1) (c .before .before .before .part-at .ensures) (c .before .if1 .left))
 
 mul-entry : tie.Need-mul-entry Inv-loop μ-loop
-mul-entry c = omega (arith, c .variable-at .ensures, walk-variable (c .before .before .before .before .loop .inv (c .before .before .before .before .before .before .before .pre .0) (c .before .before .before .before .before .before .before .pre .1) (c .before .before .before .before .before .before .before .pre .2) .1) (c .before .before .before .node-at .ensures) (c .before .if1 .left))
+mul-entry c = omega (arith, c .variable-at .ensures, walk-variable (c .before .before .before .before .loop .inv (c .before .before .before .before .before .before .before .pre .0) (c .before .before .before .before .before .before .before .pre .1) (c .before .before .before .before .before .before .before .pre .2) .1) (c .before .before .before .part-at .ensures) (c .before .if1 .left))
 
 shared-slice-read-entry : tie.Need-shared-slice-read-entry Inv-loop μ-loop
-shared-slice-read-entry c = let f = c .before .before .before .before .before .loop .inv (c .before .before .before .before .before .before .before .before .pre .0) (c .before .before .before .before .before .before .before .before .pre .1) (c .before .before .before .before .before .before .before .before .pre .2) .1 in omega (arith, c .before .variable-at .ensures, walk-variable f (c .before .before .before .before .node-at .ensures) (c .before .before .if1 .left), f .binds .long)
+shared-slice-read-entry c = let f = c .before .before .before .before .before .loop .inv (c .before .before .before .before .before .before .before .before .pre .0) (c .before .before .before .before .before .before .before .before .pre .1) (c .before .before .before .before .before .before .before .before .pre .2) .1 in omega (arith, c .before .variable-at .ensures, walk-variable f (c .before .before .before .before .part-at .ensures) (c .before .before .if1 .left), f .binds .long)
 
 returns-2 : tie.Need-returns-2 Inv-loop μ-loop
-returns-2 c = λ bs t f. let q = c .before .before .before .before .before .before .loop .inv bs t f in subst (Stands _ _) (q .2) (last-open _ _ bs _ _ _ _ _ (q .0) (q .1) (c .before .before .before .before .before .node-at .ensures) (c .before .before .before .if1 .left) (c .before .before .variable-at .ensures) (c .if2 .taken))
+returns-2 c = λ bs t f. let q = c .before .before .before .before .before .before .loop .inv bs t f in subst (Stands _ _) (q .2) (last-open _ _ bs _ _ _ _ _ (q .0) (q .1) (c .before .before .before .before .before .part-at .ensures) (c .before .before .before .if1 .left) (c .before .before .variable-at .ensures) (c .if2 .taken))
 
-sub-node-at : tie.Need-sub-node-at Inv-loop μ-loop
-sub-node-at c = omega (arith, c .if2 .left)
+sub-part-at : tie.Need-sub-part-at Inv-loop μ-loop
+sub-part-at c = omega (arith, c .if2 .left)
 
-node-at-requires-2 : tie.Need-node-at-requires-2 Inv-loop μ-loop
-node-at-requires-2 c κs = stands-inside (walk-hop (c .before .before .before .before .before .before .loop .inv (c .before .before .before .before .before .before .before .before .before .pre .0) (c .before .before .before .before .before .before .before .before .before .pre .1) (c .before .before .before .before .before .before .before .before .before .pre .2) .1) (c .before .before .before .before .before .node-at .ensures) (c .before .before .variable-at .ensures) (c .before .before .before .if1 .left) (c .if2 .left) .follows .stands)
+part-at-requires-2 : tie.Need-part-at-requires-2 Inv-loop μ-loop
+part-at-requires-2 c κs = stands-inside (walk-hop (c .before .before .before .before .before .before .loop .inv (c .before .before .before .before .before .before .before .before .before .pre .0) (c .before .before .before .before .before .before .before .before .before .pre .1) (c .before .before .before .before .before .before .before .before .before .pre .2) .1) (c .before .before .before .before .before .part-at .ensures) (c .before .before .variable-at .ensures) (c .before .before .before .if1 .left) (c .if2 .left) .follows .stands)
 
 returns-3 : tie.Need-returns-3 Inv-loop μ-loop
-returns-3 c = λ bs t f. let q = c .before .before .before .before .before .before .before .before .before .loop .inv bs t f in subst (Stands _ _) (q .2) (last-stop _ _ bs _ _ _ _ _ _ _ _ (q .0) (q .1) (c .before .before .before .before .before .before .before .before .node-at .ensures) (c .before .before .before .before .before .before .if1 .left) (c .before .before .before .before .before .variable-at .ensures) (c .before .before .before .if2 .left) (c .before .before .node-at2 .ensures) (c .if3 .taken))
+returns-3 c = λ bs t f. let q = c .before .before .before .before .before .before .before .before .before .loop .inv bs t f in subst (Stands _ _) (q .2) (last-stop _ _ bs _ _ _ _ _ _ _ _ (q .0) (q .1) (c .before .before .before .before .before .before .before .before .part-at .ensures) (c .before .before .before .before .before .before .if1 .left) (c .before .before .before .before .before .variable-at .ensures) (c .before .before .before .if2 .left) (c .before .before .part-at2 .ensures) (c .if3 .taken))
 
 sub-at : tie.Need-sub-at Inv-loop μ-loop
 sub-at c = omega (arith, c .before .before .before .if2 .left)
 
 loop-less : tie.Need-loop-less Inv-loop μ-loop
-loop-less c = walk-hop (c .before .before .before .before .before .before .before .before .before .loop .inv (c .before .before .before .before .before .before .before .before .before .before .before .before .pre .0) (c .before .before .before .before .before .before .before .before .before .before .before .before .pre .1) (c .before .before .before .before .before .before .before .before .before .before .before .before .pre .2) .1) (c .before .before .before .before .before .before .before .before .node-at .ensures) (c .before .before .before .before .before .variable-at .ensures) (c .before .before .before .before .before .before .if1 .left) (c .before .before .before .if2 .left) .falls
+loop-less c = walk-hop (c .before .before .before .before .before .before .before .before .before .loop .inv (c .before .before .before .before .before .before .before .before .before .before .before .before .pre .0) (c .before .before .before .before .before .before .before .before .before .before .before .before .pre .1) (c .before .before .before .before .before .before .before .before .before .before .before .before .pre .2) .1) (c .before .before .before .before .before .before .before .before .part-at .ensures) (c .before .before .before .before .before .variable-at .ensures) (c .before .before .before .before .before .before .if1 .left) (c .before .before .before .if2 .left) .falls
 
 loop-again : tie.Need-loop-again Inv-loop μ-loop
-loop-again c = λ bs t f. let q = c .before .before .before .before .before .before .before .before .before .loop .inv bs t f in let o = last-onward _ _ bs _ _ _ _ _ _ _ _ (q .0) (q .1) (c .before .before .before .before .before .before .before .before .node-at .ensures) (c .before .before .before .before .before .before .if1 .left) (c .before .before .before .before .before .variable-at .ensures) (c .before .before .before .if2 .left) (c .before .before .node-at2 .ensures) (c .if3 .left) in (o .next, o .there, o .same ∙ q .2)
+loop-again c = λ bs t f. let q = c .before .before .before .before .before .before .before .before .before .loop .inv bs t f in let o = last-onward _ _ bs _ _ _ _ _ _ _ _ (q .0) (q .1) (c .before .before .before .before .before .before .before .before .part-at .ensures) (c .before .before .before .before .before .before .if1 .left) (c .before .before .before .before .before .variable-at .ensures) (c .before .before .before .if2 .left) (c .before .before .part-at2 .ensures) (c .if3 .left) in (o .next, o .there, o .same ∙ q .2)
 
 pub last-variable-spec : {M : Type 1} → statement M
 last-variable-spec =
@@ -66,15 +66,15 @@ last-variable-spec =
     Inv-loop
     μ-loop
     loop-holds
-    node-at-requires
+    part-at-requires
     returns
     variable-at-requires
     cast-entry
     mul-entry
     shared-slice-read-entry
     returns-2
-    sub-node-at
-    node-at-requires-2
+    sub-part-at
+    part-at-requires-2
     returns-3
     sub-at
     loop-less

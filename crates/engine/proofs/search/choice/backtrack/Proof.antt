@@ -47,8 +47,8 @@ slice-read-mark c = search needs
 undo-requires : tie.Need-undo-requires
 undo-requires c κs = back-undoes (c .before .before .before .before .before .before .before .before .before .args .st) (c .before .before .before .before .before .before .before .before .before .pre .3) (c .before .before .before .before .before .if1 .left)
 
-node-at-requires : tie.Need-node-at-requires
-node-at-requires c κs = back-next (back-came (c .before .before .before .before .before .before .before .before .before .before .before .before .args .st) (c .before .before .before .before .before .before .before .before .before .before .before .before .pre .3) (c .before .before .before .before .before .before .before .before .if1 .left) (c .before .before .undo .ensures)) .inside
+part-at-requires : tie.Need-part-at-requires
+part-at-requires c κs = back-next (back-came (c .before .before .before .before .before .before .before .before .before .before .before .before .args .st) (c .before .before .before .before .before .before .before .before .before .before .before .before .pre .3) (c .before .before .before .before .before .before .before .before .if1 .left) (c .before .before .undo .ensures)) .inside
 
 part-end-requires : tie.Need-part-end-requires
 part-end-requires c κs = search needs
@@ -63,13 +63,13 @@ same-length : tie.Need-same-length
 same-length c = search needs
 
 returns-2 : tie.Need-returns-2
-returns-2 c = λ P p cs t h. back-last (back-came _ h (c .before .before .before .before .before .before .before .before .before .before .before .before .before .before .if1 .left) (c .before .before .before .before .before .before .before .before .undo .ensures)) t (c .before .before .before .before .before .node-at .ensures) (c .before .before .before .before .part-end .ensures) (c .before .before .before .if2 .taken) (c .saved-state .ensures)
+returns-2 c = λ P p cs t h. back-last (back-came _ h (c .before .before .before .before .before .before .before .before .before .before .before .before .before .before .if1 .left) (c .before .before .before .before .before .before .before .before .undo .ensures)) t (c .before .before .before .before .before .part-at .ensures) (c .before .before .before .before .part-end .ensures) (c .before .before .before .if2 .taken) (c .saved-state .ensures)
 
 add-scratch : tie.Need-add-scratch
 add-scratch c = omega (arith, back-next (back-came (c .before .before .before .before .before .before .before .before .before .before .before .before .before .before .before .args .st) (c .before .before .before .before .before .before .before .before .before .before .before .before .before .before .before .pre .3) (c .before .before .before .before .before .before .before .before .before .before .before .if1 .left) (c .before .before .before .before .before .undo .ensures)) .below)
 
 add-scratch-2 : tie.Need-add-scratch-2
-add-scratch-2 c = let x = back-next (back-came (c .before .before .before .before .before .before .before .before .before .before .before .before .before .before .before .args .st) (c .before .before .before .before .before .before .before .before .before .before .before .before .before .before .before .pre .3) (c .before .before .before .before .before .before .before .before .before .before .before .if1 .left) (c .before .before .before .before .before .undo .ensures)) in omega (arith, x .below, x .within, x .small, c .before .before .node-at .ensures .is-payload)
+add-scratch-2 c = let x = back-next (back-came (c .before .before .before .before .before .before .before .before .before .before .before .before .before .before .before .args .st) (c .before .before .before .before .before .before .before .before .before .before .before .before .before .before .before .pre .3) (c .before .before .before .before .before .before .before .before .before .before .before .if1 .left) (c .before .before .before .before .before .undo .ensures)) in omega (arith, x .below, x .within, x .small, c .before .before .part-at .ensures .is-payload)
 
 mul-scratch : tie.Need-mul-scratch
 mul-scratch c = search needs
@@ -84,7 +84,7 @@ same-length-2 : tie.Need-same-length-2
 same-length-2 c = search needs
 
 returns-3 : tie.Need-returns-3
-returns-3 c = λ P p cs t h. back-more (back-came _ h (c .before .before .before .before .before .before .before .before .before .before .before .before .before .if1 .left) (c .before .before .before .before .before .before .before .undo .ensures)) t (c .before .before .before .before .before .before .before .before .before .before .before .before .before .if1 .left) (c .before .before .before .before .node-at .ensures) (c .before .before .before .part-end .ensures) (c .before .before .if2 .left) (c .saved-state2 .ensures)
+returns-3 c = λ P p cs t h. back-more (back-came _ h (c .before .before .before .before .before .before .before .before .before .before .before .before .before .if1 .left) (c .before .before .before .before .before .before .before .undo .ensures)) t (c .before .before .before .before .before .before .before .before .before .before .before .before .before .if1 .left) (c .before .before .before .before .part-at .ensures) (c .before .before .before .part-end .ensures) (c .before .before .if2 .left) (c .saved-state2 .ensures)
 
 pub backtrack-spec : {M : Type 1} → statement M
 backtrack-spec =
@@ -104,7 +104,7 @@ backtrack-spec =
     mul-mark
     slice-read-mark
     undo-requires
-    node-at-requires
+    part-at-requires
     part-end-requires
     sub-saved-state
     saved-state-requires

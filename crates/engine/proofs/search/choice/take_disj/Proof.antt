@@ -10,8 +10,8 @@ add-t12 c = search needs
 returns : tie.Need-returns
 returns c = λ P p cs base gs t. disj-full t _ (c .before .if1 .taken)
 
-node-at-requires : tie.Need-node-at-requires
-node-at-requires c κs = search needs
+part-at-requires : tie.Need-part-at-requires
+part-at-requires c κs = search needs
 
 part-end-requires : tie.Need-part-end-requires
 part-end-requires c κs = search needs
@@ -19,8 +19,8 @@ part-end-requires c κs = search needs
 add-first : tie.Need-add-first
 add-first c = search needs
 
-node-at-requires-2 : tie.Need-node-at-requires-2
-node-at-requires-2 c κs = disj-inside (c .before .before .before .before .before .before .pre .5) (c .before .node-at .ensures)
+part-at-requires-2 : tie.Need-part-at-requires-2
+part-at-requires-2 c κs = disj-inside (c .before .before .before .before .before .before .pre .5) (c .before .part-at .ensures)
 
 part-end-requires-2 : tie.Need-part-end-requires-2
 part-end-requires-2 c κs = search needs
@@ -32,13 +32,13 @@ same-length : tie.Need-same-length
 same-length c = search needs
 
 returns-2 : tie.Need-returns-2
-returns-2 c = λ P p cs base gs t. disj-last gs t (c .before .before .before .before .before .before .before .before .node-at .ensures) (c .before .before .before .before .before .before .before .part-end .ensures) (c .before .before .before .before .before .before .before .before .before .if1 .left) (c .before .before .before .before .before .before .node-at2 .ensures) (c .before .before .before .before .before .part-end2 .ensures) (c .before .before .before .before .if2 .taken) (c .before .before .push-goal .ensures .0) (c .before .before .push-goal .ensures .1)
+returns-2 c = λ P p cs base gs t. disj-last gs t (c .before .before .before .before .before .before .before .before .part-at .ensures) (c .before .before .before .before .before .before .before .part-end .ensures) (c .before .before .before .before .before .before .before .before .before .if1 .left) (c .before .before .before .before .before .before .part-at2 .ensures) (c .before .before .before .before .before .part-end2 .ensures) (c .before .before .before .before .if2 .taken) (c .before .before .push-goal .ensures .0) (c .before .before .push-goal .ensures .1)
 
 add-t22 : tie.Need-add-t22
 add-t22 c = search needs
 
 returns-3 : tie.Need-returns-3
-returns-3 c = λ P p cs base gs t. disj-many gs _ t (c .before .before .before .before .before .before .before .node-at .ensures) (c .before .before .before .before .before .before .part-end .ensures) (c .before .before .before .before .before .before .before .before .if1 .left) (c .before .before .before .before .before .node-at2 .ensures) (c .before .before .before .before .part-end2 .ensures) (c .before .before .before .if2 .left) (c .before .if3 .taken)
+returns-3 c = λ P p cs base gs t. disj-many gs _ t (c .before .before .before .before .before .before .before .part-at .ensures) (c .before .before .before .before .before .before .part-end .ensures) (c .before .before .before .before .before .before .before .before .if1 .left) (c .before .before .before .before .before .part-at2 .ensures) (c .before .before .before .before .part-end2 .ensures) (c .before .before .before .if2 .left) (c .before .if3 .taken)
 
 add-push-choice : tie.Need-add-push-choice
 add-push-choice c = search needs
@@ -56,7 +56,7 @@ same-length-2 : tie.Need-same-length-2
 same-length-2 c = search needs
 
 returns-4 : tie.Need-returns-4
-returns-4 c = λ P p cs base gs t. disj-goes gs t (c .before .before .before .before .before .before .before .before .before .before .before .before .before .before .node-at .ensures) (c .before .before .before .before .before .before .before .before .before .before .before .before .before .part-end .ensures) (c .before .before .before .before .before .before .before .before .before .before .before .before .before .before .before .if1 .left) (c .before .before .before .before .before .before .before .before .before .before .before .before .node-at2 .ensures) (c .before .before .before .before .before .before .before .before .before .before .before .part-end2 .ensures) (c .before .before .before .before .before .before .before .before .before .before .if2 .left) (c .before .before .before .before .before .before .before .before .if3 .left) (c .before .before .before .before .before .before .push-choice .ensures .0) (c .before .before .before .before .before .before .push-choice .ensures .1) (c .before .before .push-goal2 .ensures .0) (c .before .before .push-goal2 .ensures .1)
+returns-4 c = λ P p cs base gs t. disj-goes gs t (c .before .before .before .before .before .before .before .before .before .before .before .before .before .before .part-at .ensures) (c .before .before .before .before .before .before .before .before .before .before .before .before .before .part-end .ensures) (c .before .before .before .before .before .before .before .before .before .before .before .before .before .before .before .if1 .left) (c .before .before .before .before .before .before .before .before .before .before .before .before .part-at2 .ensures) (c .before .before .before .before .before .before .before .before .before .before .before .part-end2 .ensures) (c .before .before .before .before .before .before .before .before .before .before .if2 .left) (c .before .before .before .before .before .before .before .before .if3 .left) (c .before .before .before .before .before .before .push-choice .ensures .0) (c .before .before .before .before .before .before .push-choice .ensures .1) (c .before .before .push-goal2 .ensures .0) (c .before .before .push-goal2 .ensures .1)
 
 pub take-disj-spec : {M : Type 1} → statement M
 take-disj-spec =
@@ -64,10 +64,10 @@ take-disj-spec =
     (tie.spec
     add-t12
     returns
-    node-at-requires
+    part-at-requires
     part-end-requires
     add-first
-    node-at-requires-2
+    part-at-requires-2
     part-end-requires-2
     push-goal-requires
     same-length

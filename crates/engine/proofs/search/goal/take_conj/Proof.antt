@@ -18,17 +18,17 @@ Inv-loop program scratch₀ st conjunction end goal₀ filled₀ scratch goal fi
 abbrev μ-loop : tie.MeasureT-loop
 μ-loop program scratch₀ st conjunction end goal₀ filled₀ scratch goal filled = 1024 - filled
 
-node-at-requires : tie.Need-node-at-requires Inv-loop μ-loop
-node-at-requires c κs = task-inside _ _ _ (c .before .before .pre .5 .task-at)
+part-at-requires : tie.Need-part-at-requires Inv-loop μ-loop
+part-at-requires c κs = task-inside _ _ _ (c .before .before .pre .5 .task-at)
 
 part-end-requires : tie.Need-part-end-requires Inv-loop μ-loop
-part-end-requires c κs = omega (arith, task-end _ _ _ _ _ _ (c .before .before .before .pre .5 .task-at) (c .node-at .ensures) .0)
+part-end-requires c κs = omega (arith, task-end _ _ _ _ _ _ (c .before .before .before .pre .5 .task-at) (c .part-at .ensures) .0)
 
 add-goal : tie.Need-add-goal Inv-loop μ-loop
-add-goal c = omega (arith, task-end _ _ _ _ _ _ (c .before .before .before .before .pre .5 .task-at) (c .before .node-at .ensures) .2)
+add-goal c = omega (arith, task-end _ _ _ _ _ _ (c .before .before .before .before .pre .5 .task-at) (c .before .part-at .ensures) .2)
 
 loop-holds : tie.Need-loop-holds Inv-loop μ-loop
-loop-holds c = λ P p cs base gs t. conj-starts t (c .before .node-at .ensures) (c .part-end .ensures)
+loop-holds c = λ P p cs base gs t. conj-starts t (c .before .part-at .ensures) (c .part-end .ensures)
 
 add-t14 : tie.Need-add-t14 Inv-loop μ-loop
 add-t14 c = omega (arith, c .before .before .before .before .before .before .before .pre .5 .step-taken)
@@ -39,8 +39,8 @@ same-length c = (c .before .before .loop .inv (c .before .before .before .before
 returns : tie.Need-returns Inv-loop μ-loop
 returns c = λ P p cs base gs t. conj-stops t _ (c .before .before .loop .inv P p cs base gs t) (c .before .if1 .taken)
 
-node-at-requires-2 : tie.Need-node-at-requires-2 Inv-loop μ-loop
-node-at-requires-2 c κs = (lining-next _ _ _ _ _ _ _ _ _ _ _ (c .before .loop .inv (c .before .before .before .before .before .before .pre .0) (c .before .before .before .before .before .before .pre .1) (c .before .before .before .before .before .before .pre .2) (c .before .before .before .before .before .before .pre .3) (c .before .before .before .before .before .before .pre .4) (c .before .before .before .before .before .before .pre .5))) .inside
+part-at-requires-2 : tie.Need-part-at-requires-2 Inv-loop μ-loop
+part-at-requires-2 c κs = (lining-next _ _ _ _ _ _ _ _ _ _ _ (c .before .loop .inv (c .before .before .before .before .before .before .pre .0) (c .before .before .before .before .before .before .pre .1) (c .before .before .before .before .before .before .pre .2) (c .before .before .before .before .before .before .pre .3) (c .before .before .before .before .before .before .pre .4) (c .before .before .before .before .before .before .pre .5))) .inside
 
 add-at : tie.Need-add-at Inv-loop μ-loop
 add-at c = omega (arith, c .before .if1 .left)
@@ -61,7 +61,7 @@ slice-write-scratch : tie.Need-slice-write-scratch Inv-loop μ-loop
 slice-write-scratch c = omega (arith, c .before .if1 .left, (c .before .before .loop .inv (c .before .before .before .before .before .before .before .pre .0) (c .before .before .before .before .before .before .before .pre .1) (c .before .before .before .before .before .before .before .pre .2) (c .before .before .before .before .before .before .before .pre .3) (c .before .before .before .before .before .before .before .pre .4) (c .before .before .before .before .before .before .before .pre .5)) .long, (c .before .before .loop .inv (c .before .before .before .before .before .before .before .pre .0) (c .before .before .before .before .before .before .before .pre .1) (c .before .before .before .before .before .before .before .pre .2) (c .before .before .before .before .before .before .before .pre .3) (c .before .before .before .before .before .before .before .pre .4) (c .before .before .before .before .before .before .before .pre .5)) .long-enough)
 
 part-end-requires-2 : tie.Need-part-end-requires-2 Inv-loop μ-loop
-part-end-requires-2 c κs = omega (arith, (lining-next _ _ _ _ _ _ _ _ _ _ _ (c .before .before .loop .inv (c .before .before .before .before .before .before .before .pre .0) (c .before .before .before .before .before .before .before .pre .1) (c .before .before .before .before .before .before .before .pre .2) (c .before .before .before .before .before .before .before .pre .3) (c .before .before .before .before .before .before .before .pre .4) (c .before .before .before .before .before .before .before .pre .5))) .within, (lining-next _ _ _ _ _ _ _ _ _ _ _ (c .before .before .loop .inv (c .before .before .before .before .before .before .before .pre .0) (c .before .before .before .before .before .before .before .pre .1) (c .before .before .before .before .before .before .before .pre .2) (c .before .before .before .before .before .before .before .pre .3) (c .before .before .before .before .before .before .before .pre .4) (c .before .before .before .before .before .before .before .pre .5))) .small, c .node-at2 .ensures .is-payload)
+part-end-requires-2 c κs = omega (arith, (lining-next _ _ _ _ _ _ _ _ _ _ _ (c .before .before .loop .inv (c .before .before .before .before .before .before .before .pre .0) (c .before .before .before .before .before .before .before .pre .1) (c .before .before .before .before .before .before .before .pre .2) (c .before .before .before .before .before .before .before .pre .3) (c .before .before .before .before .before .before .before .pre .4) (c .before .before .before .before .before .before .before .pre .5))) .within, (lining-next _ _ _ _ _ _ _ _ _ _ _ (c .before .before .loop .inv (c .before .before .before .before .before .before .before .pre .0) (c .before .before .before .before .before .before .before .pre .1) (c .before .before .before .before .before .before .before .pre .2) (c .before .before .before .before .before .before .before .pre .3) (c .before .before .before .before .before .before .before .pre .4) (c .before .before .before .before .before .before .before .pre .5))) .small, c .part-at2 .ensures .is-payload)
 
 add-scratch : tie.Need-add-scratch Inv-loop μ-loop
 add-scratch c = omega (arith, c .before .before .before .if1 .left)
@@ -82,7 +82,7 @@ same-length-2 : tie.Need-same-length-2 Inv-loop μ-loop
 same-length-2 c = simp length-set ((c .before .before .before .before .before .loop .inv (c .before .before .before .before .before .before .before .before .before .before .pre .0) (c .before .before .before .before .before .before .before .before .before .before .pre .1) (c .before .before .before .before .before .before .before .before .before .before .pre .2) (c .before .before .before .before .before .before .before .before .before .before .pre .3) (c .before .before .before .before .before .before .before .before .before .before .pre .4) (c .before .before .before .before .before .before .before .before .before .before .pre .5)) .long)
 
 returns-2 : tie.Need-returns-2 Inv-loop μ-loop
-returns-2 c = λ P p cs base gs t. conj-goes t (c .before .before .before .before .before .before .before .node-at .ensures) (c .before .before .before .before .before .before .part-end .ensures) (c .before .before .before .before .before .loop .inv P p cs base gs t) (omega (arith, c .before .before .before .before .if1 .left)) (c .before .before .before .node-at2 .ensures) (c .before .before .part-end2 .ensures) (c .before .if2 .taken)
+returns-2 c = λ P p cs base gs t. conj-goes t (c .before .before .before .before .before .before .before .part-at .ensures) (c .before .before .before .before .before .before .part-end .ensures) (c .before .before .before .before .before .loop .inv P p cs base gs t) (omega (arith, c .before .before .before .before .if1 .left)) (c .before .before .before .part-at2 .ensures) (c .before .before .part-end2 .ensures) (c .before .if2 .taken)
 
 add-scratch-2 : tie.Need-add-scratch-2 Inv-loop μ-loop
 add-scratch-2 c = omega (arith, c .before .before .before .if1 .left)
@@ -100,7 +100,7 @@ add-goal-2 : tie.Need-add-goal-2 Inv-loop μ-loop
 add-goal-2 c = omega (arith, (lining-next _ _ _ _ _ _ _ _ _ _ _ (c .before .before .before .before .loop .inv (c .before .before .before .before .before .before .before .before .before .pre .0) (c .before .before .before .before .before .before .before .before .before .pre .1) (c .before .before .before .before .before .before .before .before .before .pre .2) (c .before .before .before .before .before .before .before .before .before .pre .3) (c .before .before .before .before .before .before .before .before .before .pre .4) (c .before .before .before .before .before .before .before .before .before .pre .5))) .below)
 
 add-goal-3 : tie.Need-add-goal-3 Inv-loop μ-loop
-add-goal-3 c = omega (arith, (lining-next _ _ _ _ _ _ _ _ _ _ _ (c .before .before .before .before .loop .inv (c .before .before .before .before .before .before .before .before .before .pre .0) (c .before .before .before .before .before .before .before .before .before .pre .1) (c .before .before .before .before .before .before .before .before .before .pre .2) (c .before .before .before .before .before .before .before .before .before .pre .3) (c .before .before .before .before .before .before .before .before .before .pre .4) (c .before .before .before .before .before .before .before .before .before .pre .5))) .below, (lining-next _ _ _ _ _ _ _ _ _ _ _ (c .before .before .before .before .loop .inv (c .before .before .before .before .before .before .before .before .before .pre .0) (c .before .before .before .before .before .before .before .before .before .pre .1) (c .before .before .before .before .before .before .before .before .before .pre .2) (c .before .before .before .before .before .before .before .before .before .pre .3) (c .before .before .before .before .before .before .before .before .before .pre .4) (c .before .before .before .before .before .before .before .before .before .pre .5))) .within, (lining-next _ _ _ _ _ _ _ _ _ _ _ (c .before .before .before .before .loop .inv (c .before .before .before .before .before .before .before .before .before .pre .0) (c .before .before .before .before .before .before .before .before .before .pre .1) (c .before .before .before .before .before .before .before .before .before .pre .2) (c .before .before .before .before .before .before .before .before .before .pre .3) (c .before .before .before .before .before .before .before .before .before .pre .4) (c .before .before .before .before .before .before .before .before .before .pre .5))) .small, c .before .before .node-at2 .ensures .is-payload)
+add-goal-3 c = omega (arith, (lining-next _ _ _ _ _ _ _ _ _ _ _ (c .before .before .before .before .loop .inv (c .before .before .before .before .before .before .before .before .before .pre .0) (c .before .before .before .before .before .before .before .before .before .pre .1) (c .before .before .before .before .before .before .before .before .before .pre .2) (c .before .before .before .before .before .before .before .before .before .pre .3) (c .before .before .before .before .before .before .before .before .before .pre .4) (c .before .before .before .before .before .before .before .before .before .pre .5))) .below, (lining-next _ _ _ _ _ _ _ _ _ _ _ (c .before .before .before .before .loop .inv (c .before .before .before .before .before .before .before .before .before .pre .0) (c .before .before .before .before .before .before .before .before .before .pre .1) (c .before .before .before .before .before .before .before .before .before .pre .2) (c .before .before .before .before .before .before .before .before .before .pre .3) (c .before .before .before .before .before .before .before .before .before .pre .4) (c .before .before .before .before .before .before .before .before .before .pre .5))) .within, (lining-next _ _ _ _ _ _ _ _ _ _ _ (c .before .before .before .before .loop .inv (c .before .before .before .before .before .before .before .before .before .pre .0) (c .before .before .before .before .before .before .before .before .before .pre .1) (c .before .before .before .before .before .before .before .before .before .pre .2) (c .before .before .before .before .before .before .before .before .before .pre .3) (c .before .before .before .before .before .before .before .before .before .pre .4) (c .before .before .before .before .before .before .before .before .before .pre .5))) .small, c .before .before .part-at2 .ensures .is-payload)
 
 add-filled : tie.Need-add-filled Inv-loop μ-loop
 add-filled c = omega (arith, c .before .before .before .if1 .left)
@@ -109,7 +109,7 @@ loop-less : tie.Need-loop-less Inv-loop μ-loop
 loop-less c = omega (arith, c .before .before .before .if1 .left)
 
 loop-again : tie.Need-loop-again Inv-loop μ-loop
-loop-again c = λ P p cs base gs t. conj-on t (c .before .before .before .before .loop .inv P p cs base gs t) (omega (arith, c .before .before .before .if1 .left)) (c .before .before .node-at2 .ensures) (c .before .part-end2 .ensures) (c .if2 .left)
+loop-again c = λ P p cs base gs t. conj-on t (c .before .before .before .before .loop .inv P p cs base gs t) (omega (arith, c .before .before .before .if1 .left)) (c .before .before .part-at2 .ensures) (c .before .part-end2 .ensures) (c .if2 .left)
 
 pub take-conj-spec : {M : Type 1} → statement M
 take-conj-spec =
@@ -117,14 +117,14 @@ take-conj-spec =
     (tie.spec
     Inv-loop
     μ-loop
-    node-at-requires
+    part-at-requires
     part-end-requires
     add-goal
     loop-holds
     add-t14
     same-length
     returns
-    node-at-requires-2
+    part-at-requires-2
     add-at
     mul-at
     add-at-2

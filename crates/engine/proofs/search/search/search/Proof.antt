@@ -29,26 +29,26 @@ turn-requires c κs = let q = c .before .before .before .before .pre in let g = 
 enum-told : tie.Need-enum-told Inv-loop μ-loop
 enum-told c = search needs
 
-counted-requires : tie.Need-counted-requires Inv-loop μ-loop
-counted-requires c κs = let q = c .before .before .before .before .before .before .before .before .before .before .pre in let g = (c .before .before .before .before .before .before .before .loop .inv .1 (q .0) (q .1) (q .2) (q .3) (suc (q .3 .tally .left)) (q .4) (omega arith)) in let x = searched-goal g _ _ _ _ _ (c .before .before .before .before .before .turn .ensures (q .0) (q .2) (g .state) (search-due (g .under))) (c .enum-told .given .1) refl .1 in omega (arith, x, g .under .fits)
+count-cuts-requires : tie.Need-count-cuts-requires Inv-loop μ-loop
+count-cuts-requires c κs = let q = c .before .before .before .before .before .before .before .before .before .before .pre in let g = (c .before .before .before .before .before .before .before .loop .inv .1 (q .0) (q .1) (q .2) (q .3) (suc (q .3 .tally .left)) (q .4) (omega arith)) in let x = searched-goal g _ _ _ _ _ (c .before .before .before .before .before .turn .ensures (q .0) (q .2) (g .state) (search-due (g .under))) (c .enum-told .given .1) refl .1 in omega (arith, x, g .under .fits)
 
 loop-less : tie.Need-loop-less Inv-loop μ-loop
 loop-less c = let q = c .before .before .before .before .before .before .before .before .before .before .before .pre in let g = (c .before .before .before .before .before .before .before .before .loop .inv .1 (q .0) (q .1) (q .2) (q .3) (suc (q .3 .tally .left)) (q .4) (omega arith)) in searched-goal g _ _ _ _ _ (c .before .before .before .before .before .before .turn .ensures (q .0) (q .2) (g .state) (search-due (g .under))) (c .before .enum-told .given .1) refl .1
 
 loop-again : tie.Need-loop-again Inv-loop μ-loop
-loop-again c = (c .before .before .before .before .before .before .turn .kept .1 .0 ∙ c .before .before .before .before .before .before .before .before .loop .inv .0, λ P wf n state fuel h lt. let g = c .before .before .before .before .before .before .before .before .loop .inv .1 P wf n state fuel h lt in searched-goal g _ _ _ _ _ (c .before .before .before .before .before .before .turn .ensures P n (g .state) (search-due (g .under))) (c .before .enum-told .given .1) (c .counted .ensures) .0)
+loop-again c = (c .before .before .before .before .before .before .turn .kept .1 .0 ∙ c .before .before .before .before .before .before .before .before .loop .inv .0, λ P wf n state fuel h lt. let g = c .before .before .before .before .before .before .before .before .loop .inv .1 P wf n state fuel h lt in searched-goal g _ _ _ _ _ (c .before .before .before .before .before .before .turn .ensures P n (g .state) (search-due (g .under))) (c .before .enum-told .given .1) (c .count-cuts .ensures) .0)
 
 enum-told-2 : tie.Need-enum-told-2 Inv-loop μ-loop
 enum-told-2 c = search needs
 
-counted-requires-2 : tie.Need-counted-requires-2 Inv-loop μ-loop
-counted-requires-2 c κs = let q = c .before .before .before .before .before .before .before .before .before .before .pre in let g = (c .before .before .before .before .before .before .before .loop .inv .1 (q .0) (q .1) (q .2) (q .3) (suc (q .3 .tally .left)) (q .4) (omega arith)) in let x = over-some g _ _ _ _ _ (c .before .before .before .before .before .turn .ensures (q .0) (q .2) (g .state) (search-due (g .under))) (c .enum-told2 .given .1) in omega (arith, x, g .under .fits)
+count-cuts-requires-2 : tie.Need-count-cuts-requires-2 Inv-loop μ-loop
+count-cuts-requires-2 c κs = let q = c .before .before .before .before .before .before .before .before .before .before .pre in let g = (c .before .before .before .before .before .before .before .loop .inv .1 (q .0) (q .1) (q .2) (q .3) (suc (q .3 .tally .left)) (q .4) (omega arith)) in let x = over-some g _ _ _ _ _ (c .before .before .before .before .before .turn .ensures (q .0) (q .2) (g .state) (search-due (g .under))) (c .enum-told2 .given .1) in omega (arith, x, g .under .fits)
 
 same-length : tie.Need-same-length Inv-loop μ-loop
 same-length c = c .before .before .before .before .before .before .turn .kept .1 .0 ∙ c .before .before .before .before .before .before .before .before .loop .inv .0
 
 returns : tie.Need-returns Inv-loop μ-loop
-returns c = λ P wf n state fuel h lt. let g = c .before .before .before .before .before .before .before .before .loop .inv .1 P wf n state fuel h lt in searched-over g _ _ _ _ _ (c .before .before .before .before .before .before .turn .ensures P n (g .state) (search-due (g .under))) (c .before .enum-told2 .given .1) (c .counted2 .ensures)
+returns c = λ P wf n state fuel h lt. let g = c .before .before .before .before .before .before .before .before .loop .inv .1 P wf n state fuel h lt in searched-over g _ _ _ _ _ (c .before .before .before .before .before .before .turn .ensures P n (g .state) (search-due (g .under))) (c .before .enum-told2 .given .1) (c .count-cuts2 .ensures)
 
 enum-told-3 : tie.Need-enum-told-3 Inv-loop μ-loop
 enum-told-3 c = search needs
@@ -77,11 +77,11 @@ search-spec =
     loop-holds
     turn-requires
     enum-told
-    counted-requires
+    count-cuts-requires
     loop-less
     loop-again
     enum-told-2
-    counted-requires-2
+    count-cuts-requires-2
     same-length
     returns
     enum-told-3

@@ -32,20 +32,20 @@ slice-write-scratch c = omega (arith, (fill-few _ _ _ _ _ _ (c .before .loop .in
 add-at : tie.Need-add-at Inv-loop μ-loop
 add-at c = omega (arith, c .loop-test .taken, (fill-few _ _ _ _ _ _ (c .before .loop .inv (c .before .before .before .before .pre .0) (c .before .before .before .before .pre .1) (c .before .before .before .before .pre .2)) (c .loop-test .taken)) .2)
 
-node-at-requires : tie.Need-node-at-requires Inv-loop μ-loop
-node-at-requires c κs = (fill-few _ _ _ _ _ _ (c .before .loop .inv (c .before .before .before .before .pre .0) (c .before .before .before .before .pre .1) (c .before .before .before .before .pre .2)) (c .loop-test .taken)) .1
+part-at-requires : tie.Need-part-at-requires Inv-loop μ-loop
+part-at-requires c κs = (fill-few _ _ _ _ _ _ (c .before .loop .inv (c .before .before .before .before .pre .0) (c .before .before .before .before .pre .1) (c .before .before .before .before .pre .2)) (c .loop-test .taken)) .1
 
 add-at-2 : tie.Need-add-at-2 Inv-loop μ-loop
-add-at-2 c = omega (arith, (fill-few _ _ _ _ _ _ (c .before .before .before .loop .inv (c .before .before .before .before .before .before .pre .0) (c .before .before .before .before .before .before .pre .1) (c .before .before .before .before .before .before .pre .2)) (c .before .before .loop-test .taken)) .2, (fill-step _ _ _ _ _ _ _ _ _ (c .before .before .before .loop .inv (c .before .before .before .before .before .before .pre .0) (c .before .before .before .before .before .before .pre .1) (c .before .before .before .before .before .before .pre .2)) (c .before .before .loop-test .taken) (c .before .node-at .ensures)) .1)
+add-at-2 c = omega (arith, (fill-few _ _ _ _ _ _ (c .before .before .before .loop .inv (c .before .before .before .before .before .before .pre .0) (c .before .before .before .before .before .before .pre .1) (c .before .before .before .before .before .before .pre .2)) (c .before .before .loop-test .taken)) .2, (fill-step _ _ _ _ _ _ _ _ _ (c .before .before .before .loop .inv (c .before .before .before .before .before .before .pre .0) (c .before .before .before .before .before .before .pre .1) (c .before .before .before .before .before .before .pre .2)) (c .before .before .loop-test .taken) (c .before .part-at .ensures)) .1)
 
 add-number : tie.Need-add-number Inv-loop μ-loop
 add-number c = omega (arith, (fill-few _ _ _ _ _ _ (c .before .before .before .loop .inv (c .before .before .before .before .before .before .pre .0) (c .before .before .before .before .before .before .pre .1) (c .before .before .before .before .before .before .pre .2)) (c .before .before .loop-test .taken)) .0)
 
 loop-less : tie.Need-loop-less Inv-loop μ-loop
-loop-less c = omega (arith, c .before .before .loop-test .taken, (fill-step _ _ _ _ _ _ _ _ _ (c .before .before .before .loop .inv (c .before .before .before .before .before .before .pre .0) (c .before .before .before .before .before .before .pre .1) (c .before .before .before .before .before .before .pre .2)) (c .before .before .loop-test .taken) (c .before .node-at .ensures)) .1)
+loop-less c = omega (arith, c .before .before .loop-test .taken, (fill-step _ _ _ _ _ _ _ _ _ (c .before .before .before .loop .inv (c .before .before .before .before .before .before .pre .0) (c .before .before .before .before .before .before .pre .1) (c .before .before .before .before .before .before .pre .2)) (c .before .before .loop-test .taken) (c .before .part-at .ensures)) .1)
 
 loop-again : tie.Need-loop-again Inv-loop μ-loop
-loop-again c = λ P h few. fill-step _ _ _ P _ _ _ _ _ (c .before .before .before .loop .inv P h few) (c .before .before .loop-test .taken) (c .before .node-at .ensures) .0
+loop-again c = λ P h few. fill-step _ _ _ P _ _ _ _ _ (c .before .before .before .loop .inv P h few) (c .before .before .loop-test .taken) (c .before .part-at .ensures) .0
 
 same-length : tie.Need-same-length Inv-loop μ-loop
 same-length c = (c .before .loop .inv (c .before .before .before .before .pre .0) (c .before .before .before .before .pre .1) (c .before .before .before .before .pre .2)) .long
@@ -65,7 +65,7 @@ fill-relations-spec =
     mul-scratch
     slice-write-scratch
     add-at
-    node-at-requires
+    part-at-requires
     add-at-2
     add-number
     loop-less

@@ -15,13 +15,13 @@ sub-with-counts c = search needs
 with-counts-requires : tie.Need-with-counts-requires
 with-counts-requires c κs = search needs
 
-node-at-requires : tie.Need-node-at-requires
-node-at-requires c κs = search needs
+part-at-requires : tie.Need-part-at-requires
+part-at-requires c κs = search needs
 
 take-equal-requires : tie.Need-take-equal-requires
 take-equal-requires c κs =
     let q = c .before .before .before .before .before .before .before .before .before .pre in
-    let i = is-equal (of-kind (q .4 .task-at) (c .before .before .node-at .ensures) (c .before .if2 .taken)) in
+    let i = is-equal (of-kind (q .4 .task-at) (c .before .before .part-at .ensures) (c .before .if2 .taken)) in
     (q .0, q .1, q .2, q .3 .0, i .0, i .1, taking (q .4) (c .before .before .before .before .before .if1 .left) (c .before .before .before .with-counts .ensures) (i .2) (omega (arith, c .before .before .before .before .before .before .struct-known .given)))
 
 same-length : tie.Need-same-length
@@ -29,7 +29,7 @@ same-length c = search needs
 
 returns-2 : tie.Need-returns-2
 returns-2 c = λ P p cs task d.
-    let i = is-equal (of-kind (d .task-at) (c .before .before .before .before .before .node-at .ensures) (c .before .before .before .before .if2 .taken)) in
+    let i = is-equal (of-kind (d .task-at) (c .before .before .before .before .before .part-at .ensures) (c .before .before .before .before .if2 .taken)) in
     let some-left = c .before .before .before .before .before .before .before .before .if1 .left in
     let is-st = c .before .before .before .before .before .before .with-counts .ensures in
     taken-as d some-left is-st (i .2) _ _ _ (c .before .before .take-equal .ensures P p cs (task .0) (i .0) (i .1) (taking d some-left is-st (i .2) (omega (arith, c .before .before .before .before .before .before .before .before .before .struct-known .given))))
@@ -37,7 +37,7 @@ returns-2 c = λ P p cs task d.
 take-conj-requires : tie.Need-take-conj-requires
 take-conj-requires c κs =
     let q = c .before .before .before .before .before .before .before .before .before .before .pre in
-    let i = is-conj (of-kind (q .4 .task-at) (c .before .before .before .node-at .ensures) (c .before .if3 .taken)) in
+    let i = is-conj (of-kind (q .4 .task-at) (c .before .before .before .part-at .ensures) (c .before .if3 .taken)) in
     (q .0, q .1, q .2, q .3 .0, i .0, taking (q .4) (c .before .before .before .before .before .before .if1 .left) (c .before .before .before .before .with-counts .ensures) (i .1) (omega (arith, c .before .before .before .before .before .before .before .struct-known .given)) .taking)
 
 same-length-2 : tie.Need-same-length-2
@@ -45,7 +45,7 @@ same-length-2 c = search needs
 
 returns-3 : tie.Need-returns-3
 returns-3 c = λ P p cs task d.
-    let i = is-conj (of-kind (d .task-at) (c .before .before .before .before .before .before .node-at .ensures) (c .before .before .before .before .if3 .taken)) in
+    let i = is-conj (of-kind (d .task-at) (c .before .before .before .before .before .before .part-at .ensures) (c .before .before .before .before .if3 .taken)) in
     let some-left = c .before .before .before .before .before .before .before .before .before .if1 .left in
     let is-st = c .before .before .before .before .before .before .before .with-counts .ensures in
     taken-as d some-left is-st (i .1) _ _ _ (c .before .before .take-conj .ensures P p cs (task .0) (i .0) (taking d some-left is-st (i .1) (omega (arith, c .before .before .before .before .before .before .before .before .before .before .struct-known .given)) .taking))
@@ -53,7 +53,7 @@ returns-3 c = λ P p cs task d.
 take-disj-requires : tie.Need-take-disj-requires
 take-disj-requires c κs =
     let q = c .before .before .before .before .before .before .before .before .before .before .before .pre in
-    let i = is-disj (of-kind (q .4 .task-at) (c .before .before .before .before .node-at .ensures) (c .before .if4 .taken)) in
+    let i = is-disj (of-kind (q .4 .task-at) (c .before .before .before .before .part-at .ensures) (c .before .if4 .taken)) in
     (q .0, q .1, q .2, q .3 .0, i .0, taking (q .4) (c .before .before .before .before .before .before .before .if1 .left) (c .before .before .before .before .before .with-counts .ensures) (i .1) (omega (arith, c .before .before .before .before .before .before .before .before .struct-known .given)) .taking)
 
 same-length-3 : tie.Need-same-length-3
@@ -61,7 +61,7 @@ same-length-3 c = search needs
 
 returns-4 : tie.Need-returns-4
 returns-4 c = λ P p cs task d.
-    let i = is-disj (of-kind (d .task-at) (c .before .before .before .before .before .before .before .node-at .ensures) (c .before .before .before .before .if4 .taken)) in
+    let i = is-disj (of-kind (d .task-at) (c .before .before .before .before .before .before .before .part-at .ensures) (c .before .before .before .before .if4 .taken)) in
     let some-left = c .before .before .before .before .before .before .before .before .before .before .if1 .left in
     let is-st = c .before .before .before .before .before .before .before .before .with-counts .ensures in
     taken-as d some-left is-st (i .1) _ _ _ (c .before .before .take-disj .ensures P p cs (task .0) (i .0) (taking d some-left is-st (i .1) (omega (arith, c .before .before .before .before .before .before .before .before .before .before .before .struct-known .given)) .taking))
@@ -69,7 +69,7 @@ returns-4 c = λ P p cs task d.
 take-call-requires : tie.Need-take-call-requires
 take-call-requires c κs =
     let q = c .before .before .before .before .before .before .before .before .before .before .before .before .pre in
-    let i = is-call (of-kind (q .4 .task-at) (c .before .before .before .before .before .node-at .ensures) (c .before .if5 .taken)) in
+    let i = is-call (of-kind (q .4 .task-at) (c .before .before .before .before .before .part-at .ensures) (c .before .if5 .taken)) in
     (q .0, q .1, q .2, q .3 .0, i .0, i .1, taking (q .4) (c .before .before .before .before .before .before .before .before .if1 .left) (c .before .before .before .before .before .before .with-counts .ensures) (i .2) (omega (arith, c .before .before .before .before .before .before .before .before .before .struct-known .given)))
 
 same-length-4 : tie.Need-same-length-4
@@ -77,7 +77,7 @@ same-length-4 c = search needs
 
 returns-5 : tie.Need-returns-5
 returns-5 c = λ P p cs task d.
-    let i = is-call (of-kind (d .task-at) (c .before .before .before .before .before .before .before .before .node-at .ensures) (c .before .before .before .before .if5 .taken)) in
+    let i = is-call (of-kind (d .task-at) (c .before .before .before .before .before .before .before .before .part-at .ensures) (c .before .before .before .before .if5 .taken)) in
     let some-left = c .before .before .before .before .before .before .before .before .before .before .before .if1 .left in
     let is-st = c .before .before .before .before .before .before .before .before .before .with-counts .ensures in
     taken-as d some-left is-st (i .2) _ _ _ (c .before .before .take-call .ensures P p cs (task .0) (i .0) (i .1) (taking d some-left is-st (i .2) (omega (arith, c .before .before .before .before .before .before .before .before .before .before .before .before .struct-known .given))))
@@ -85,7 +85,7 @@ returns-5 c = λ P p cs task d.
 take-constraint-requires : tie.Need-take-constraint-requires
 take-constraint-requires c κs =
     let q = c .before .before .before .before .before .before .before .before .before .before .before .before .pre in
-    let i = is-constraint (of-kind (q .4 .task-at) (c .before .before .before .before .before .node-at .ensures) refl) (c .before .before .before .before .if2 .left) (c .before .before .before .if3 .left) (c .before .before .if4 .left) (c .before .if5 .left) in
+    let i = is-constraint (of-kind (q .4 .task-at) (c .before .before .before .before .before .part-at .ensures) refl) (c .before .before .before .before .if2 .left) (c .before .before .before .if3 .left) (c .before .before .if4 .left) (c .before .if5 .left) in
     (q .0, q .1, q .2, q .3 .0, i .0, taking (q .4) (c .before .before .before .before .before .before .before .before .if1 .left) (c .before .before .before .before .before .before .with-counts .ensures) (i .1) (omega (arith, c .before .before .before .before .before .before .before .before .before .struct-known .given)))
 
 same-length-5 : tie.Need-same-length-5
@@ -93,7 +93,7 @@ same-length-5 c = search needs
 
 returns-6 : tie.Need-returns-6
 returns-6 c = λ P p cs task d.
-    let i = is-constraint (of-kind (d .task-at) (c .before .before .before .before .before .before .before .before .node-at .ensures) refl) (c .before .before .before .before .before .before .before .if2 .left) (c .before .before .before .before .before .before .if3 .left) (c .before .before .before .before .before .if4 .left) (c .before .before .before .before .if5 .left) in
+    let i = is-constraint (of-kind (d .task-at) (c .before .before .before .before .before .before .before .before .part-at .ensures) refl) (c .before .before .before .before .before .before .before .if2 .left) (c .before .before .before .before .before .before .if3 .left) (c .before .before .before .before .before .if4 .left) (c .before .before .before .before .if5 .left) in
     let some-left = c .before .before .before .before .before .before .before .before .before .before .before .if1 .left in
     let is-st = c .before .before .before .before .before .before .before .before .before .with-counts .ensures in
     taken-as d some-left is-st (i .1) _ _ _ (c .before .before .take-constraint .ensures P p cs (task .0) (i .0) (taking d some-left is-st (i .1) (omega (arith, c .before .before .before .before .before .before .before .before .before .before .before .before .struct-known .given))))
@@ -105,7 +105,7 @@ take-spec =
     returns
     sub-with-counts
     with-counts-requires
-    node-at-requires
+    part-at-requires
     take-equal-requires
     same-length
     returns-2

@@ -8,14 +8,14 @@ use Rattle.engine.proofs.search.turn.go_on.Tie as tie
 returns : tie.Need-returns
 returns c = λ P n p cs t h. goes-answer P n _ _ _ (c .before .before .before .before .before .before .args .st) p cs t h (c .before .before .if1 .taken) (c .if2 .taken)
 
-leave-requires : tie.Need-leave-requires
-leave-requires c κs = search needs
+leave-path-requires : tie.Need-leave-path-requires
+leave-path-requires c κs = search needs
 
 same-length : tie.Need-same-length
 same-length c = search needs
 
 returns-2 : tie.Need-returns-2
-returns-2 c = λ P n p cs t h. goes-fewer P n _ _ _ (c .before .before .before .before .before .before .before .before .before .before .args .st) p cs t h _ _ (c .before .before .before .before .before .before .if1 .taken) (c .before .before .before .before .if2 .left) (c .before .before .leave .ensures)
+returns-2 c = λ P n p cs t h. goes-fewer P n _ _ _ (c .before .before .before .before .before .before .before .before .before .before .args .st) p cs t h _ _ (c .before .before .before .before .before .before .if1 .taken) (c .before .before .before .before .if2 .left) (c .before .before .leave-path .ensures)
 
 mul-goal : tie.Need-mul-goal
 mul-goal c = omega (arith, cell-there (c .before .before .before .before .before .args .st) (c .before .before .before .before .before .pre .3) (c .before .if1 .left))
@@ -55,7 +55,7 @@ go-on-spec =
     tie.close
     (tie.spec
     returns
-    leave-requires
+    leave-path-requires
     same-length
     returns-2
     mul-goal

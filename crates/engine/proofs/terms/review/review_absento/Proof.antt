@@ -4,11 +4,11 @@ use borrow.Author.Needs.{needs}
 use Rattle.engine.proofs.terms.review.review_absento.Statement.{statement}
 use Rattle.engine.proofs.terms.review.review_absento.Tie as tie
 
-add-node-at : tie.Need-add-node-at
-add-node-at c = search needs
+add-part-at : tie.Need-add-part-at
+add-part-at c = search needs
 
-node-at-requires : tie.Need-node-at-requires
-node-at-requires c κs = absento-inside _ _ _ _ (c .before .before .pre .3 .keeps)
+part-at-requires : tie.Need-part-at-requires
+part-at-requires c κs = absento-inside _ _ _ _ (c .before .before .pre .3 .keeps)
 
 add-scan : tie.Need-add-scan
 add-scan c = search needs
@@ -29,23 +29,23 @@ enum-known-rest-3 : tie.Need-enum-known-rest-3
 enum-known-rest-3 c = search needs
 
 returns : tie.Need-returns
-returns c = λ bs a t h. absento-fails (c .before .before .before .before .before .before .before .args .left) (c .before .before .before .before .node-at .ensures) _ (c .before .before .before .scan .ensures) bs a t (h .held) (h .keeps) (c .before .rest .given .1)
+returns c = λ bs a t h. absento-fails (c .before .before .before .before .before .before .before .args .left) (c .before .before .before .before .part-at .ensures) _ (c .before .before .before .scan .ensures) bs a t (h .held) (h .keeps) (c .before .rest .given .1)
 
 returns-2 : tie.Need-returns-2
-returns-2 c = λ bs a t h. absento-holds (c .before .before .before .before .before .before .before .args .left) (c .before .before .before .before .node-at .ensures) _ (c .before .before .before .scan .ensures) bs a t (h .held) (h .keeps) (c .before .rest2 .given .1)
+returns-2 c = λ bs a t h. absento-holds (c .before .before .before .before .before .before .before .args .left) (c .before .before .before .before .part-at .ensures) _ (c .before .before .before .scan .ensures) bs a t (h .held) (h .keeps) (c .before .rest2 .given .1)
 
 returns-3 : tie.Need-returns-3
-returns-3 c = λ bs a t h. absento-steps (c .before .before .before .before .before .before .args .left) (c .before .before .before .node-at .ensures) _ (c .before .before .scan .ensures) bs a t (h .held) (h .keeps) (c .enum-told .given .1)
+returns-3 c = λ bs a t h. absento-steps (c .before .before .before .before .before .before .args .left) (c .before .before .before .part-at .ensures) _ (c .before .before .scan .ensures) bs a t (h .held) (h .keeps) (c .enum-told .given .1)
 
 returns-4 : tie.Need-returns-4
-returns-4 c = λ bs a t h. absento-path (c .before .before .before .before .before .before .before .args .left) (c .before .before .before .before .node-at .ensures) _ (c .before .before .before .scan .ensures) bs a t (h .held) (h .keeps) (c .before .rest3 .given .1)
+returns-4 c = λ bs a t h. absento-path (c .before .before .before .before .before .before .before .args .left) (c .before .before .before .before .part-at .ensures) _ (c .before .before .before .scan .ensures) bs a t (h .held) (h .keeps) (c .before .rest3 .given .1)
 
 pub review-absento-spec : {M : Type 1} → statement M
 review-absento-spec =
     tie.close
     (tie.spec
-    add-node-at
-    node-at-requires
+    add-part-at
+    part-at-requires
     add-scan
     scan-requires
     enum-known-rest

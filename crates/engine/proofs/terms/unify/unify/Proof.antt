@@ -5,7 +5,7 @@ use lib.ListN.{length-set}
 use Rattle.rules.specs.Syntax.{Term}
 use Rattle.semantics.specs.Substitution.{Substitution}
 use Rattle.engine.specs.Unify.{TwoTerms, PairUnifiedAs}
-use Rattle.engine.proofs.UnifyLoop.{Unifying, unifying-start, unifying-meets, unify-out, met-long, unify-failed, unify-stepped, unify-pathed, unify-joined, unify-fewer, unify-pop, unify-full, unify-push}
+use Rattle.engine.proofs.UnifyLoop.{Unifying, unifying-start, unifying-two, unify-out, met-long, unify-failed, unify-stepped, unify-pathed, unify-joined, unify-fewer, unify-pop, unify-full, unify-push}
 use Rattle.engine.proofs.terms.unify.unify.Statement.{statement}
 use Rattle.engine.proofs.terms.unify.unify.Tie as tie
 
@@ -17,7 +17,7 @@ abbrev μ-loop : tie.MeasureT-loop
 
 -- what the pair that was met says, for each related state
 abbrev said : (c : tie.After-unify-pair Inv-loop μ-loop) (bs : Substitution) (u v : Term) (m : TwoTerms (c .before .before .before .before .before .before .args .program .now) (c .before .before .before .before .before .before .args .scratch .now) bs (c .before .before .before .before .before .before .args .first) u (c .before .before .before .before .before .before .args .second) v (c .before .before .before .before .before .before .args .mark)) → (let g = c .before .before .before .loop .inv bs u v m in PairUnifiedAs (c .before .before .before .before .before .before .args .program .now) (c .before .before .before .loop .scratch) (c .unify-pair .last .1 .0) (g .went .next) (g .left) (g .right) (c .before .before .before .loop .rest) (c .unify-pair .result))
-said c bs u v m = let g = c .before .before .before .loop .inv bs u v m in c .unify-pair .ensures (g .went .next) (g .left) (g .right) (unifying-meets g)
+said c bs u v m = let g = c .before .before .before .loop .inv bs u v m in c .unify-pair .ensures (g .went .next) (g .left) (g .right) (unifying-two g)
 
 loop-holds : tie.Need-loop-holds Inv-loop μ-loop
 loop-holds c = λ bs u v m. unifying-start m
@@ -29,7 +29,7 @@ returns : tie.Need-returns Inv-loop μ-loop
 returns c = λ bs u v m. unify-out (c .before .loop .inv bs u v m) (c .if1 .taken)
 
 unify-pair-requires : tie.Need-unify-pair-requires Inv-loop μ-loop
-unify-pair-requires c κs = let p = c .before .before .before .before .before .pre in let g = c .before .before .loop .inv (p .0) (p .1) (p .2) (p .3) in (omega (arith, c .before .if1 .left), (g .went .next, g .left, g .right, unifying-meets g))
+unify-pair-requires c κs = let p = c .before .before .before .before .before .pre in let g = c .before .before .loop .inv (p .0) (p .1) (p .2) (p .3) in (omega (arith, c .before .if1 .left), (g .went .next, g .left, g .right, unifying-two g))
 
 enum-known-after : tie.Need-enum-known-after Inv-loop μ-loop
 enum-known-after c = search needs

@@ -2,24 +2,24 @@
 use Rattle.rules.specs.Syntax.{Term}
 use Rattle.semantics.specs.Substitution.{Substitution, walk}
 use Rattle.semantics.specs.Unify.{look}
-use Rattle.engine.specs.Unify.{TwoTerms, ComparedAs}
-use Rattle.engine.proofs.UnifySteps.{meets-first, meets-second, meet-fails, meet-agrees, meet-parts, bound-room, bound-follows, meet-occurs, meet-binds, meet-steps, meet-path}
+use Rattle.engine.specs.Unify.{TwoTerms, LookedAs}
+use Rattle.engine.proofs.UnifySteps.{one-follows, other-follows, pair-fails, pair-agrees, pair-parts, bound-room, bound-follows, pair-occurs, pair-binds, pair-steps, pair-path}
 use borrow.Author.Needs.{needs}
 use Rattle.engine.proofs.terms.unify.unify_pair.Statement.{statement}
 use Rattle.engine.proofs.terms.unify.unify_pair.Tie as tie
 
--- what comparing said
-abbrev told : (c : tie.After-compare) (bs : Substitution) (u v : Term) → TwoTerms (c .before .before .before .before .before .before .before .args .program .now) (c .before .before .before .before .before .before .before .args .scratch .now) bs (c .before .before .before .before .before .before .before .args .first) u (c .before .before .before .before .before .before .before .args .second) v (c .before .before .before .before .before .before .before .args .trail) → ComparedAs (c .before .before .before .before .before .before .before .args .program .now) (look (walk bs u) (walk bs v)) (c .compare .result)
-told c bs u v m = c .compare .ensures _ (walk bs u) (walk bs v) (c .before .before .before .walk .ensures .node) (c .before .walk2 .ensures .node) (c .before .before .before .walk .ensures .stands bs u (meets-first (c .before .before .before .before .before .before .before .pre .0) m)) (c .before .walk2 .ensures .stands bs v (meets-second (c .before .before .before .before .before .before .before .pre .0) m))
+-- what looking said
+abbrev told : (c : tie.After-look) (bs : Substitution) (u v : Term) → TwoTerms (c .before .before .before .before .before .before .before .args .program .now) (c .before .before .before .before .before .before .before .args .scratch .now) bs (c .before .before .before .before .before .before .before .args .first) u (c .before .before .before .before .before .before .before .args .second) v (c .before .before .before .before .before .before .before .args .trail) → LookedAs (c .before .before .before .before .before .before .before .args .program .now) (look (walk bs u) (walk bs v)) (c .look .result)
+told c bs u v m = c .look .ensures _ (walk bs u) (walk bs v) (c .before .before .before .walk .ensures .node) (c .before .walk2 .ensures .node) (c .before .before .before .walk .ensures .stands bs u (one-follows (c .before .before .before .before .before .before .before .pre .0) m)) (c .before .walk2 .ensures .stands bs v (other-follows (c .before .before .before .before .before .before .before .pre .0) m))
 
 walk-requires : tie.Need-walk-requires
-walk-requires c κs = let p = c .before .before .before .pre in (p .1 .0, p .1 .1, meets-first (p .0) (p .1 .3))
+walk-requires c κs = let p = c .before .before .before .pre in (p .1 .0, p .1 .1, one-follows (p .0) (p .1 .3))
 
 walk-requires-2 : tie.Need-walk-requires-2
-walk-requires-2 c κs = let p = c .before .before .before .before .before .pre in (p .1 .0, p .1 .2, meets-second (p .0) (p .1 .3))
+walk-requires-2 c κs = let p = c .before .before .before .before .before .pre in (p .1 .0, p .1 .2, other-follows (p .0) (p .1 .3))
 
-compare-requires : tie.Need-compare-requires
-compare-requires c κs = let p = c .before .before .before .before .before .before .pre in (c .before .before .before .before .before .before .args .program .now, walk (p .1 .0) (p .1 .1), walk (p .1 .0) (p .1 .2), c .before .before .walk .ensures .node, c .walk2 .ensures .node, c .before .before .walk .ensures .stands (p .1 .0) (p .1 .1) (meets-first (p .0) (p .1 .3)), c .walk2 .ensures .stands (p .1 .0) (p .1 .2) (meets-second (p .0) (p .1 .3)))
+look-requires : tie.Need-look-requires
+look-requires c κs = let p = c .before .before .before .before .before .before .pre in (c .before .before .before .before .before .before .args .program .now, walk (p .1 .0) (p .1 .1), walk (p .1 .0) (p .1 .2), c .before .before .walk .ensures .node, c .walk2 .ensures .node, c .before .before .walk .ensures .stands (p .1 .0) (p .1 .1) (one-follows (p .0) (p .1 .3)), c .walk2 .ensures .stands (p .1 .0) (p .1 .2) (other-follows (p .0) (p .1 .3)))
 
 enum-told : tie.Need-enum-told
 enum-told c = search needs
@@ -64,43 +64,43 @@ same-length : tie.Need-same-length
 same-length c = search needs
 
 returns : tie.Need-returns
-returns c = λ bs u v m. meet-fails (c .before .before .before .before .before .before .before .before .before .pre .0) m (told (c .before .before) bs u v m) (c .enum-told .given .1)
+returns c = λ bs u v m. pair-fails (c .before .before .before .before .before .before .before .before .before .pre .0) m (told (c .before .before) bs u v m) (c .enum-told .given .1)
 
 same-length-2 : tie.Need-same-length-2
 same-length-2 c = search needs
 
 returns-2 : tie.Need-returns-2
-returns-2 c = λ bs u v m. meet-agrees (c .before .before .before .before .before .before .before .before .before .pre .0) m (told (c .before .before) bs u v m) (c .enum-told2 .given .1)
+returns-2 c = λ bs u v m. pair-agrees (c .before .before .before .before .before .before .before .before .before .pre .0) m (told (c .before .before) bs u v m) (c .enum-told2 .given .1)
 
 same-length-3 : tie.Need-same-length-3
 same-length-3 c = search needs
 
 returns-3 : tie.Need-returns-3
-returns-3 c = λ bs u v m. meet-parts (c .before .before .before .before .before .before .before .before .before .before .pre .0) m (told (c .before .before .before) bs u v m) (c .before .c .given .1)
+returns-3 c = λ bs u v m. pair-parts (c .before .before .before .before .before .before .before .before .before .before .pre .0) m (told (c .before .before .before) bs u v m) (c .before .c .given .1)
 
 same-length-4 : tie.Need-same-length-4
 same-length-4 c = search needs
 
 returns-4 : tie.Need-returns-4
-returns-4 c = λ bs u v m. meet-occurs (c .before .before .before .before .before .before .before .before .before .before .before .before .before .before .before .pre .0) m (told (c .before .before .before .before .before .before .before .before) bs u v m) (c .before .before .before .before .before .before .variable .given .1) _ (c .before .before .before .scan .ensures) (c .before .rest .given .1)
+returns-4 c = λ bs u v m. pair-occurs (c .before .before .before .before .before .before .before .before .before .before .before .before .before .before .before .pre .0) m (told (c .before .before .before .before .before .before .before .before) bs u v m) (c .before .before .before .before .before .before .variable .given .1) _ (c .before .before .before .scan .ensures) (c .before .rest .given .1)
 
 same-length-5 : tie.Need-same-length-5
 same-length-5 c = search needs
 
 returns-5 : tie.Need-returns-5
-returns-5 c = λ bs u v m. meet-binds (c .before .before .before .before .before .before .before .before .before .before .before .before .before .before .before .before .before .before .before .pre .0) m (told (c .before .before .before .before .before .before .before .before .before .before .before .before) bs u v m) (c .before .before .before .before .before .before .before .before .before .before .variable .given .1) _ (c .before .before .before .before .before .before .before .scan .ensures) (c .before .before .before .before .before .rest2 .given .1) (c .before .before .bind .ensures .0) (c .before .before .bind .ensures .1)
+returns-5 c = λ bs u v m. pair-binds (c .before .before .before .before .before .before .before .before .before .before .before .before .before .before .before .before .before .before .before .pre .0) m (told (c .before .before .before .before .before .before .before .before .before .before .before .before) bs u v m) (c .before .before .before .before .before .before .before .before .before .before .variable .given .1) _ (c .before .before .before .before .before .before .before .scan .ensures) (c .before .before .before .before .before .rest2 .given .1) (c .before .before .bind .ensures .0) (c .before .before .bind .ensures .1)
 
 same-length-6 : tie.Need-same-length-6
 same-length-6 c = search needs
 
 returns-6 : tie.Need-returns-6
-returns-6 c = λ bs u v m. meet-steps (c .before .before .before .before .before .before .before .before .before .before .before .before .before .before .pre .0) m (told (c .before .before .before .before .before .before .before) bs u v m) (c .before .before .before .before .before .variable .given .1) _ (c .before .before .scan .ensures) (c .enum-told3 .given .1)
+returns-6 c = λ bs u v m. pair-steps (c .before .before .before .before .before .before .before .before .before .before .before .before .before .before .pre .0) m (told (c .before .before .before .before .before .before .before) bs u v m) (c .before .before .before .before .before .variable .given .1) _ (c .before .before .scan .ensures) (c .enum-told3 .given .1)
 
 same-length-7 : tie.Need-same-length-7
 same-length-7 c = search needs
 
 returns-7 : tie.Need-returns-7
-returns-7 c = λ bs u v m. meet-path (c .before .before .before .before .before .before .before .before .before .before .before .before .before .before .before .pre .0) m (told (c .before .before .before .before .before .before .before .before) bs u v m) (c .before .before .before .before .before .before .variable .given .1) _ (c .before .before .before .scan .ensures) (c .before .rest3 .given .1)
+returns-7 c = λ bs u v m. pair-path (c .before .before .before .before .before .before .before .before .before .before .before .before .before .before .before .pre .0) m (told (c .before .before .before .before .before .before .before .before) bs u v m) (c .before .before .before .before .before .before .variable .given .1) _ (c .before .before .before .scan .ensures) (c .before .rest3 .given .1)
 
 pub unify-pair-spec : {M : Type 1} → statement M
 unify-pair-spec =
@@ -108,7 +108,7 @@ unify-pair-spec =
     (tie.spec
     walk-requires
     walk-requires-2
-    compare-requires
+    look-requires
     enum-told
     sub-t25
     enum-told-2

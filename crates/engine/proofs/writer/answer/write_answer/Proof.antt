@@ -14,7 +14,7 @@ begun-at c = c .before .before .before .before .before
 abbrev named-at : tie.After-begin-answer → tie.After-name-parameters
 named-at c = c .before .before .before .before .before
 
-abbrev limit-at : tie.After-name-parameters → tie.After-usable
+abbrev limit-at : tie.After-name-parameters → tie.After-at-most
 limit-at c = c .before .before
 
 abbrev left-at : tie.After-name-parameters → tie.After-left2
@@ -27,8 +27,8 @@ abbrev start-at : tie.After-name-parameters → tie.Start
 start-at c = c .before .before .before .before .before .before .before .before .before .before .before
 
 -- the output up to the page's end
-room-at : (c : tie.After-name-parameters) → Room (start-at c .args .output .now) (limit-at c .usable .result)
-room-at c = record { inside = omega (arith, limit-at c .usable .ensures); short = omega (arith, limit-at c .usable .ensures) }
+room-at : (c : tie.After-name-parameters) → Room (start-at c .args .output .now) (limit-at c .at-most .result)
+room-at c = record { inside = omega (arith, limit-at c .at-most .ensures); short = omega (arith, limit-at c .at-most .ensures) }
 
 look-parameters-requires : tie.Need-look-parameters-requires
 look-parameters-requires c κs = let a = c .before .before .before .before .pre .3 in (answer-low a, (_, answer-binds a))
@@ -54,8 +54,8 @@ returns-2 c = λ P p cs a. path-out-now a _ (c .before .before .before .look-par
 enum-known-left-2 : tie.Need-enum-known-left-2
 enum-known-left-2 c = search needs
 
-usable-requires : tie.Need-usable-requires
-usable-requires c κs = search needs
+at-most-requires : tie.Need-at-most-requires
+at-most-requires c κs = search needs
 
 name-parameters-requires : tie.Need-name-parameters-requires
 name-parameters-requires c κs = let a = c .before .before .before .before .before .before .before .before .before .before .pre .3 in (answer-low a, (_, answer-binds a, unnamed (a .stored .nameless)))
@@ -79,7 +79,7 @@ same-length-4 : tie.Need-same-length-4
 same-length-4 c = search needs
 
 returns-3 : tie.Need-returns-3
-returns-3 c = λ P p cs a. let d = c .before .before .before .before .before .before .before .before .before .before .before .before in let b = begun-at d in let n = named-at b in answered-now a (n .name-parameters .ensures) (room-at n) (b .begin-answer .ensures) _ (d .add-constraints .ensures) _ (looked-at n .look-parameters .ensures) (left-at n .left2 .given .1) _ _ (limit-at n .usable .ensures) (c .before .before .before .before .before .before .clear-names .ensures) (c .before .before .end-answer .ensures)
+returns-3 c = λ P p cs a. let d = c .before .before .before .before .before .before .before .before .before .before .before .before in let b = begun-at d in let n = named-at b in answered-now a (n .name-parameters .ensures) (room-at n) (b .begin-answer .ensures) _ (d .add-constraints .ensures) _ (looked-at n .look-parameters .ensures) (left-at n .left2 .given .1) _ _ (limit-at n .at-most .ensures) (c .before .before .before .before .before .before .clear-names .ensures) (c .before .before .end-answer .ensures)
 
 pub write-answer-spec : {M : Type 1} → statement M
 write-answer-spec =
@@ -93,7 +93,7 @@ write-answer-spec =
     same-length-2
     returns-2
     enum-known-left-2
-    usable-requires
+    at-most-requires
     name-parameters-requires
     begin-answer-requires
     add-constraints-requires

@@ -30,20 +30,20 @@ returns-2 c = λ g bs a t h k. term-path g h t (c .before .before .before .befor
 enum-known-rest-2 : tie.Need-enum-known-rest-2
 enum-known-rest-2 c = search needs
 
-add-node-at : tie.Need-add-node-at
-add-node-at c = omega (arith, c .before .before .before .before .before .before .before .pre .1 .4 .below)
+add-part-at : tie.Need-add-part-at
+add-part-at c = omega (arith, c .before .before .before .before .before .before .before .pre .1 .4 .below)
 
-node-at-requires : tie.Need-node-at-requires
-node-at-requires c κs = let p = c .before .before .before .before .before .before .before .pre .1 in absento-inside _ _ (p .1) (p .2) (p .4)
+part-at-requires : tie.Need-part-at-requires
+part-at-requires c κs = let p = c .before .before .before .before .before .before .before .pre .1 in absento-inside _ _ (p .1) (p .2) (p .4)
 
 add-absent-requires : tie.Need-add-absent-requires
-add-absent-requires c κs = let p = c .before .before .before .before .before .before .before .before .before .pre .1 in absento-adds (p .3) (p .4) (c .before .before .before .before .before .before .before .before .before .pre .0) (c .before .node-at .ensures)
+add-absent-requires c κs = let p = c .before .before .before .before .before .before .before .before .before .pre .1 in absento-adds (p .3) (p .4) (c .before .before .before .before .before .before .before .before .before .pre .0) (c .before .part-at .ensures)
 
 same-length : tie.Need-same-length
 same-length c = search needs
 
 returns-3 : tie.Need-returns-3
-returns-3 c = λ g bs a t h k. term-done g h t (c .before .before .before .before .before .before .before .before .before .before .before .before .args .steps) _ (c .before .before .before .before .before .before .before .before .look-through .ensures bs t (absento-follows h k)) (lacks-each a (appear [] (resolve bs t))) (c .before .before .before .before .before .before .rest2 .given .1) (absento-page h k g (c .before .before .before .before .node-at .ensures) (c .before .before .add-absent .ensures))
+returns-3 c = λ g bs a t h k. term-done g h t (c .before .before .before .before .before .before .before .before .before .before .before .before .args .steps) _ (c .before .before .before .before .before .before .before .before .look-through .ensures bs t (absento-follows h k)) (lacks-each a (appear [] (resolve bs t))) (c .before .before .before .before .before .before .rest2 .given .1) (absento-page h k g (c .before .before .before .before .part-at .ensures) (c .before .before .add-absent .ensures))
 
 pub absence-lines-spec : {M : Type 1} → statement M
 absence-lines-spec =
@@ -56,8 +56,8 @@ absence-lines-spec =
     enum-known-rest
     returns-2
     enum-known-rest-2
-    add-node-at
-    node-at-requires
+    add-part-at
+    part-at-requires
     add-absent-requires
     same-length
     returns-3)

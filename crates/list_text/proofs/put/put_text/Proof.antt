@@ -5,8 +5,8 @@ use native.Mathlib.Omega.{arith}
 use lib.ListN.{length, drop, drop-of-length-le}
 use Rattle.list_text.proofs.TextLaws.{Left, begin, next-byte, done}
 use borrow.Author.Needs.{needs}
-use Rattle.list_text.proofs.put.put.Statement.{statement}
-use Rattle.list_text.proofs.put.put.Tie as tie
+use Rattle.list_text.proofs.put.put_text.Statement.{statement}
+use Rattle.list_text.proofs.put.put_text.Tie as tie
 
 abbrev Inv-loop : tie.InvT-loop
 Inv-loop text at out₀ next₀ i₀ out next i = (i ≤ length text) × (next ≡ at + i) × Left text at out₀ (drop i text) next out × (length out ≡ length out₀)
@@ -38,8 +38,8 @@ same-length c = c .before .loop .inv .3
 returns : tie.Need-returns Inv-loop μ-loop
 returns c = done (rw (drop-of-length-le (c .before .before .before .before .args .text .now) (c .loop-test .left)) at (c .before .loop .inv .2))
 
-pub put-spec : {M : Type 1} → statement M
-put-spec =
+pub put-text-spec : {M : Type 1} → statement M
+put-text-spec =
     tie.close
     (tie.spec
     Inv-loop

@@ -15,7 +15,7 @@ use Rattle.rules.specs.Written.{part, sort-kind, atom-word, term-words, goal-wo
 use Rattle.rules.specs.Inner.{Spells}
 use Rattle.rules.proofs.Spelled.{stands-at as spells-at, stands-split as spells-split}
 use Rattle.semantics.specs.Answer.{index, reify, reify-bindings, differ-goals, Line, is-sort, lacks, not-all, line-in, line-words, lines-words, same-words, any-same, listed, stays}
-use Rattle.semantics.proofs.Basics.{and-true, by-choose}
+use Rattle.semantics.proofs.Basics.{and-true, by-choose, joined-more}
 use Rattle.engine.specs.Reference.{at}
 use Rattle.engine.specs.Term.{Puts, Touched, Laid, Placed, all-laid, some-missing}
 use Rattle.engine.specs.Lines.{add-line, add-lines, Whole, Wholes, Stretch, Rows, AnswerSoFar, Writing, Extended}
@@ -123,11 +123,6 @@ module _ {o : List ℕ} {place to size : ℕ} {v : List ℕ} {goal r : Bool} (g 
   pub row-on : r ≡ false → Row o (place + 1 + size) to v goal
   row-on e = record { rows = g .rest; here = g .later; same = ap (λ b. b || any-same v (g .rest)) (sym e ∙ f) ∙ g .same }
 
--- one line more
-joined-snoc : (ws : List (List ℕ)) (v : List ℕ) → joined (ws ++ (v ∷ [])) ≡ joined ws ++ v
-joined-snoc [] v = append-nil v
-joined-snoc (w ∷ ws) v = ap (λ x. w ++ x) (joined-snoc ws v) ∙ sym (append-assoc w (joined ws) v)
-
 wholes-snoc : (ws : List (List ℕ)) (v : List ℕ) → Wholes ws → Whole v → Wholes (ws ++ (v ∷ []))
 unfolding Wholes
 wholes-snoc [] v h k = (k, tt)
@@ -157,7 +152,7 @@ module _ (names : List ℕ) (ws : List (List ℕ)) (l : Line) where
   add-longer : length (joined ws) ≤ length (joined (add-line names ws l))
   unfolding add-line
   add-longer = by-choose (λ (xs : List (List ℕ)). length (joined ws) ≤ length (joined xs)) (stays names ws l) _ _
-      (λ q. omega (arith, ap length (joined-snoc ws (line-words names l)), length-append (joined ws) (line-words names l))) (λ q. omega arith)
+      (λ q. omega (arith, ap length (joined-more ws (line-words names l)), length-append (joined ws) (line-words names l))) (λ q. omega arith)
 
 -- a page that does not fit
 pub page-over : {o₀ o : List ℕ} {begin first end place : ℕ} {head : List ℕ} {ws : List (List ℕ)} → end < place → end < begin + length (head ++ joined ws) → Touched o₀ o begin end → AnswerSoFar o₀ o begin first end place head ws
@@ -209,7 +204,7 @@ module _ {s out : List ℕ} {first end place : ℕ} (g : Writing s out first end
         added = line-added (g .names) (g .lines) l (sym f ∙ n) (sym i ∙ k)
 
         longer : g .head ++ joined (add-line (g .names) (g .lines) l) ≡ (g .head ++ joined (g .lines)) ++ line-words (g .names) l
-        longer = ap (λ x. g .head ++ joined x) added ∙ ap (λ x. g .head ++ x) (joined-snoc (g .lines) (line-words (g .names) l)) ∙ sym (append-assoc (g .head) (joined (g .lines)) (line-words (g .names) l))
+        longer = ap (λ x. g .head ++ joined x) added ∙ ap (λ x. g .head ++ x) (joined-more (g .lines) (line-words (g .names) l)) ∙ sym (append-assoc (g .head) (joined (g .lines)) (line-words (g .names) l))
 
         pub page-missed : r ≡ Missed → Extended g o₂ (end + 1) (l ∷ [])
         unfolding add-lines
@@ -265,7 +260,7 @@ lines-listed names ws before (l ∷ ls) e =
 
     go : (b : Bool) → joined (add-lines names (ws ++ (v ∷ [])) ls) ≡ joined (ws ++ (v ∷ [])) ++ lines-words names (listed names (v ∷ before) ls) → joined (add-lines names ws ls) ≡ joined ws ++ lines-words names (listed names before ls)
         → joined (add-lines names (choose b (λ _. ws ++ (v ∷ [])) (λ _. ws)) ls) ≡ joined ws ++ lines-words names (choose b (λ _. l ∷ listed names (v ∷ before) ls) (λ _. listed names before ls))
-    go true h i = h ∙ ap (λ x. x ++ lines-words names (listed names (v ∷ before) ls)) (joined-snoc ws v) ∙ append-assoc (joined ws) v (lines-words names (listed names (v ∷ before) ls))
+    go true h i = h ∙ ap (λ x. x ++ lines-words names (listed names (v ∷ before) ls)) (joined-more ws v) ∙ append-assoc (joined ws) v (lines-words names (listed names (v ∷ before) ls))
     go false h i = i
 
 pub row-moved : {o o′ : List ℕ} {place to : ℕ} {v : List ℕ} {goal : Bool} → o′ ≡ o → Row o place to v goal → Row o′ place to v goal

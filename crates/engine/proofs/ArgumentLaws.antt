@@ -17,7 +17,7 @@ use Rattle.semantics.proofs.TermLaws.{term-more, term-size}
 use Rattle.semantics.proofs.Sound.{sound-call}
 use Rattle.engine.specs.Reference.{at, TermsAt, refer, pos-of, base-of, Stands}
 use Rattle.engine.specs.Memory.{BoundTo, Entry, BindingsIn, bound}
-use Rattle.engine.specs.Walk.{PartAt, Follows}
+use Rattle.engine.specs.Walk.{PartRead, Follows}
 use Rattle.engine.specs.Call.{BindingParameters, ParametersBound}
 use Rattle.engine.specs.Trail.{Apart}
 use Rattle.rules.specs.Settings.{most-words}
@@ -35,7 +35,7 @@ argument-here : (bs : Substitution) (x : ℕ) → Last bs x → argument bs (var
 argument-here bs x l = ap var (last-here (length bs) bs x l)
 
 -- the loop stops at an atom or a pair ..
-pub last-other : (ws : List ℕ) (bs : Substitution) (w b k p : ℕ) (t : Term) → Stands ws w t → PartAt ws w b k p → (k ≡ 0 → ⊥) → Stands ws w (argument bs t)
+pub last-other : (ws : List ℕ) (bs : Substitution) (w b k p : ℕ) (t : Term) → Stands ws w t → PartRead ws w b k p → (k ≡ 0 → ⊥) → Stands ws w (argument bs t)
 last-other ws bs w b k p (var x) h i n = absurd (n (i .is-kind ∙ h .reads .0))
 last-other ws bs w b k p (atom a) h i n = h
 last-other ws bs w b k p (pair u v) h i n = h
@@ -54,7 +54,7 @@ hop-at ws s bs x lt b n = go (lookup bs x) refl (b .words x lt)
     go (some t) e i = record { next = t; is-bound = e; stands = subst (λ o. Entry ws (at s x) o) e i .stands }
 
 -- .. at an open variable ..
-pub last-open : (ws s : List ℕ) (bs : Substitution) (w b k p x : ℕ) (t : Term) → Follows ws s bs w t → PartAt ws w b k p → k ≡ 0 → x ≡ base-of w + p → at s x ≡ 0 → Stands ws w (argument bs t)
+pub last-open : (ws s : List ℕ) (bs : Substitution) (w b k p x : ℕ) (t : Term) → Follows ws s bs w t → PartRead ws w b k p → k ≡ 0 → x ≡ base-of w + p → at s x ≡ 0 → Stands ws w (argument bs t)
 last-open ws s bs w b k p x (var y) f i e q z = subst (Stands ws w) (sym (argument-here bs y (λ u l. go u l))) (f .stands)
   where
     is-x : x ≡ y
@@ -69,8 +69,8 @@ last-open ws s bs w b k p x (atom a) f i e q z = f .stands
 last-open ws s bs w b k p x (pair u v) f i e q z = f .stands
 
 -- .. and at a variable that is bound to none
-pub last-stop : (ws s : List ℕ) (bs : Substitution) (w b k p x c l q : ℕ) (t : Term) → Follows ws s bs w t → PartAt ws w b k p → k ≡ 0 → x ≡ base-of w + p → (at s x ≡ 0 → ⊥)
-    → PartAt ws (at s x - 1) c l q → (l ≡ 0 → ⊥) → Stands ws w (argument bs t)
+pub last-stop : (ws s : List ℕ) (bs : Substitution) (w b k p x c l q : ℕ) (t : Term) → Follows ws s bs w t → PartRead ws w b k p → k ≡ 0 → x ≡ base-of w + p → (at s x ≡ 0 → ⊥)
+    → PartRead ws (at s x - 1) c l q → (l ≡ 0 → ⊥) → Stands ws w (argument bs t)
 last-stop ws s bs w b k p x c l q (var y) f i e is-x n j m = subst (Stands ws w) (sym (argument-here bs y (λ u lk. go u lk))) (f .stands)
   where
     same-x : x ≡ y
@@ -91,8 +91,8 @@ pub record Onward (ws s : List ℕ) (bs : Substitution) (w : ℕ) (t : Term) : T
   pub there : Follows ws s bs w next
   pub same : argument bs next ≡ argument bs t
 
-pub last-onward : (ws s : List ℕ) (bs : Substitution) (w b k p x c l q : ℕ) (t : Term) → Follows ws s bs w t → PartAt ws w b k p → k ≡ 0 → x ≡ base-of w + p → (at s x ≡ 0 → ⊥)
-    → PartAt ws (at s x - 1) c l q → l ≡ 0 → Onward ws s bs (at s x - 1) t
+pub last-onward : (ws s : List ℕ) (bs : Substitution) (w b k p x c l q : ℕ) (t : Term) → Follows ws s bs w t → PartRead ws w b k p → k ≡ 0 → x ≡ base-of w + p → (at s x ≡ 0 → ⊥)
+    → PartRead ws (at s x - 1) c l q → l ≡ 0 → Onward ws s bs (at s x - 1) t
 last-onward ws s bs w b k p x c l q (atom a) f i e is-x n j m = absurd (omega (arith, atom-low (at ws (pos-of w)) a (f .stands .reads .0) .0, i .is-kind))
 last-onward ws s bs w b k p x c l q (pair u v) f i e is-x n j m = absurd (omega (arith, f .stands .reads .0, i .is-kind))
 last-onward ws s bs w b k p x c l q (var y) f i e is-x n j m = go (h .next) (h .is-bound) (h .stands)

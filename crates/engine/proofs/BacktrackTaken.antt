@@ -12,7 +12,7 @@ use Rattle.semantics.specs.Round.{Tally, backtrack}
 use Rattle.engine.specs.Layout.{layout-words}
 use Rattle.engine.specs.Reference.{at, pos-of}
 use Rattle.engine.specs.Memory.{point-at, saved, Stored}
-use Rattle.engine.specs.Walk.{PartAt}
+use Rattle.engine.specs.Walk.{PartRead}
 use Rattle.engine.specs.Trail.{Trailed, Undone}
 use Rattle.engine.specs.Take.{registers, PathHeld, BacktrackAs, resumed}
 use Rattle.engine.specs.declared.search.state.State.{State}
@@ -91,7 +91,7 @@ module _ {P : Program} {ws s s′ : List ℕ} {st : State} {cs : List ChoicePoin
       (simp length-set (back-room .0), let e : at (set s′ i v) (i + 5) ≡ at s′ (i + 5) = getD-set-other s′ i (i + 5) v 0 (omega arith) in omega (arith, back-room .1))
 
   -- the last alternative
-  pub back-last : {b l z here : ℕ} {r : State} (t : Tally) → PartAt ws (at s (point-at (st .choices - 1))) b l z → here ≡ pos-of (at s (point-at (st .choices - 1))) + 1 + z → here ≡ at s (point-at (st .choices - 1) + 1)
+  pub back-last : {b l z here : ℕ} {r : State} (t : Tally) → PartRead ws (at s (point-at (st .choices - 1))) b l z → here ≡ pos-of (at s (point-at (st .choices - 1))) + 1 + z → here ≡ at s (point-at (st .choices - 1) + 1)
       → r ≡ resumed s′ st (st .choices - 1) → BacktrackAs P ws s′ st t (backtrack cs t) (Goal r (at s (point-at (st .choices - 1))))
   unfolding BacktrackAs
   back-last {r = r} t i is-here e q = subst (λ ds. BacktrackAs P ws s′ st t (backtrack ds t) (Goal r w)) (sym (k .are)) (subst (λ x. BacktrackAs P ws s′ st t (backtrack (k .point ∷ k .others) t) (Goal x w)) (sym q) (go (k .point) (k .restored)))
@@ -111,7 +111,7 @@ module _ {P : Program} {ws s s′ : List ℕ} {st : State} {cs : List ChoicePoin
           inside (more g gs) j = absurd (omega (arith, e, is-here, i .is-payload, resume-next (st .choices - 1) (k .few) j .0))
 
   -- another one is left
-  pub back-more : {b l z here : ℕ} {r : State} (t : Tally) → (st .choices ≡ 0 → ⊥) → PartAt ws (at s (point-at (st .choices - 1))) b l z → here ≡ pos-of (at s (point-at (st .choices - 1))) + 1 + z → (here ≡ at s (point-at (st .choices - 1) + 1) → ⊥)
+  pub back-more : {b l z here : ℕ} {r : State} (t : Tally) → (st .choices ≡ 0 → ⊥) → PartRead ws (at s (point-at (st .choices - 1))) b l z → here ≡ pos-of (at s (point-at (st .choices - 1))) + 1 + z → (here ≡ at s (point-at (st .choices - 1) + 1) → ⊥)
       → r ≡ resumed (set s′ (point-at (st .choices - 1)) (at s (point-at (st .choices - 1)) + 1 + z)) st (st .choices)
       → BacktrackAs P ws (set s′ (point-at (st .choices - 1)) (at s (point-at (st .choices - 1)) + 1 + z)) st t (backtrack cs t) (Goal r (at s (point-at (st .choices - 1))))
   unfolding BacktrackAs

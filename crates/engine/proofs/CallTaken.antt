@@ -18,7 +18,7 @@ use Rattle.semantics.proofs.TermLaws.{shift-in}
 use Rattle.engine.specs.Layout.{positions, layout-words}
 use Rattle.engine.specs.Reference.{pos-of, base-of, TaskAt}
 use Rattle.engine.specs.Memory.{Registers, TableIn, Stored, cell}
-use Rattle.engine.specs.Walk.{PartAt}
+use Rattle.engine.specs.Walk.{PartRead}
 use Rattle.engine.specs.Take.{registers, GoalReady, TookAs, one-goal-more, RelationIs}
 use Rattle.engine.specs.Call.{BindingParameters, ParametersBound}
 use Rattle.engine.specs.declared.search.state.State.{State}
@@ -86,14 +86,14 @@ module _ {P : Program} {ws s : List ℕ} {st : State} {w : ℕ} {p : Path} {cs :
   pub call-inside : pos-of (w + 1) < length ws
   call-inside = omega (arith, next-word, long-args, task .inside)
 
-  pub call-number : {b l m : ℕ} → PartAt ws (w + 1) b l m → m ≡ n
+  pub call-number : {b l m : ℕ} → PartRead ws (w + 1) b l m → m ≡ n
   call-number i = i .is-payload ∙ (rw next-word (task .goal .1 .1))
 
-  pub call-listed : {b l m : ℕ} → PartAt ws (w + 1) b l m → (Q : Program) × (R : Relation) × TableIn ws s Q × (getElem? Q m ≡ some R) × (layout-words ≤ length s)
+  pub call-listed : {b l m : ℕ} → PartRead ws (w + 1) b l m → (Q : Program) × (R : Relation) × TableIn ws s Q × (getElem? Q m ≡ some R) × (layout-words ≤ length s)
   call-listed i = (P, callee, stored .table, ap (getElem? P) (call-number i) ∙ is-callee, stored .roomy .long)
 
   -- what the table says of it
-  pub call-found : {b l m a v c : ℕ} → PartAt ws (w + 1) b l m → ((Q : Program) (R : Relation) → TableIn ws s Q → getElem? Q m ≡ some R → RelationIs ws a v c R) → RelationIs ws a v c callee
+  pub call-found : {b l m a v c : ℕ} → PartRead ws (w + 1) b l m → ((Q : Program) (R : Relation) → TableIn ws s Q → getElem? Q m ≡ some R → RelationIs ws a v c R) → RelationIs ws a v c callee
   call-found i f = f P callee (stored .table) (ap (getElem? P) (call-number i) ∙ is-callee)
 
   pub call-cut : {round : ℕ} → round ≤ st .calls → TookAs P ws s cs (take-call round P p cs base n ts (st .steps)) Cut st

@@ -20,7 +20,7 @@ use Rattle.semantics.proofs.UnifyLaws.{unify-some, no-news}
 use Rattle.engine.specs.Layout.{layout-words}
 use Rattle.engine.specs.Reference.{at, pos-of, KeepsAt}
 use Rattle.engine.specs.Memory.{BindingsIn, KeptIn}
-use Rattle.engine.specs.Walk.{PartAt, Binds, Follows}
+use Rattle.engine.specs.Walk.{PartRead, Binds, Follows}
 use Rattle.engine.specs.Trail.{Trailed, Undone, Apart}
 use Rattle.engine.specs.Unify.{Went, UnifiedAs}
 use Rattle.engine.specs.Trial.{AllKept}
@@ -191,7 +191,7 @@ module _ {ws s : List ℕ} {w : ℕ} {bs : Substitution} {a : Atom} {t : Term} (
   pub absento-follows : Follows ws s bs (w + 2) t
   absento-follows = record { binds = held; stands = absento-term ws w a t h }
 
-  module _ {out : List ℕ} {first end place : ℕ} (g : Writing s out first end place) {bits k p : ℕ} (node : PartAt ws (w + 1) bits k p) where
+  module _ {out : List ℕ} {first end place : ℕ} (g : Writing s out first end place) {bits k p : ℕ} (node : PartRead ws (w + 1) bits k p) where
     pub absento-adds : AddsAbsent ws s out bits (w + 2) first end place
     absento-adds = record {
       writing = g;

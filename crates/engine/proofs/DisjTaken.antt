@@ -12,7 +12,7 @@ use Rattle.semantics.specs.Path.{Path, ChoicePoint, take-disj}
 use Rattle.engine.specs.Layout.{layout-words}
 use Rattle.engine.specs.Reference.{pos-of, RestAt}
 use Rattle.engine.specs.Memory.{Registers, point-at, cell, point}
-use Rattle.engine.specs.Walk.{PartAt}
+use Rattle.engine.specs.Walk.{PartRead}
 use Rattle.engine.specs.Take.{registers, Taking, TookAs, one-goal-more, one-choice-more}
 use Rattle.engine.specs.declared.search.state.State.{State}
 use Rattle.engine.specs.declared.report.Bound.the-variants.{Goals as GoalsBound, Disjunctions}
@@ -42,7 +42,7 @@ module _ {P : Program} {ws s₀ : List ℕ} {st : State} {w : ℕ} {p : Path} {c
   put-is : st .goals ≡ p .put
   put-is = t .stored .path-in .put
 
-  first-goals : {b k n to : ℕ} → PartAt ws w b k n → to ≡ pos-of w + 1 + n → RestAt ws (w + 1) to base gs
+  first-goals : {b k n to : ℕ} → PartRead ws w b k n → to ≡ pos-of w + 1 + n → RestAt ws (w + 1) to base gs
   first-goals i is-to = subst (λ z. RestAt ws (w + 1) z base gs) (sym (is-to ∙ ap (λ z. pos-of w + 1 + z) (i .is-payload))) (disj-rest ws w base gs (t .task-at) .1)
 
   -- no goal fits any more
@@ -58,7 +58,7 @@ module _ {P : Program} {ws s₀ : List ℕ} {st : State} {w : ℕ} {p : Path} {c
 
 module _ {P : Program} {ws s₀ : List ℕ} {st : State} {w : ℕ} {p : Path} {cs : List ChoicePoint} {base : ℕ} where
   -- the first alternative is there
-  pub disj-inside : {gs : Goals} {b k n : ℕ} → Taking P ws s₀ st w p cs (base, disj gs) → PartAt ws w b k n → pos-of (w + 1) < length ws
+  pub disj-inside : {gs : Goals} {b k n : ℕ} → Taking P ws s₀ st w p cs (base, disj gs) → PartRead ws w b k n → pos-of (w + 1) < length ws
   disj-inside {gs} t i = next-goal ws (w + 1) _ base gs (first-goals t i refl) .inside
 
   -- and the cell for it is
@@ -67,8 +67,8 @@ module _ {P : Program} {ws s₀ : List ℕ} {st : State} {w : ℕ} {p : Path} {c
   disj-room v to t fits q z = rw (q, z) (simp length-set (t .stored .roomy .long), omega (arith, fits))
 
   -- one alternative only
-  pub disj-last : (gs : Goals) {b k n to c l m here : ℕ} {r : State} {s′ : List ℕ} → Taking P ws s₀ st w p cs (base, disj gs) → PartAt ws w b k n → to ≡ pos-of w + 1 + n → st .goals < 1024
-      → PartAt ws (w + 1) c l m → here ≡ pos-of (w + 1) + 1 + m → here ≡ to → r ≡ one-goal-more st → s′ ≡ cell s₀ (st .goals + 1) (w + 1) (st .head) → TookAs P ws s′ cs (take-disj p cs base gs (st .steps)) Goes r
+  pub disj-last : (gs : Goals) {b k n to c l m here : ℕ} {r : State} {s′ : List ℕ} → Taking P ws s₀ st w p cs (base, disj gs) → PartRead ws w b k n → to ≡ pos-of w + 1 + n → st .goals < 1024
+      → PartRead ws (w + 1) c l m → here ≡ pos-of (w + 1) + 1 + m → here ≡ to → r ≡ one-goal-more st → s′ ≡ cell s₀ (st .goals + 1) (w + 1) (st .head) → TookAs P ws s′ cs (take-disj p cs base gs (st .steps)) Goes r
   disj-last (one g) {to = to} t i is-to fits j is-here e q z =
       let f : leb (suc (p .put)) 1024 ≡ true = le-leb (suc (p .put)) 1024 (omega (arith, fits, put-is t)) in
       rw (q, z) (took-goes (disj-one base g (w + 1) to (omega (arith, fits)) (first-goals t i is-to) (t .stored)) (rw f refl))
@@ -76,8 +76,8 @@ module _ {P : Program} {ws s₀ : List ℕ} {st : State} {w : ℕ} {p : Path} {c
       absurd (omega (arith, e, is-here, j .is-payload, task-more ws (w + 1) to base g us (first-goals t i is-to) .not-last))
 
   -- no choice point fits any more
-  pub disj-many : (gs : Goals) {b k n to c l m here : ℕ} (s′ : List ℕ) → Taking P ws s₀ st w p cs (base, disj gs) → PartAt ws w b k n → to ≡ pos-of w + 1 + n → st .goals < 1024
-      → PartAt ws (w + 1) c l m → here ≡ pos-of (w + 1) + 1 + m → (here ≡ to → ⊥) → 256 ≤ st .choices → TookAs P ws s′ cs (take-disj p cs base gs (st .steps)) (Stops (PathLimit Disjunctions) (st .steps + 1)) st
+  pub disj-many : (gs : Goals) {b k n to c l m here : ℕ} (s′ : List ℕ) → Taking P ws s₀ st w p cs (base, disj gs) → PartRead ws w b k n → to ≡ pos-of w + 1 + n → st .goals < 1024
+      → PartRead ws (w + 1) c l m → here ≡ pos-of (w + 1) + 1 + m → (here ≡ to → ⊥) → 256 ≤ st .choices → TookAs P ws s′ cs (take-disj p cs base gs (st .steps)) (Stops (PathLimit Disjunctions) (st .steps + 1)) st
   disj-many (one g) {to = to} s′ t i is-to fits j is-here e full =
       absurd (e (is-here ∙ ap (λ z. pos-of (w + 1) + 1 + z) (j .is-payload) ∙ task-one ws (w + 1) to base g (first-goals t i is-to) .0))
   disj-many (more g us) s′ t i is-to fits j is-here e full =
@@ -86,8 +86,8 @@ module _ {P : Program} {ws s₀ : List ℕ} {st : State} {w : ℕ} {p : Path} {c
       took-bound p (rw (f, h) refl)
 
   -- more than one, and room for a choice point
-  pub disj-goes : (gs : Goals) {b k n to c l m here : ℕ} {pushed r : State} {s₁ s₂ : List ℕ} → Taking P ws s₀ st w p cs (base, disj gs) → PartAt ws w b k n → to ≡ pos-of w + 1 + n → st .goals < 1024
-      → PartAt ws (w + 1) c l m → here ≡ pos-of (w + 1) + 1 + m → (here ≡ to → ⊥) → st .choices < 256
+  pub disj-goes : (gs : Goals) {b k n to c l m here : ℕ} {pushed r : State} {s₁ s₂ : List ℕ} → Taking P ws s₀ st w p cs (base, disj gs) → PartRead ws w b k n → to ≡ pos-of w + 1 + n → st .goals < 1024
+      → PartRead ws (w + 1) c l m → here ≡ pos-of (w + 1) + 1 + m → (here ≡ to → ⊥) → st .choices < 256
       → pushed ≡ one-choice-more st → s₁ ≡ point s₀ (st .choices) (w + 1 + 1 + m) to (registers st)
       → r ≡ one-goal-more pushed → s₂ ≡ cell s₁ (pushed .goals + 1) (w + 1) (pushed .head) → TookAs P ws s₂ cs (take-disj p cs base gs (st .steps)) Goes r
   disj-goes (one g) {to = to} t i is-to fits j is-here e few q z a b =

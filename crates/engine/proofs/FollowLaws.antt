@@ -10,7 +10,7 @@ use Rattle.semantics.specs.Substitution.{Substitution, resolve, walk}
 use Rattle.semantics.proofs.SubstitutionLaws.{Seen, walk-seen}
 use Rattle.engine.specs.Layout.{references}
 use Rattle.engine.specs.Reference.{at, base-of, AtomIs, Stands}
-use Rattle.engine.specs.Walk.{PartAt, Follows, Resolves, Shaped}
+use Rattle.engine.specs.Walk.{PartRead, Follows, Resolves, Shaped}
 use Rattle.engine.specs.declared.terms.walk.Shape.the-variants.{Open, Atom as Leaf, Pair}
 use Rattle.engine.proofs.ReferenceLaws.{atom-low, parts}
 use Rattle.engine.proofs.FrameLaws.{bindings-same}
@@ -35,7 +35,7 @@ module _ {ws s : List ℕ} {w v : ℕ} {r : Term} (h : Resolves ws s w r) (told 
   seen : Seen (h .bindings) r (walk (h .bindings) (h .term))
   seen = subst (λ q. Seen (h .bindings) q (walk (h .bindings) (h .term))) (h .is) (walk-seen (h .bindings) (h .follows .binds .good) (h .term))
 
-  module _ {bits k p : ℕ} (node : PartAt ws v bits k p) where
+  module _ {bits k p : ℕ} (node : PartRead ws v bits k p) where
     follow-open : (y : ℕ) → y ≡ base-of v + p → k ≡ 0 → (u : Term) → Stands ws v u → Seen (h .bindings) r u → Shaped ws s (Open y) r
     unfolding Shaped
     follow-open y i e (var x) st q = let z : y ≡ x = i ∙ ap (λ n. base-of v + n) (node .is-payload) ∙ st .reads .1 in (q .1 ∙ ap var (sym z), rw z (st .in-range))

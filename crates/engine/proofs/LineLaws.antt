@@ -1,5 +1,5 @@
 -- Lines put: one law for each way in which the code returns or goes on.
-use Prim.Native.Nat.{ℕ, suc, _+_, _%_, _/_, _-_, _<_, _≤_}
+use Prim.Native.Nat.{ℕ, suc, _+_, _%_, _/_, _<_, _≤_}
 use mathlib.Core.Path.{_≡_, refl, sym, ap, ap₂, subst, _∙_}
 use mathlib.Core.Bool.{Bool, true, false, _&&_}
 use mathlib.Core.List.{List, [], _∷_, _++_, append-assoc, append-nil}

@@ -1,5 +1,5 @@
 -- Names: the words of the area, by the list of names.
-use Prim.Native.Nat.{ℕ, suc, _+_, _%_, _-_, _<_, _≤_}
+use Prim.Native.Nat.{ℕ, suc, _+_, _%_, _<_, _≤_}
 use mathlib.Core.Path.{_≡_, refl, sym, ap, _∙_}
 use mathlib.Core.Bool.{Bool, true, false, _||_, false≢true}
 use mathlib.Core.Option.{none}

@@ -1,5 +1,5 @@
 -- References: where parts are, and that a place holds one term only.
-use Prim.Native.Nat.{ℕ, _+_, _-_, _≤_, _<_}
+use Prim.Native.Nat.{ℕ, _+_, _≤_, _<_}
 use mathlib.Core.Path.{_≡_, refl, sym, ap, ap₂, subst, _∙_}
 use mathlib.Core.Bool.{Bool, true, false}
 use mathlib.Core.List.{List, [], _∷_}
@@ -15,7 +15,7 @@ use Rattle.semantics.specs.Substitution.{same-atom}
 use Rattle.semantics.specs.Invariant.{Vars}
 use Rattle.semantics.proofs.TermLaws.{same-atom-true, same-atom-refl, term-size}
 use Rattle.engine.specs.Layout.{positions, references}
-use Rattle.engine.specs.Walk.{PartAt}
+use Rattle.engine.specs.Walk.{PartRead}
 use Rattle.engine.specs.Reference.{at, AtomIs, TermAt, TermsAt, refer, pos-of, base-of, beyond, Stands}
 use Rattle.rules.specs.Settings.{most-words}
 
@@ -129,7 +129,7 @@ pub record Skips (ws : List ℕ) (w to w′ : ℕ) : Type 0 where
   pub same-base : base-of w′ ≡ base-of w
   pub forward : pos-of w < pos-of w′
 
-pub skip-pair : {ws : List ℕ} {w bits k p : ℕ} → PartAt ws w bits k p → (t : Term) (h : Stands ws w t) → k ≡ 4 → Skips ws w (h .to) (w + 1 + p)
+pub skip-pair : {ws : List ℕ} {w bits k p : ℕ} → PartRead ws w bits k p → (t : Term) (h : Stands ws w t) → k ≡ 4 → Skips ws w (h .to) (w + 1 + p)
 unfolding stands-at
 skip-pair {ws} {w} node (var x) h e = absurd (omega (arith, h .reads .0, node .is-kind))
 skip-pair {ws} {w} node (atom a) h e = let l = atom-low (at ws (pos-of w)) a (h .reads .0) in absurd (omega (arith, l .1, node .is-kind))
@@ -147,7 +147,7 @@ skip-pair {ws} {w} {p = p} node (pair s t) h e =
       forward = omega arith;
     }
 
-pub skip-leaf : {ws : List ℕ} {w bits k p : ℕ} → PartAt ws w bits k p → (t : Term) (h : Stands ws w t) → ¬ (k ≡ 4) → h .to ≡ pos-of w + 1
+pub skip-leaf : {ws : List ℕ} {w bits k p : ℕ} → PartRead ws w bits k p → (t : Term) (h : Stands ws w t) → ¬ (k ≡ 4) → h .to ≡ pos-of w + 1
 skip-leaf node (var x) h n = h .reads .2
 skip-leaf node (atom a) h n = h .reads .1
 skip-leaf node (pair s t) h n = absurd (n (node .is-kind ∙ h .reads .0))
@@ -162,10 +162,10 @@ pub record Skipping (ws : List ℕ) (start to w : ℕ) : Type 0 where
 pub skip-start : {ws : List ℕ} {w : ℕ} (t : Term) (h : Stands ws w t) → Skipping ws w (h .to) w
 skip-start t h = record { here = t; stands = h; ends = refl; same-base = refl }
 
-pub skip-ends : {ws : List ℕ} {start to w bits k p : ℕ} → Skipping ws start to w → PartAt ws w bits k p → ¬ (k ≡ 4) → w + 1 + pos-of start ≡ start + to
+pub skip-ends : {ws : List ℕ} {start to w bits k p : ℕ} → Skipping ws start to w → PartRead ws w bits k p → ¬ (k ≡ 4) → w + 1 + pos-of start ≡ start + to
 skip-ends g node n = omega (arith, skip-leaf node (g .here) (g .stands) n, g .ends, g .same-base)
 
-pub skip-on : {ws : List ℕ} {start to w bits k p : ℕ} → Skipping ws start to w → PartAt ws w bits k p → k ≡ 4 → Skipping ws start to (w + 1 + p)
+pub skip-on : {ws : List ℕ} {start to w bits k p : ℕ} → Skipping ws start to w → PartRead ws w bits k p → k ≡ 4 → Skipping ws start to (w + 1 + p)
 skip-on g node e = let q = skip-pair node (g .here) (g .stands) e in record { here = q .term; stands = q .stands; ends = q .ends ∙ g .ends; same-base = q .same-base ∙ g .same-base }
 
 -- A place holds one term, and it ends at one place.

@@ -17,7 +17,7 @@ use Rattle.semantics.specs.Unify.{scan, is-var, is-atom, unify-terms}
 use Rattle.semantics.specs.Review.{other-sort, reaches, clashes, sort-fails, trial-fails, reviewed, review, review-all}
 use Rattle.engine.specs.Reference.{at, AtomIs, pos-of, base-of, Stands, KeepsAt}
 use Rattle.engine.specs.Memory.{BindingsIn, KeptIn}
-use Rattle.engine.specs.Walk.{PartAt, Binds, Follows}
+use Rattle.engine.specs.Walk.{PartRead, Binds, Follows}
 use Rattle.engine.specs.Trail.{Trailed, Undone, Apart}
 use Rattle.engine.specs.Scan.{ScanAs, scan-says}
 use Rattle.engine.specs.Unify.{TwoTerms, Went, UnifiedAs}
@@ -46,7 +46,7 @@ absento-term ws w a t h =
     stands-at ws (base-of w) (pos-of w + 2) (h .reads .2 .0) (w + 2) t (omega arith) (h .reads .2 .1) (omega (arith, h .inside)) (omega (arith, h .small)) (omega (arith, h .below)) (h .in-range)
 
 -- the tag is the word before it
-pub absento-tag : (ws : List ℕ) (w : ℕ) (a : Atom) (t : Term) {bits k p : ℕ} → KeepsAt ws w (absento a t) → PartAt ws (w + 1) bits k p → AtomIs bits a
+pub absento-tag : (ws : List ℕ) (w : ℕ) (a : Atom) (t : Term) {bits k p : ℕ} → KeepsAt ws w (absento a t) → PartRead ws (w + 1) bits k p → AtomIs bits a
 absento-tag ws w a t h node =
     let l : pos-of w + 2 + 0 < h .reads .2 .0 = omega (arith, term-longer ws (base-of w) (pos-of w + 2) (h .reads .2 .0) t (h .reads .2 .1)) in
     let is-pos : pos-of (w + 1) ≡ pos-of w + 1 = omega (arith, h .reads .2 .2, h .small) in
@@ -85,7 +85,7 @@ pub record AbsentoAt (ws : List ℕ) (w : ℕ) (c : Constraint) : Type 0 where
   pub is : c ≡ absento tag term
   pub keeps : KeepsAt ws w (absento tag term)
 
-module _ {ws : List ℕ} {w bits kind p : ℕ} (node : PartAt ws w bits kind p) where
+module _ {ws : List ℕ} {w bits kind p : ℕ} (node : PartRead ws w bits kind p) where
   pub differ-at : (c : Constraint) → KeepsAt ws w c → kind ≡ 6 → DifferAt ws w c
   differ-at (differ u v) h e = differ-terms ws w u v h
   differ-at (typed k t) h e = absurd (omega (arith, node .is-kind, h .reads .0, sort-low k .0))
@@ -134,7 +134,7 @@ other-low : (k : Sort) → (6 < other-kind k) × (other-kind k < 9)
 other-low symbols = omega arith
 other-low numbers = omega arith
 
-module _ {ws : List ℕ} {w bits kind p sought : ℕ} (node : PartAt ws w bits kind p) (bs : Substitution) (c : Constraint) (k : Sort) (x : ℕ) (h : KeepsAt ws w c) (is-sought : sought ≡ other-kind k) where
+module _ {ws : List ℕ} {w bits kind p sought : ℕ} (node : PartRead ws w bits kind p) (bs : Substitution) (c : Constraint) (k : Sort) (x : ℕ) (h : KeepsAt ws w c) (is-sought : sought ≡ other-kind k) where
   pub reaches-other : ¬ (kind ≡ sought) → false ≡ reaches bs k x c
   reaches-other n = go c h
     where
@@ -149,7 +149,7 @@ module _ {ws : List ℕ} {w bits kind p sought : ℕ} (node : PartAt ws w bits k
   reached-is : (e : kind ≡ sought) → reaches bs k x c ≡ is-var x (walk bs (reached e .term))
   reached-is e = ap (reaches bs k x) (reached e .is) ∙ rw (other-sort-kind k (reached e .sort) (sym (reached e .is-kind) ∙ e ∙ is-sought)) refl
 
-  module _ (e : kind ≡ sought) {q bits′ kind′ p′ : ℕ} (at-q : Stands ws q (walk bs (reached e .term))) (here : PartAt ws q bits′ kind′ p′) where
+  module _ (e : kind ≡ sought) {q bits′ kind′ p′ : ℕ} (at-q : Stands ws q (walk bs (reached e .term))) (here : PartRead ws q bits′ kind′ p′) where
     pub reaches-no-variable : ¬ (kind′ ≡ 0) → false ≡ reaches bs k x c
     reaches-no-variable n = sym (reached-is e ∙ go (walk bs (reached e .term)) at-q)
       where
@@ -204,7 +204,7 @@ clash-none {bs = bs} {cs = cs} {k = k} {x = x} {kept = kept} {i = i} g le = sym 
 
 -- A type's review
 
-module _ {ws : List ℕ} {q bits kind p : ℕ} (node : PartAt ws q bits kind p) (bs : Substitution) (cs : List Constraint) (k : Sort) (f : Term) (at-q : Stands ws q f) (left : ℕ) where
+module _ {ws : List ℕ} {q bits kind p : ℕ} (node : PartRead ws q bits kind p) (bs : Substitution) (cs : List Constraint) (k : Sort) (f : Term) (at-q : Stands ws q f) (left : ℕ) where
   pub type-open : {x : ℕ} → x ≡ base-of q + p → kind ≡ 0 → {r : Bool} → r ≡ clashes bs k x cs → sort-fails bs cs k f ≡ r
   type-open i e c = let o = open-at node f at-q e in ap (sort-fails bs cs k) (o .is) ∙ ap (λ y. clashes bs k y cs) (sym (i ∙ o .number-is)) ∙ sym c
 
@@ -246,7 +246,7 @@ module _ {ws : List ℕ} {q bits kind p : ℕ} (node : PartAt ws q bits kind p) 
 
 -- An absento's review
 
-module _ {ws s : List ℕ} {w bits kind p : ℕ} (left : ℕ) (node : PartAt ws (w + 1) bits kind p) (r : Scanned) (told : (bs : Substitution) (t : Term) → Follows ws s bs (w + 2) t → ScanAs bits bs t 0 left r)
+module _ {ws s : List ℕ} {w bits kind p : ℕ} (left : ℕ) (node : PartRead ws (w + 1) bits kind p) (r : Scanned) (told : (bs : Substitution) (t : Term) → Follows ws s bs (w + 2) t → ScanAs bits bs t 0 left r)
     (bs : Substitution) (a : Atom) (t : Term) (held : Binds ws s bs) (h : KeepsAt ws w (absento a t)) where
   absento-is : scan (is-atom a) bs [] t left ≡ scan-says r [] (λ us u l. scan (is-atom a) bs us u l)
   absento-is = told bs t (record { binds = held; stands = absento-term ws w a t h }) (is-atom a) [] (atom-sought bits a (absento-tag ws w a t h node)) refl

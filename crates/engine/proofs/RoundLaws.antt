@@ -1,7 +1,7 @@
 -- One round, from answer to answer: what the loop of `round` keeps, and one law for each way in which it returns or goes on.
 use Prim.Native.Nat.{ℕ, suc, _+_, _≤_, _<_}
 use mathlib.Core.Path.{_≡_, refl, sym, ap, subst, _∙_}
-use mathlib.Core.List.{List, [], _∷_, _++_, append-assoc, append-nil}
+use mathlib.Core.List.{List, [], _∷_, _++_}
 use native.Mathlib.Omega.{arith}
 use lib.ListN.{length, take, length-append}
 use borrow.Author.Tests.{le-leb, lt-leb}
@@ -20,7 +20,7 @@ use Rattle.semantics.proofs.Basics.{clash}
 use Rattle.semantics.proofs.StepLaws.{Spent}
 use Rattle.semantics.proofs.Counts.{answer-spent}
 use Rattle.semantics.proofs.Programs.{program-in}
-use Rattle.semantics.proofs.Fair.{RoundedFair, search-fair}
+use Rattle.semantics.proofs.Fair.{RoundedFair, page-more, search-fair}
 use Rattle.semantics.proofs.Whole.{start-fine}
 use Rattle.engine.specs.Layout.{positions}
 use Rattle.engine.specs.Reference.{pos-of}
@@ -108,11 +108,6 @@ fair-left m total (broken d u) t f = (λ e. clash (cc), λ c e. let q : u ≡ t 
 fewer-left : {output output′ : List ℕ} {l m used answers : ℕ} {t : Tally} (c : ℕ) → TallyAs output (record { left = l; used = used; answers = answers }) t → m ≤ l → length output′ ≡ length output → take used output′ ≡ take used output
     → TallyAs output′ (record { left = m; used = used; answers = answers }) (counted-to t m c)
 fewer-left c h le e f = record { left = refl; used = h .used; room = h .room ∙ ap usable (sym e); answers = h .answers; page-is = f ∙ h .page-is; counted = omega (arith, h .counted) }
-
--- the page with one answer more
-page-more : (earlier : List round.Answer) (k : ℕ) (xs : List ℕ) → page (earlier ++ ((k, xs) ∷ [])) ≡ page earlier ++ xs
-page-more [] k xs = append-nil xs
-page-more (a ∷ later) k xs = ap (λ x. a .1 ++ x) (page-more later k xs) ∙ sym (append-assoc (a .1) (page later) xs)
 
 -- a round of relation R, with this tally at its start
 abbrev pub RoundAs : List ℕ → Program → Relation → ℕ → Tally → List ℕ → List ℕ → code-rounded.Rounded → Type 0

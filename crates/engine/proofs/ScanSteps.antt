@@ -15,7 +15,7 @@ use Rattle.semantics.specs.Invariant.{Good}
 use Rattle.semantics.proofs.SubstitutionLaws.{followed-follow, walk-followed, size, size-walk, size-parts}
 use Rattle.semantics.proofs.ScanLaws.{Leaf}
 use Rattle.engine.specs.Reference.{at, AtomIs, pos-of, base-of, Stands}
-use Rattle.engine.specs.Walk.{PartAt, Follows}
+use Rattle.engine.specs.Walk.{PartRead, Follows}
 use Rattle.engine.specs.Scan.{LeafWord, TestAs, ScanAs, scan-says}
 use Rattle.engine.specs.declared.terms.scan.Scanned.{Scanned}
 use Rattle.engine.specs.declared.terms.scan.Scanned.the-variants.{Found, Clear, StepsOut, WaitingOut}
@@ -23,7 +23,7 @@ use Rattle.engine.proofs.ReferenceLaws.{atom-low, atom-test, parts}
 use Rattle.engine.proofs.SizeLaws.{followed-size, reach-size}
 
 -- what stands at a followed reference, by the kind of its word
-module _ {ws : List ℕ} {w : ℕ} {bits k p : ℕ} (node : PartAt ws w bits k p) where
+module _ {ws : List ℕ} {w : ℕ} {bits k p : ℕ} (node : PartRead ws w bits k p) where
   pub record OpenAt (t : Term) : Type 0 where
     pub number : ℕ
     pub is : t ≡ var number
@@ -128,7 +128,7 @@ module _ {ws s : List ℕ} {sought n steps : ℕ} {bs : Substitution} {t : Term}
   unfolding scan-says
   scan-out z test vs is e = g .same test vs is e ∙ ap (scan test bs vs (g .here)) z
 
-  module _ {q bits k p : ℕ} (some-left : ¬ (left ≡ 0)) (at-q : Stands ws q (walk bs (g .here))) (node : PartAt ws q bits k p) where
+  module _ {q bits k p : ℕ} (some-left : ¬ (left ≡ 0)) (at-q : Stands ws q (walk bs (g .here))) (node : PartRead ws q bits k p) where
     pub scan-leaf : {r : ℕ} → ¬ (k ≡ 4) → LeafWord q bits k p r → r ≡ sought → ScanAs sought bs t n steps (Found (left - 1))
     scan-leaf {r} m l z test vs is e =
         let o = leaf-at node (walk bs (g .here)) at-q m l in

@@ -1,5 +1,5 @@
 -- The table of relations: filled from relation to relation, and read.
-use Prim.Native.Nat.{ℕ, zero, suc, _+_, _-_, _≤_, _<_}
+use Prim.Native.Nat.{ℕ, zero, suc, _+_, _≤_, _<_}
 use mathlib.Core.Path.{_≡_, refl, sym, ap, subst, _∙_}
 use mathlib.Core.Option.{Option·some-injective, some}
 use mathlib.Core.List.{List, [], _∷_, _++_}
@@ -9,14 +9,13 @@ use lib.Seq.{getD-set-same, getD-set-other}
 use Rattle.rules.specs.Syntax.{Relation, Program}
 use Rattle.rules.specs.Written.{relation-words, written}
 use Rattle.rules.specs.WellFormed.{RelationsGood}
-use Rattle.rules.specs.Inner as reading
-use Rattle.rules.specs.Inner.{RelationsAt}
+use Rattle.rules.specs.Inner.{PartAt, RelationsAt}
 use Rattle.rules.proofs.Pass.{relations-split, relations-some, relations-none, lookup-none}
 use Rattle.semantics.proofs.Basics.{clash, compared, same, other}
 use Rattle.engine.specs.Layout.{positions, layout-words}
 use Rattle.engine.specs.Reference.{at, pos-of, RelationAt}
 use Rattle.engine.specs.Memory.{table-at, TableIn}
-use Rattle.engine.specs.Walk.{PartAt}
+use Rattle.engine.specs.Walk.{PartRead}
 use Rattle.engine.specs.Trail.{Same}
 use Rattle.engine.specs.Take.{RelationIs}
 use Rattle.rules.specs.Settings.{most-words}
@@ -56,7 +55,7 @@ fill-start ws s P h few long = record {
 }
 
 -- the place of a relation's word, as a reference
-part-of : (ws : List ℕ) (pos b k p : ℕ) → pos < positions → PartAt ws pos b k p → reading.PartAt ws pos k p
+part-of : (ws : List ℕ) (pos b k p : ℕ) → pos < positions → PartRead ws pos b k p → PartAt ws pos k p
 part-of ws pos b k p lt i = let e : pos-of pos ≡ pos = omega arith in record { is-kind = rw e at (i .is-kind); is-size = rw e at (i .is-payload) }
 
 -- what the code needs of the next relation
@@ -68,7 +67,7 @@ fill-few ws s₀ s P pos r f lt =
     let e : pos-of pos ≡ pos = omega arith in
     (omega (arith, f .count, f .few), omega arith, short)
 
-pub fill-step : (ws s₀ s : List ℕ) (P : Program) (pos r b k p : ℕ) → Filling ws s₀ s P pos r → pos < length ws → PartAt ws pos b k p
+pub fill-step : (ws s₀ s : List ℕ) (P : Program) (pos r b k p : ℕ) → Filling ws s₀ s P pos r → pos < length ws → PartRead ws pos b k p
     → Filling ws s₀ (set s (11776 + r) pos) P (pos + 1 + p) (r + 1) × (pos + 1 + p ≤ length ws)
 fill-step ws s₀ s P pos r b k p f lt i = go (f .rest) (f .there) (f .left-are) (f .count)
   where
@@ -128,7 +127,7 @@ module _ (P : Program) (ws s : List ℕ) (n : ℕ) (R : Relation) (table : Table
   pub row-inside : (d : ℕ) → d < 4 → pos-of (at s (11776 + n) + d) < length ws
   row-inside d lt = let e : pos-of (at s (11776 + n) + d) ≡ at s (11776 + n) + d = omega (arith, row-place .1) in omega (arith, row-place .0)
 
-  pub row-read : {b₁ k₁ p₁ b₂ k₂ p₂ : ℕ} → PartAt ws (at s (11776 + n) + 1) b₁ k₁ p₁ → PartAt ws (at s (11776 + n) + 2) b₂ k₂ p₂ → RelationIs ws p₁ p₂ (at s (11776 + n) + 3) R
+  pub row-read : {b₁ k₁ p₁ b₂ k₂ p₂ : ℕ} → PartRead ws (at s (11776 + n) + 1) b₁ k₁ p₁ → PartRead ws (at s (11776 + n) + 2) b₂ k₂ p₂ → RelationIs ws p₁ p₂ (at s (11776 + n) + 3) R
   row-read i j =
       let h : RelationAt ws (at s (11776 + n)) R = table n R is-R .1 in
       let e₁ : pos-of (at s (11776 + n) + 1) ≡ at s (11776 + n) + 1 = omega (arith, row-place .1) in

@@ -8,7 +8,7 @@ use Rattle.rules.specs.Reading.{kind-at}
 use Rattle.semantics.specs.Steps.{Outcome, step}
 use Rattle.semantics.specs.Path.{Task, Path, ChoicePoint, taken, take-goal}
 use Rattle.engine.specs.Reference.{GoalAt, pos-of, TaskAt}
-use Rattle.engine.specs.Walk.{PartAt}
+use Rattle.engine.specs.Walk.{PartRead}
 use Rattle.engine.specs.Take.{GoalReady, Due, TookAs, with-counts}
 use Rattle.engine.specs.declared.search.state.State.{State}
 use Rattle.engine.specs.declared.search.state.Stop.the-variants.{Steps}
@@ -34,7 +34,7 @@ kind-goal ws pos (conj gs) h = rw (h .0) joins
 kind-goal ws pos (disj gs) h = rw (h .0) chooses
 kind-goal ws pos (call r ts) h = rw (h .0) calls
 
-pub of-kind : {ws : List ℕ} {w b k n m : ℕ} {task : Task} → TaskAt ws w task → PartAt ws w b k n → k ≡ m → OfKind m (task .1)
+pub of-kind : {ws : List ℕ} {w b k n m : ℕ} {task : Task} → TaskAt ws w task → PartRead ws w b k n → k ≡ m → OfKind m (task .1)
 of-kind {ws} {w} {task = task} t node e = subst (λ k. OfKind k (task .1)) (sym (node .is-kind) ∙ e) (kind-goal ws (pos-of w) (task .1) (t .goal))
 
 pub is-equal : {g : Goal} → OfKind 5 g → (s : Term) × (t : Term) × (g ≡ equal s t)

@@ -86,9 +86,9 @@ module _ {ws s₀ : List ℕ} {bs₀ : Substitution} {u₀ v₀ : Term} {steps :
     went-still e = subst (λ z. Went ws s₀ bs₀ z trail) (sym e) (g .went)
 
     module _ (s′ : List ℕ) (r : PairUnified) (m : PairUnifiedAs ws s s′ (g .went .next) (g .left) (g .right) rest r) where
-      pub met-long : length s′ ≡ length s₀
+      pub paired-long : length s′ ≡ length s₀
       unfolding PairUnifiedAs
-      met-long = go r m ∙ g .went .apart .long
+      paired-long = go r m ∙ g .went .apart .long
         where
           go : (r : PairUnified) → PairUnifiedAs ws s s′ (g .went .next) (g .left) (g .right) rest r → length s′ ≡ length s
           go (paired.Fails left) m = ap length (m .untouched)

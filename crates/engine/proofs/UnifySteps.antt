@@ -22,7 +22,7 @@ use Rattle.semantics.proofs.UnifyLaws as laws
 use Rattle.engine.specs.Layout.{references}
 use Rattle.engine.specs.Reference.{at, AtomIs, base-of, Stands}
 use Rattle.engine.specs.Memory.{trail-at, BindingsIn, bound}
-use Rattle.engine.specs.Walk.{PartAt, Binds, Follows}
+use Rattle.engine.specs.Walk.{PartRead, Binds, Follows}
 use Rattle.engine.specs.Scan.{ScanAs, scan-says}
 use Rattle.engine.specs.Unify.{BindsTo, PartsTo, LookedAs, TwoTerms, PairGoes, PairUnifiedAs}
 use Rattle.engine.specs.declared.terms.scan.Scanned.{Scanned}
@@ -36,7 +36,7 @@ use Rattle.engine.proofs.ScanSteps.{open-at, atom-at, pair-at, variable
 
 -- Two followed terms, by the kinds of their words
 
-module _ {ws : List ℕ} {a bits k p b bits′ k′ p′ : ℕ} (left : PartAt ws a bits k p) (right : PartAt ws b bits′ k′ p′) (u v : Term) (su : Stands ws a u) (sv : Stands ws b v) where
+module _ {ws : List ℕ} {a bits k p b bits′ k′ p′ : ℕ} (left : PartRead ws a bits k p) (right : PartRead ws b bits′ k′ p′) (u v : Term) (su : Stands ws a u) (sv : Stands ws b v) where
   left-bound : (x : ℕ) (v : Term) → Stands ws b v → ¬ (k′ ≡ 0) → look (var x) v ≡ binds x v
   left-bound x (var y) h n = absurd (n (right .is-kind ∙ h .reads .0))
   left-bound x (atom c) h n = refl

@@ -17,7 +17,7 @@ use Rattle.semantics.proofs.Basics.{clash}
 use Rattle.semantics.proofs.SubstitutionLaws.{Followed, walk-for-open, walk-for-some, followed-follow, walk-for-enough, walk-followed, walk-some}
 use Rattle.engine.specs.Reference.{at, AtomIs, pos-of, base-of, Stands}
 use Rattle.engine.specs.Memory.{BoundTo, Entry, BindingsIn}
-use Rattle.engine.specs.Walk.{PartAt, Follows}
+use Rattle.engine.specs.Walk.{PartRead, Follows}
 use Rattle.engine.proofs.TrailLaws.{fresh-few}
 
 -- the variable that a reference to a variable's word stands for
@@ -160,7 +160,7 @@ pub record Hop (ws s : List ℕ) (bs : Substitution) (w : ℕ) (t : Term) (w′ 
 
 -- What the loop knows, in the shape of its tests
 
-module _ {ws s : List ℕ} {bs : Substitution} {w : ℕ} {t : Term} {bits k p : ℕ} (f : Follows ws s bs w t) (here : PartAt ws w bits k p) where
+module _ {ws s : List ℕ} {bs : Substitution} {w : ℕ} {t : Term} {bits k p : ℕ} (f : Follows ws s bs w t) (here : PartRead ws w bits k p) where
   pub walk-node : ¬ (k ≡ 0) → Stands ws w (walk bs t)
   walk-node n = subst (Stands ws w) (sym (arrived-node ws s bs w t (f .binds .bindings-in) (f .stands) (λ e. n (here .is-kind ∙ e)))) (f .stands)
 

@@ -52,7 +52,3 @@ pairs-area = 10752
 
 abbrev pub relations-area : ℕ
 relations-area = 11776
-
--- how many relations a program can have: condition 6
-abbrev pub most-relations : ℕ
-most-relations = 256

@@ -6,9 +6,10 @@ use mathlib.Core.List.{List, [], _∷_, _++_}
 use lib.ListN.{length, set, getElem?}
 use lib.Seq.{sets}
 use Rattle.rules.specs.Syntax.{Term, Constraint, Relation, Program}
+use Rattle.rules.specs.Settings.{most-relations}
 use Rattle.semantics.specs.Substitution.{Substitution, lookup}
 use Rattle.semantics.specs.Path.{Task, Path, ChoicePoint}
-use Rattle.engine.specs.Layout.{most-variables, most-goals, most-disjunctions, most-constraints, layout-words, trail-area, names-area, cells-area, points-area, constraints-area, relations-area, most-relations}
+use Rattle.engine.specs.Layout.{most-variables, most-goals, most-disjunctions, most-constraints, layout-words, trail-area, names-area, cells-area, points-area, constraints-area, relations-area}
 use Rattle.engine.specs.Reference.{at, Stands, TaskAt, RestAt, KeepsAt, RelationAt}
 
 -- Places in the scratch.

@@ -17,14 +17,14 @@ use Rattle.engine.specs.declared.terms.walk.Shape.{Shape}
 use Rattle.engine.specs.declared.terms.walk.Shape.the-variants.{Open, Atom as Leaf, Pair}
 
 -- the part at a reference: its first word, with kind and payload
-pub record PartAt (ws : List ℕ) (w bits k p : ℕ) : Type 0 where
+pub record PartRead (ws : List ℕ) (w bits k p : ℕ) : Type 0 where
   pub is-bits : bits ≡ at ws (pos-of w)
   pub is-kind : k ≡ kind-at ws (pos-of w)
   pub is-payload : p ≡ payload-at ws (pos-of w)
 
 -- a followed term has the word at its reference
 abbrev pub IsNode : List ℕ → Walked → Type 0
-IsNode ws n = PartAt ws (n .at) (n .bits) (n .kind) (n .payload)
+IsNode ws n = PartRead ws (n .at) (n .bits) (n .kind) (n .payload)
 
 -- the scratch holds a path's bindings, and they are acyclic
 pub record Binds (ws s : List ℕ) (bs : Substitution) : Type 0 where

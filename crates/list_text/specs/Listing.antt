@@ -1,5 +1,5 @@
 -- What the listing program prints, after document 01, "The listing program": the text of a file of bytes, as the codes of its characters.
-use Prim.Native.Nat.{ℕ, zero, suc, _+_, _*_, _/_, _%_, _≤_, min}
+use Prim.Native.Nat.{ℕ, zero, suc, _+_, _/_, _%_, _≤_, min}
 use Prim.Native.Char.{code}
 use Prim.Native.String.{String, [] as ε, _∷_ as _and_}
 use mathlib.Core.Path.{_≡_}

@@ -1,6 +1,6 @@
 // The first line of a list.
-use crate::put::put_text;
 use crate::put::put_number;
+use crate::put::put_text;
 use engine::End;
 use engine::Report;
 ghost use mathlib.Core.List.{_++_};

@@ -10,7 +10,7 @@ use lib.Dec.{eqb, ltb, leb}
 use lib.ListN.{length, getD}
 use Rattle.word.specs.Word.{kind, payload}
 use Rattle.rules.specs.Syntax.{Atom, symbol, number, empty, Term, var, atom, pair, symbols, numbers, differ, typed, absento, Goal, Goals, equal, constrain, conj, disj, call, one, more, Relation, Program}
-use Rattle.rules.specs.Settings.{most-words}
+use Rattle.rules.specs.Settings.{most-relations, most-words}
 
 -- what a reader finds: a value and the place after it, or the number and the place of a refusal
 pub data Reading (A : Type 0) : Type 0 where
@@ -180,7 +180,7 @@ unfoldable pub read-relation : ℕ → List ℕ → ℕ → ℕ → Reading Rela
 read-relation words ws before at =
     require (eqb (kind-at ws at) 13) 2 at (λ _.
     inside ws at (length ws) (λ _.
-    require (ltb before 256) 6 at (λ _.
+    require (ltb before most-relations) 6 at (λ _.
     next (read-word 2 ws (at + 1) (after ws at)) (λ params n. read-variables words ws params n (after ws at)))))
 
 -- "A program is relations 0, 1, 2 and so on"

@@ -6,7 +6,7 @@ use mathlib.Core.List.{List, [], _∷_}
 use lib.ListN.{length, getElem?}
 use Rattle.rules.specs.Syntax.{Atom, symbol, number, empty, Term, var, atom, pair, Constraint, differ, typed, absento, Goal, Goals, equal, constrain, conj, disj, call, one, more, Relation, Program}
 use Rattle.rules.specs.Written.{written}
-use Rattle.rules.specs.Settings.{most-words}
+use Rattle.rules.specs.Settings.{most-relations, most-words}
 
 -- payloads are below 2^28
 abbrev pub AtomGood : Atom → Type 0
@@ -80,7 +80,7 @@ RelationsCalls (R ∷ Rs) P = GoalCalls (R .body) P × RelationsCalls Rs P
 
 -- "at most 256 relations", each with its variables in range, and every call met
 pub record WellFormed (P : Program) : Type 0 where
-  pub few : length P ≤ 256
+  pub few : length P ≤ most-relations
   pub relations : RelationsGood P
   pub calls : RelationsCalls P P
 

@@ -1,13 +1,13 @@
 -- What the other proofs go by: impossible equations, tests with what they say, lists.
 use Prim.Native.Nat.{ℕ}
 use mathlib.Core.Bool.{Bool, _&&_, _||_, false, true}
-use mathlib.Core.List.{List, [], _++_, _∷_, reverseAux}
+use mathlib.Core.List.{List, [], _++_, _∷_, append-assoc, append-nil, reverseAux}
 use mathlib.Core.Logic.{_↔_, _⊎_, inl, inr, ⊎-elim}
-use mathlib.Core.Path.{_≡_, refl}
+use mathlib.Core.Path.{_∙_, _≡_, ap, refl, sym}
 use native.Mathlib.Omega.{arith}
 use lib.Dec.{eqb}
 use borrow.Author.Tests.{eqb-false, eqb-true}
-use Rattle.rules.specs.Lists.{Each, Some}
+use Rattle.rules.specs.Lists.{Each, Some, joined}
 use Rattle.rules.specs.Reading.{choose}
 
 -- what two constructors of one value come to: `clash (cc …)`
@@ -52,6 +52,11 @@ or-right false = refl
 pub each-map : {A : Type 0} {P Q : A → Type 0} → ((x : A) → P x → Q x) → (xs : List A) → Each P xs → Each Q xs
 each-map f [] h = tt
 each-map f (x ∷ xs) h = (f x (h .0), each-map f xs (h .1))
+
+-- one list more behind those that are joined
+pub joined-more : {A : Type 0} (lists : List (List A)) (xs : List A) → joined (lists ++ (xs ∷ [])) ≡ joined lists ++ xs
+joined-more [] xs = append-nil xs
+joined-more (ys ∷ later) xs = ap (λ zs. ys ++ zs) (joined-more later xs) ∙ sym (append-assoc ys (joined later) xs)
 
 pub each-append : {A : Type 0} (P : A → Type 0) (xs ys : List A) → Each P (xs ++ ys) ↔ (Each P xs × Each P ys)
 each-append P [] ys = (λ h. (tt, h), λ h. h .1)

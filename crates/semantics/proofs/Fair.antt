@@ -1,18 +1,19 @@
 -- Turns spend steps, answers fit the room left, and fuel never ends a run.
 use Prim.Native.Nat.{_+_, _<_, _≤_, suc, zero, ℕ}
-use mathlib.Core.List.{List, [], _++_, _∷_}
+use mathlib.Core.List.{List, [], _++_, _∷_, map, map-append}
 use mathlib.Core.Path.{_∙_, _≡_, ap, fun-ext, refl}
 use native.Mathlib.Omega.{arith}
 use lib.Dec.{eqb, leb}
 use lib.ListN.{length, length-append}
 use borrow.Author.Tests.{leb-true}
+use Rattle.rules.specs.Lists.{joined}
 use Rattle.rules.specs.Syntax.{Goals, Program, Relation, more, one}
 use Rattle.semantics.specs.Answer.{answer}
 use Rattle.semantics.specs.Path.{ChoicePoint, Passing, Path, Taken, Task, cut, goes, leaves, take-goal-by, taken-by}
 use Rattle.semantics.specs.Round.{Answer, End, Next, Result, Rounded, State, Tally, after, after-round, backtrack, broken, completed, count-cut, end-of, finished, give, go-on, going, one-round-by, onward, output-full, over, path-limit, result, resume, rounds-by, rounds-used, search-by, spend, start, steps-used, turn-by, write}
 use Rattle.semantics.specs.Run.{page}
 use Rattle.semantics.specs.Steps.{Outcome, Stop, at-bound, done, no-steps, stop}
-use Rattle.semantics.proofs.Basics.{by-choose}
+use Rattle.semantics.proofs.Basics.{by-choose, joined-more}
 use Rattle.semantics.proofs.Counts.{answer-spent, taken-spent}
 use Rattle.semantics.proofs.StepLaws.{Spent, spent-up}
 
@@ -20,9 +21,9 @@ use Rattle.semantics.proofs.StepLaws.{Spent, spent-up}
 abbrev pub FitsPage : ℕ → Tally → Type 0
 FitsPage total t = t .room + length (page (t .written)) ≡ total
 
-page-append : (xs ys : List Answer) → length (page (xs ++ ys)) ≡ length (page xs) + length (page ys)
-page-append [] ys = omega arith
-page-append (a ∷ xs) ys = let e = page-append xs ys in let p = length-append (a .1) (page (xs ++ ys)) in let q = length-append (a .1) (page xs) in omega arith
+-- the page with one answer more
+pub page-more : (earlier : List Answer) (k : ℕ) (ws : List ℕ) → page (earlier ++ ((k, ws) ∷ [])) ≡ page earlier ++ ws
+page-more earlier k ws = ap joined (map-append (λ a. a .1) earlier ((k, ws) ∷ [])) ∙ joined-more (map (λ a. a .1) earlier) ws
 
 -- the steps left where a round is broken off by this end
 abbrev pub Broke : End → Tally → Type 0
@@ -58,7 +59,7 @@ module _ (pass : Passing) (P : Program) (n k m total : ℕ) where
   give-fair cs t h f (stop no-steps l) s = stop-fair t no-steps l s (omega arith) f
   give-fair cs t h f (stop (at-bound b) l) s = stop-fair t (at-bound b) l (s .0, omega (arith, s .1)) (omega (arith, s .1)) f
   give-fair cs t h f (done ws l) s = by-choose (NextFair m total) (leb (length ws) (t .room)) _ _
-      (λ q. back-fair cs (write t k l ws) (omega arith) (let a = page-append (t .written) ((k, ws) ∷ []) in let b = length-append ws [] in let c = leb-true (length ws) (t .room) q in omega arith))
+      (λ q. back-fair cs (write t k l ws) (omega arith) (let a = ap length (page-more (t .written) k ws) in let b = length-append (page (t .written)) ws in let c = leb-true (length ws) (t .room) q in omega arith))
       (λ q. (omega arith, f, tt))
 
   go-on-fair : (p : Path) (stack : List Task) (cs : List ChoicePoint) (t : Tally) → t .left < m → FitsPage total t → NextFair m total (go-on P n k p stack cs t)

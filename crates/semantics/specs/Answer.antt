@@ -6,6 +6,7 @@ use mathlib.Core.Bool.{Bool, true, false, _||_, _&&_, not}
 use lib.Dec.{eqb}
 use lib.ListN.{length, take}
 use Rattle.rules.specs.Syntax.{Atom, empty, Term, var, atom, pair, Sort, Constraint, differ, typed, absento, Goal, Goals, constrain, disj, one, more}
+use Rattle.rules.specs.Lists.{joined}
 use Rattle.rules.specs.Reading.{choose}
 use Rattle.rules.specs.Written.{part, terms-words, goal-words}
 use Rattle.semantics.specs.Substitution.{Substitution, walk, resolve}
@@ -119,8 +120,7 @@ listed names before (l ∷ ls) = choose (stays names before l) (λ _. l ∷ list
 
 -- and of lines, one after the other
 abbrev pub lines-words : List ℕ → List Line → List ℕ
-lines-words names [] = []
-lines-words names (l ∷ ls) = line-words names l ++ lines-words names ls
+lines-words names ls = joined (map (line-words names) ls)
 
 -- the query's parameters: variables i to i + n - 1
 abbrev pub parameters : ℕ → ℕ → List Term

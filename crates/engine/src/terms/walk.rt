@@ -7,7 +7,7 @@ ghost use lib.ListN.{length};
 ghost use Rattle.rules.specs.Syntax.{Term};
 ghost use Rattle.semantics.specs.Substitution.{Substitution};
 ghost use Rattle.engine.specs.Reference.{base-of, pos-of, Stands};
-ghost use Rattle.engine.specs.Walk.{PartAt, Follows, WalkedTo, Resolves, Shaped};
+ghost use Rattle.engine.specs.Walk.{PartRead, Follows, WalkedTo, Resolves, Shaped};
 
 // The part at a reference: its first word.
 pub struct Part {
@@ -18,7 +18,7 @@ pub struct Part {
 
 pub(crate) fn part_at(program: &[u32], reference: u32) -> Part
     requires { ⌜ pos-of reference < length (now program) ⌝ }
-    ensures { λ r. ⌜ PartAt (now (program .entry)) reference (r .bits) (r .kind) (r .payload) ⌝ }
+    ensures { λ r. ⌜ PartRead (now (program .entry)) reference (r .bits) (r .kind) (r .payload) ⌝ }
 {
     let bits = program[(reference % POSITIONS) as usize];
     let word = Word::from_bits(bits);

@@ -5,7 +5,7 @@ use lib.ListN.{length-set}
 use Rattle.rules.specs.Syntax.{Term}
 use Rattle.semantics.specs.Substitution.{Substitution}
 use Rattle.engine.specs.Unify.{TwoTerms, PairUnifiedAs}
-use Rattle.engine.proofs.UnifyLoop.{Unifying, unifying-start, unifying-two, unify-out, met-long, unify-failed, unify-stepped, unify-pathed, unify-joined, unify-fewer, unify-pop, unify-full, unify-push}
+use Rattle.engine.proofs.UnifyLoop.{Unifying, unifying-start, unifying-two, unify-out, paired-long, unify-failed, unify-stepped, unify-pathed, unify-joined, unify-fewer, unify-pop, unify-full, unify-push}
 use Rattle.engine.proofs.terms.unify.unify.Statement.{statement}
 use Rattle.engine.proofs.terms.unify.unify.Tie as tie
 
@@ -35,7 +35,7 @@ enum-known-after : tie.Need-enum-known-after Inv-loop μ-loop
 enum-known-after c = search needs
 
 same-length-2 : tie.Need-same-length-2 Inv-loop μ-loop
-same-length-2 c = let p = c .before .before .before .before .before .before .before .before .before .before .before .pre in met-long (c .before .before .before .before .before .before .before .before .loop .inv (p .0) (p .1) (p .2) (p .3)) (c .before .before .before .before .before .before .before .if1 .left) _ _ (said (c .before .before .before .before .before) (p .0) (p .1) (p .2) (p .3))
+same-length-2 c = let p = c .before .before .before .before .before .before .before .before .before .before .before .pre in paired-long (c .before .before .before .before .before .before .before .before .loop .inv (p .0) (p .1) (p .2) (p .3)) (c .before .before .before .before .before .before .before .if1 .left) _ _ (said (c .before .before .before .before .before) (p .0) (p .1) (p .2) (p .3))
 
 returns-2 : tie.Need-returns-2 Inv-loop μ-loop
 returns-2 c = λ bs u v m. unify-failed (c .before .before .before .before .before .before .before .before .loop .inv bs u v m) (c .before .before .before .before .before .before .before .if1 .left) _ _ (said (c .before .before .before .before .before) bs u v m) (c .before .after .given .1)
@@ -44,7 +44,7 @@ enum-known-grown : tie.Need-enum-known-grown Inv-loop μ-loop
 enum-known-grown c = search needs
 
 same-length-3 : tie.Need-same-length-3 Inv-loop μ-loop
-same-length-3 c = let p = c .before .before .before .before .before .before .before .before .before .before .before .before .pre in met-long (c .before .before .before .before .before .before .before .before .before .loop .inv (p .0) (p .1) (p .2) (p .3)) (c .before .before .before .before .before .before .before .before .if1 .left) _ _ (said (c .before .before .before .before .before .before) (p .0) (p .1) (p .2) (p .3))
+same-length-3 c = let p = c .before .before .before .before .before .before .before .before .before .before .before .before .pre in paired-long (c .before .before .before .before .before .before .before .before .before .loop .inv (p .0) (p .1) (p .2) (p .3)) (c .before .before .before .before .before .before .before .before .if1 .left) _ _ (said (c .before .before .before .before .before .before) (p .0) (p .1) (p .2) (p .3))
 
 returns-3 : tie.Need-returns-3 Inv-loop μ-loop
 returns-3 c = λ bs u v m. unify-joined (c .before .before .before .before .before .before .before .before .before .loop .inv bs u v m) (c .before .before .before .before .before .before .before .before .if1 .left) _ _ (said (c .before .before .before .before .before .before) bs u v m) (c .before .before .grown .given .1) (c .if2 .taken)
@@ -62,7 +62,7 @@ mul-a : tie.Need-mul-a Inv-loop μ-loop
 mul-a c = let p = c .before .before .before .before .before .before .before .before .before .before .before .before .pre in omega (arith, c .before .before .before .before .before .before .before .before .before .loop .inv (p .0) (p .1) (p .2) (p .3) .few)
 
 slice-read-a : tie.Need-slice-read-a Inv-loop μ-loop
-slice-read-a c = let p = c .before .before .before .before .before .before .before .before .before .before .before .before .before .pre in let g = c .before .before .before .before .before .before .before .before .before .before .loop .inv (p .0) (p .1) (p .2) (p .3) in omega (arith, c .before .if2 .left, g .few, p .3 .held .long, met-long g (c .before .before .before .before .before .before .before .before .before .if1 .left) _ _ (said (c .before .before .before .before .before .before .before) (p .0) (p .1) (p .2) (p .3)))
+slice-read-a c = let p = c .before .before .before .before .before .before .before .before .before .before .before .before .before .pre in let g = c .before .before .before .before .before .before .before .before .before .before .loop .inv (p .0) (p .1) (p .2) (p .3) in omega (arith, c .before .if2 .left, g .few, p .3 .held .long, paired-long g (c .before .before .before .before .before .before .before .before .before .if1 .left) _ _ (said (c .before .before .before .before .before .before .before) (p .0) (p .1) (p .2) (p .3)))
 
 add-b : tie.Need-add-b Inv-loop μ-loop
 add-b c = let p = c .before .before .before .before .before .before .before .before .before .before .before .before .before .pre in omega (arith, c .before .before .before .before .before .before .before .before .before .before .loop .inv (p .0) (p .1) (p .2) (p .3) .few)
@@ -71,7 +71,7 @@ mul-b : tie.Need-mul-b Inv-loop μ-loop
 mul-b c = let p = c .before .before .before .before .before .before .before .before .before .before .before .before .before .pre in omega (arith, c .before .before .before .before .before .before .before .before .before .before .loop .inv (p .0) (p .1) (p .2) (p .3) .few)
 
 slice-read-b : tie.Need-slice-read-b Inv-loop μ-loop
-slice-read-b c = let p = c .before .before .before .before .before .before .before .before .before .before .before .before .before .before .pre in let g = c .before .before .before .before .before .before .before .before .before .before .before .loop .inv (p .0) (p .1) (p .2) (p .3) in omega (arith, c .before .before .if2 .left, g .few, p .3 .held .long, met-long g (c .before .before .before .before .before .before .before .before .before .before .if1 .left) _ _ (said (c .before .before .before .before .before .before .before .before) (p .0) (p .1) (p .2) (p .3)))
+slice-read-b c = let p = c .before .before .before .before .before .before .before .before .before .before .before .before .before .before .pre in let g = c .before .before .before .before .before .before .before .before .before .before .before .loop .inv (p .0) (p .1) (p .2) (p .3) in omega (arith, c .before .before .if2 .left, g .few, p .3 .held .long, paired-long g (c .before .before .before .before .before .before .before .before .before .before .if1 .left) _ _ (said (c .before .before .before .before .before .before .before .before) (p .0) (p .1) (p .2) (p .3)))
 
 loop-less : tie.Need-loop-less Inv-loop μ-loop
 loop-less c = let p = c .before .before .before .before .before .before .before .before .before .before .before .before .before .before .pre in unify-fewer (c .before .before .before .before .before .before .before .before .before .before .before .loop .inv (p .0) (p .1) (p .2) (p .3)) (c .before .before .before .before .before .before .before .before .before .before .if1 .left) _ _ (said (c .before .before .before .before .before .before .before .before) (p .0) (p .1) (p .2) (p .3)) (c .before .before .before .before .grown .given .1)
@@ -83,7 +83,7 @@ enum-known-c : tie.Need-enum-known-c Inv-loop μ-loop
 enum-known-c c = search needs
 
 same-length-4 : tie.Need-same-length-4 Inv-loop μ-loop
-same-length-4 c = let p = c .before .before .before .before .before .before .before .before .before .before .before .before .pre in met-long (c .before .before .before .before .before .before .before .before .before .loop .inv (p .0) (p .1) (p .2) (p .3)) (c .before .before .before .before .before .before .before .before .if1 .left) _ _ (said (c .before .before .before .before .before .before) (p .0) (p .1) (p .2) (p .3))
+same-length-4 c = let p = c .before .before .before .before .before .before .before .before .before .before .before .before .pre in paired-long (c .before .before .before .before .before .before .before .before .before .loop .inv (p .0) (p .1) (p .2) (p .3)) (c .before .before .before .before .before .before .before .before .if1 .left) _ _ (said (c .before .before .before .before .before .before) (p .0) (p .1) (p .2) (p .3))
 
 returns-4 : tie.Need-returns-4 Inv-loop μ-loop
 returns-4 c = λ bs u v m. unify-full (c .before .before .before .before .before .before .before .before .before .loop .inv bs u v m) (c .before .before .before .before .before .before .before .before .if1 .left) _ _ (said (c .before .before .before .before .before .before) bs u v m) (c .before .before .c .given .1) (c .if3 .taken)
@@ -98,7 +98,7 @@ mul-scratch : tie.Need-mul-scratch Inv-loop μ-loop
 mul-scratch c = omega (arith, c .if3 .left)
 
 slice-write-scratch : tie.Need-slice-write-scratch Inv-loop μ-loop
-slice-write-scratch c = let p = c .before .before .before .before .before .before .before .before .before .before .before .before .pre in let g = c .before .before .before .before .before .before .before .before .before .loop .inv (p .0) (p .1) (p .2) (p .3) in omega (arith, c .if3 .left, p .3 .held .long, met-long g (c .before .before .before .before .before .before .before .before .if1 .left) _ _ (said (c .before .before .before .before .before .before) (p .0) (p .1) (p .2) (p .3)))
+slice-write-scratch c = let p = c .before .before .before .before .before .before .before .before .before .before .before .before .pre in let g = c .before .before .before .before .before .before .before .before .before .loop .inv (p .0) (p .1) (p .2) (p .3) in omega (arith, c .if3 .left, p .3 .held .long, paired-long g (c .before .before .before .before .before .before .before .before .if1 .left) _ _ (said (c .before .before .before .before .before .before) (p .0) (p .1) (p .2) (p .3)))
 
 add-scratch : tie.Need-add-scratch Inv-loop μ-loop
 add-scratch c = omega (arith, c .if3 .left)
@@ -107,7 +107,7 @@ mul-scratch-2 : tie.Need-mul-scratch-2 Inv-loop μ-loop
 mul-scratch-2 c = omega (arith, c .if3 .left)
 
 slice-write-scratch-2 : tie.Need-slice-write-scratch-2 Inv-loop μ-loop
-slice-write-scratch-2 c = let p = c .before .before .before .before .before .before .before .before .before .before .before .before .pre in let g = c .before .before .before .before .before .before .before .before .before .loop .inv (p .0) (p .1) (p .2) (p .3) in simp length-set (omega (arith, c .if3 .left, p .3 .held .long, met-long g (c .before .before .before .before .before .before .before .before .if1 .left) _ _ (said (c .before .before .before .before .before .before) (p .0) (p .1) (p .2) (p .3))))
+slice-write-scratch-2 c = let p = c .before .before .before .before .before .before .before .before .before .before .before .before .pre in let g = c .before .before .before .before .before .before .before .before .before .loop .inv (p .0) (p .1) (p .2) (p .3) in simp length-set (omega (arith, c .if3 .left, p .3 .held .long, paired-long g (c .before .before .before .before .before .before .before .before .if1 .left) _ _ (said (c .before .before .before .before .before .before) (p .0) (p .1) (p .2) (p .3))))
 
 add-waiting : tie.Need-add-waiting Inv-loop μ-loop
 add-waiting c = omega (arith, c .if3 .left)
@@ -125,7 +125,7 @@ enum-told : tie.Need-enum-told Inv-loop μ-loop
 enum-told c = search needs
 
 same-length-5 : tie.Need-same-length-5 Inv-loop μ-loop
-same-length-5 c = let p = c .before .before .before .before .before .before .before .before .before .before .pre in met-long (c .before .before .before .before .before .before .before .loop .inv (p .0) (p .1) (p .2) (p .3)) (c .before .before .before .before .before .before .if1 .left) _ _ (said (c .before .before .before .before) (p .0) (p .1) (p .2) (p .3))
+same-length-5 c = let p = c .before .before .before .before .before .before .before .before .before .before .pre in paired-long (c .before .before .before .before .before .before .before .loop .inv (p .0) (p .1) (p .2) (p .3)) (c .before .before .before .before .before .before .if1 .left) _ _ (said (c .before .before .before .before) (p .0) (p .1) (p .2) (p .3))
 
 returns-5 : tie.Need-returns-5 Inv-loop μ-loop
 returns-5 c = λ bs u v m. unify-stepped (c .before .before .before .before .before .before .before .loop .inv bs u v m) (c .before .before .before .before .before .before .if1 .left) _ _ (said (c .before .before .before .before) bs u v m) (c .enum-told .given .1)
@@ -134,7 +134,7 @@ enum-known-after-2 : tie.Need-enum-known-after-2 Inv-loop μ-loop
 enum-known-after-2 c = search needs
 
 same-length-6 : tie.Need-same-length-6 Inv-loop μ-loop
-same-length-6 c = let p = c .before .before .before .before .before .before .before .before .before .before .before .pre in met-long (c .before .before .before .before .before .before .before .before .loop .inv (p .0) (p .1) (p .2) (p .3)) (c .before .before .before .before .before .before .before .if1 .left) _ _ (said (c .before .before .before .before .before) (p .0) (p .1) (p .2) (p .3))
+same-length-6 c = let p = c .before .before .before .before .before .before .before .before .before .before .before .pre in paired-long (c .before .before .before .before .before .before .before .before .loop .inv (p .0) (p .1) (p .2) (p .3)) (c .before .before .before .before .before .before .before .if1 .left) _ _ (said (c .before .before .before .before .before) (p .0) (p .1) (p .2) (p .3))
 
 returns-6 : tie.Need-returns-6 Inv-loop μ-loop
 returns-6 c = λ bs u v m. unify-pathed (c .before .before .before .before .before .before .before .before .loop .inv bs u v m) (c .before .before .before .before .before .before .before .if1 .left) _ _ (said (c .before .before .before .before .before) bs u v m) (c .before .after2 .given .1)

@@ -6,10 +6,10 @@ use native.Mathlib.Omega.{arith}
 use lib.ListN.{length, set, length-set}
 use lib.Seq.{getD-set-other}
 use Rattle.rules.specs.Syntax.{Goals, one, more, Program}
+use Rattle.rules.specs.Settings.{scratch-words}
 use Rattle.semantics.specs.Substitution.{Substitution}
 use Rattle.semantics.specs.Path.{Path, ChoicePoint, waiting-on}
 use Rattle.semantics.specs.Round.{Tally, backtrack}
-use Rattle.engine.specs.Layout.{layout-words}
 use Rattle.engine.specs.Reference.{at, pos-of}
 use Rattle.engine.specs.Memory.{point-at, saved, Stored}
 use Rattle.engine.specs.Walk.{PartRead}
@@ -76,7 +76,7 @@ module _ {P : Program} {ws s s′ : List ℕ} {st : State} {cs : List ChoicePoin
   same-saved = saved-same s s′ (st .choices - 1) (λ i lo hi. k .restored .above i (omega arith))
 
   -- what the choice point has saved is read where it was, also when its first word is moved on
-  pub back-room : (layout-words ≤ length s′) × (at s′ (point-at (st .choices - 1) + 5) + 1 ≤ 1024)
+  pub back-room : (scratch-words ≤ length s′) × (at s′ (point-at (st .choices - 1) + 5) + 1 ≤ 1024)
   back-room = (k .restored .stored .roomy .long, let e : at s′ (point-at (st .choices - 1) + 5) ≡ saved s (st .choices - 1) .goals = k .restored .above _ (omega arith) in omega (arith, k .restored .room))
 
   moved-saved : (v : ℕ) → saved (set s′ (point-at (st .choices - 1)) v) (st .choices - 1) ≡ saved s (st .choices - 1)
@@ -85,7 +85,7 @@ module _ {P : Program} {ws s s′ : List ℕ} {st : State} {cs : List ChoicePoin
       let words : (j : ℕ) → i < j → at (set s′ i v) j ≡ at s j = λ j lo. getD-set-other s′ i j v 0 (omega arith) ∙ k .restored .above j (omega arith) in
       rw (words (i + 2) (omega arith), words (i + 3) (omega arith), words (i + 4) (omega arith), words (i + 5) (omega arith), words (i + 6) (omega arith), words (i + 7) (omega arith)) refl
 
-  pub moved-room : (v : ℕ) → (layout-words ≤ length (set s′ (point-at (st .choices - 1)) v)) × (at (set s′ (point-at (st .choices - 1)) v) (point-at (st .choices - 1) + 5) + 1 ≤ 1024)
+  pub moved-room : (v : ℕ) → (scratch-words ≤ length (set s′ (point-at (st .choices - 1)) v)) × (at (set s′ (point-at (st .choices - 1)) v) (point-at (st .choices - 1) + 5) + 1 ≤ 1024)
   moved-room v =
       let i : ℕ = point-at (st .choices - 1) in
       (simp length-set (back-room .0), let e : at (set s′ i v) (i + 5) ≡ at s′ (i + 5) = getD-set-other s′ i (i + 5) v 0 (omega arith) in omega (arith, back-room .1))

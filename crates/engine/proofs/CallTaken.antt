@@ -11,11 +11,12 @@ use borrow.Author.Tests.{lt-ltb, le-ltb, le-leb, lt-leb}
 use Rattle.rules.specs.Lists.{Each}
 use Rattle.rules.specs.Syntax.{Term, call, Relation, Program}
 use Rattle.rules.specs.Reading.{after}
+use Rattle.rules.specs.Settings.{scratch-words}
 use Rattle.semantics.specs.Substitution.{shift, Substitution, argument}
 use Rattle.semantics.specs.Path.{Path, ChoicePoint, bound-to, bind-params, called, take-call}
 use Rattle.semantics.specs.Invariant.{TermIn, TermsIn, RelationIn}
 use Rattle.semantics.proofs.TermLaws.{shift-in}
-use Rattle.engine.specs.Layout.{positions, layout-words}
+use Rattle.engine.specs.Layout.{positions}
 use Rattle.engine.specs.Reference.{pos-of, base-of, TaskAt}
 use Rattle.engine.specs.Memory.{Registers, TableIn, Stored, cell}
 use Rattle.engine.specs.Walk.{PartRead}
@@ -89,7 +90,7 @@ module _ {P : Program} {ws s : List ℕ} {st : State} {w : ℕ} {p : Path} {cs :
   pub call-number : {b l m : ℕ} → PartRead ws (w + 1) b l m → m ≡ n
   call-number i = i .is-payload ∙ (rw next-word (task .goal .1 .1))
 
-  pub call-listed : {b l m : ℕ} → PartRead ws (w + 1) b l m → (Q : Program) × (R : Relation) × TableIn ws s Q × (getElem? Q m ≡ some R) × (layout-words ≤ length s)
+  pub call-listed : {b l m : ℕ} → PartRead ws (w + 1) b l m → (Q : Program) × (R : Relation) × TableIn ws s Q × (getElem? Q m ≡ some R) × (scratch-words ≤ length s)
   call-listed i = (P, callee, stored .table, ap (getElem? P) (call-number i) ∙ is-callee, stored .roomy .long)
 
   -- what the table says of it

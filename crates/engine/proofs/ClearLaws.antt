@@ -7,11 +7,14 @@ use native.Mathlib.Omega.{arith}
 use native.Mathlib.Numerals.{add-one}
 use lib.Dec.{leb}
 use lib.ListN.{length, set, take, drop, replicate, length-drop, take-append-drop, drop-of-length-le}
-use lib.Seq.{take-all, take-length, drop-length, take-nil, drop-nil, take-suc-set, drop-set-lt, drop-cons}
+use lib.Seq.{take-all, take-nil, drop-nil, take-suc-set, drop-set-lt, drop-cons}
 use borrow.Author.Tests.{leb-true, leb-false}
-use Rattle.engine.specs.Run.{zeroed, cleared}
+use Rattle.semantics.specs.Run.{zeroed}
+use Rattle.semantics.proofs.ZeroedLaws.{zeroed-all}
+use Rattle.engine.specs.Run.{cleared}
 
 pub clear-step : (ws : List ℕ) (at to : ℕ) → at < to → at < length ws → cleared (set ws at 0) (at + 1) to ≡ cleared ws at to
+unfolding zeroed
 clear-step ws at to h l =
     let n : to - at ≡ suc (to - suc at) = omega arith in
     let rest : drop (suc at) (set ws at 0) ≡ drop (suc at) ws = drop-set-lt (suc at) ws at 0 (omega arith) in
@@ -22,6 +25,7 @@ clear-step ws at to h l =
 
 -- nothing is left
 pub clear-done : (ws : List ℕ) (at to : ℕ) → min to (length ws) ≤ at → cleared ws at to ≡ ws
+unfolding zeroed
 clear-done ws at to h = go (leb to at) refl
   where
     go : (b : Bool) → leb to at ≡ b → cleared ws at to ≡ ws
@@ -32,9 +36,7 @@ clear-done ws at to h = go (leb to at) refl
 
 -- up to the end
 pub cleared-rest : (ws : List ℕ) (from : ℕ) → cleared ws from (length ws) ≡ take from ws ++ replicate (length ws - from) 0
-cleared-rest ws from =
-    rw (sym (length-drop from ws)) (ap (λ x. take from ws ++ x)
-    (ap (λ x. replicate (length x) 0 ++ drop (length (drop from ws)) (drop from ws)) (take-length (drop from ws)) ∙ ap (λ x. replicate (length (drop from ws)) 0 ++ x) (drop-length (drop from ws)) ∙ append-nil (replicate (length (drop from ws)) 0)))
+cleared-rest ws from = rw (sym (length-drop from ws)) (ap (λ x. take from ws ++ x) (zeroed-all (drop from ws)))
 
 pub cleared-all : (ws : List ℕ) → cleared ws 0 (length ws) ≡ replicate (length ws) 0
 cleared-all ws = let n : length ws - 0 ≡ length ws = omega arith in cleared-rest ws 0 ∙ ap (λ n. replicate n 0) n

@@ -9,12 +9,12 @@ use lib.Seq.{getD-set-same, getD-set-other}
 use Rattle.rules.specs.Syntax.{Goals, one, more, Program, Constraint}
 use Rattle.semantics.specs.Path.{Task, Path, ChoicePoint, waiting-on, keeping, goals-count, wait-all}
 use Rattle.rules.specs.Reading.{after}
-use Rattle.engine.specs.Layout.{references, layout-words}
+use Rattle.engine.specs.Layout.{references}
 use Rattle.engine.specs.Reference.{at, beyond, pos-of, RestAt, KeepsAt}
 use Rattle.engine.proofs.GoalLaws.{Then, task-one, task-more}
 use Rattle.engine.specs.Memory.{goal-at, next-at, kept-at, Registers, CellIn, StackIn, KeptIn, Stored, cell}
 use Rattle.engine.specs.Trail.{Same}
-use Rattle.rules.specs.Settings.{most-words}
+use Rattle.rules.specs.Settings.{most-words, scratch-words}
 use Rattle.engine.proofs.FrameLaws.{Untouched, frame, store}
 use Rattle.engine.proofs.ClaimLaws.{stays, claim, constrained, tasks-more}
 
@@ -60,12 +60,12 @@ pub record Lining (ws s₀ s : List ℕ) (put head w₀ to base : ℕ) (gs : Goa
   pub more-filled : put ≤ filled
   pub few-filled : filled ≤ 1024
   pub long : length s ≡ length s₀
-  pub long-enough : layout-words ≤ length s₀
+  pub long-enough : scratch-words ≤ length s₀
   pub low : Same s₀ s 0 (6144 + 2 * put)
   pub high : (i : ℕ) → 8192 ≤ i → at s i ≡ at s₀ i
   pub row : (s′ : List ℕ) → Same s s′ (6144 + 2 * put) (6144 + 2 * filled) → RowIn ws s′ (filled + 1) w head rest → RowIn ws s′ (put + 1) w₀ head gs
 
-pub lining-start : (ws s : List ℕ) (put head w to base : ℕ) (gs : Goals) → RestAt ws w to base gs → put ≤ 1024 → layout-words ≤ length s → Lining ws s s put head w to base gs w put
+pub lining-start : (ws s : List ℕ) (put head w to base : ℕ) (gs : Goals) → RestAt ws w to base gs → put ≤ 1024 → scratch-words ≤ length s → Lining ws s s put head w to base gs w put
 lining-start ws s put head w to base gs is le long = record {
   rest = gs;
   is-rest = is;
@@ -111,7 +111,7 @@ lining-last ws s₀ s put head w₀ to base gs w filled l lt e = go (l .rest) (l
     s′ : List ℕ
     s′ = cell s (filled + 1) w head
 
-    long : layout-words ≤ length s
+    long : scratch-words ≤ length s
     long = omega (arith, l .long, l .long-enough)
 
     up : put ≤ filled
@@ -139,7 +139,7 @@ lining-more ws s₀ s put head w₀ to base gs w filled l lt n = go (l .rest) (l
     s′ : List ℕ
     s′ = cell s (filled + 1) w (filled + 2)
 
-    long : layout-words ≤ length s
+    long : scratch-words ≤ length s
     long = omega (arith, l .long, l .long-enough)
 
     up : put ≤ filled
@@ -178,7 +178,7 @@ module _ {P : Program} {ws s : List ℕ} {r : Registers} {n : ℕ} {p : Path} {c
       → Stored P ws s′ (lined-up r (goals-count gs)) n (waiting-on p (wait-all base gs (p .stack)) (p .put + goals-count gs)) cs
   conj-all base gs w to s′ le is d h =
       let m = h .path-in in
-      let long : layout-words ≤ length s = h .roomy .long in
+      let long : scratch-words ≤ length s = h .roomy .long in
       let few : n ≤ 256 = h .roomy .choices in
       let trail : r .trail ≤ 2048 = h .roomy .trail in
       let u : Untouched s s′ r n = record {
@@ -213,7 +213,7 @@ module _ {P : Program} {ws s : List ℕ} {r : Registers} {n : ℕ} {p : Path} {c
   pub keep : (c : Constraint) (w : ℕ) → r .constraints < 512 → KeepsAt ws w c → Stored P ws s r n p cs → Stored P ws (set s (kept-at (r .constraints)) w) (constrained r) n (keeping p c) cs
   keep c w lt is h =
       let m = h .path-in in
-      let long : layout-words ≤ length s = h .roomy .long in
+      let long : scratch-words ≤ length s = h .roomy .long in
       let few : n ≤ 256 = h .roomy .choices in
       let put : r .goals ≤ 1024 = h .roomy .put in
       let trail : r .trail ≤ 2048 = h .roomy .trail in

@@ -9,6 +9,7 @@ use lib.ListN.{length, length-append, length-reverse}
 use Rattle.rules.specs.Lists.{Each}
 use Rattle.rules.specs.Syntax.{Atom, Term, var, atom, pair, Sort, Constraint, differ, absento}
 use Rattle.rules.specs.Written.{sort-kind}
+use Rattle.rules.specs.Settings.{scratch-words}
 use Rattle.semantics.specs.Substitution.{Substitution, resolve, walk}
 use Rattle.semantics.specs.Steps.{waiting, no-steps, at-bound, Outcome, done, stop, and-then}
 use Rattle.semantics.specs.Unify.{scan, never, unify-terms}
@@ -17,7 +18,6 @@ use Rattle.semantics.specs.Invariant.{Good, Passes, Sound}
 use Rattle.semantics.proofs.Basics.{clash}
 use Rattle.semantics.proofs.SubstitutionLaws.{Seen, walk-seen}
 use Rattle.semantics.proofs.UnifyLaws.{unify-some, no-news}
-use Rattle.engine.specs.Layout.{layout-words}
 use Rattle.engine.specs.Reference.{at, pos-of, KeepsAt}
 use Rattle.engine.specs.Memory.{BindingsIn, KeptIn}
 use Rattle.engine.specs.Walk.{PartRead, Binds, Follows}
@@ -104,7 +104,7 @@ tried {ws} {s} {bs} {a} {u} {b} {v} {trail} steps d s₁ r told {n} {rest} e s�
     let q : (w : Went ws s bs s₁ n) × (unify-terms bs u v steps ≡ done (some (w .next)) rest) = rw e at told in
     let new : Substitution = q .0 .new in
     let held : Binds ws s bs = d .meets .held in
-    let long : layout-words ≤ length s = held .long in
+    let long : scratch-words ≤ length s = held .long in
     let is-next : n ≡ length (q .0 .next) = q .0 .trail-is in
     let is-long : length (q .0 .next) ≡ length (new ++ bs) = ap length (q .0 .grows) in
     let is-sum : length (new ++ bs) ≡ length new + length bs = length-append new bs in

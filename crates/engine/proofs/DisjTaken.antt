@@ -8,8 +8,8 @@ use lib.Dec.{leb}
 use lib.ListN.{length, set, length-set}
 use borrow.Author.Tests.{le-leb, lt-leb}
 use Rattle.rules.specs.Syntax.{Goals, one, more, disj, Program}
+use Rattle.rules.specs.Settings.{scratch-words}
 use Rattle.semantics.specs.Path.{Path, ChoicePoint, take-disj}
-use Rattle.engine.specs.Layout.{layout-words}
 use Rattle.engine.specs.Reference.{pos-of, RestAt}
 use Rattle.engine.specs.Memory.{Registers, point-at, cell, point}
 use Rattle.engine.specs.Walk.{PartRead}
@@ -63,7 +63,7 @@ module _ {P : Program} {ws s₀ : List ℕ} {st : State} {w : ℕ} {p : Path} {c
 
   -- and the cell for it is
   pub disj-room : {gs : Goals} {pushed : State} {s₁ : List ℕ} (v to : ℕ) → Taking P ws s₀ st w p cs (base, disj gs) → st .goals < 1024
-      → pushed ≡ one-choice-more st → s₁ ≡ point s₀ (st .choices) v to (registers st) → (layout-words ≤ length s₁) × (pushed .goals < 1024)
+      → pushed ≡ one-choice-more st → s₁ ≡ point s₀ (st .choices) v to (registers st) → (scratch-words ≤ length s₁) × (pushed .goals < 1024)
   disj-room v to t fits q z = rw (q, z) (simp length-set (t .stored .roomy .long), omega (arith, fits))
 
   -- one alternative only

@@ -38,6 +38,7 @@ pub mod WriterLaws
 pub mod RoundLaws
 pub mod ClearLaws
 pub mod RoundsLaws
+pub mod LayoutLaws
 pub mod RunLaws
 pub mod ConstraintLaws
 pub mod QueryLaws

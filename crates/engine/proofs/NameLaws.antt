@@ -11,11 +11,11 @@ use lib.Seq.{getD-set-same, getD-set-other}
 use borrow.Author.Tests.{eq-eqb, ne-eqb, eqb-false}
 use Rattle.rules.specs.Reading.{choose}
 use Rattle.rules.specs.Syntax.{empty, var, atom}
+use Rattle.rules.specs.Settings.{scratch-words}
 use Rattle.semantics.specs.Substitution.{Substitution, lookup}
 use Rattle.semantics.specs.Answer.{member, index, appear}
 use Rattle.semantics.proofs.Basics.{clash, compared, same, other, none-of, or-right, by-choose}
 use Rattle.semantics.proofs.SubstitutionLaws.{lookup-other}
-use Rattle.engine.specs.Layout.{layout-words}
 use Rattle.engine.specs.Reference.{at}
 use Rattle.engine.specs.Memory.{Fresh}
 use Rattle.engine.specs.Trail.{Apart}
@@ -165,7 +165,7 @@ module _ {s : List ℕ} {top : ℕ} {names : List ℕ} (h : Names s top names) w
   pub named-already : (x : ℕ) → x < 2048 → ¬ (at s (4096 + x) ≡ 0) → Named s s top (appear names (var x))
   named-already x l n = by-choose (Named s s top) (member x names) _ _ (λ e. named-still) (λ e. absurd (n (h .words x l ∙ word-none 0 names x e)))
 
-  named-more : (x : ℕ) → x < 2048 → layout-words ≤ length s → member x names ≡ false → Named s (set s (4096 + x) (top + 1)) (next-top top x) (names ++ (x ∷ []))
+  named-more : (x : ℕ) → x < 2048 → scratch-words ≤ length s → member x names ≡ false → Named s (set s (4096 + x) (top + 1)) (next-top top x) (names ++ (x ∷ []))
   named-more x l long e = record {
     given = record {
       top-is = ap (λ k. next-top k x) (h .top-is) ∙ sym (top-snoc 0 names x);
@@ -183,7 +183,7 @@ module _ {s : List ℕ} {top : ℕ} {names : List ℕ} (h : Names s top names) w
         | other n q ↦ getD-set-other s (4096 + x) (4096 + y) (top + 1) 0 (λ r. n (omega arith)) ∙ h .words y k ∙ sym (word-snoc-other 0 names x y n)
       ]
 
-  pub named-now : (x : ℕ) → x < 2048 → layout-words ≤ length s → at s (4096 + x) ≡ 0 → Named s (set s (4096 + x) (top + 1)) (next-top top x) (appear names (var x))
+  pub named-now : (x : ℕ) → x < 2048 → scratch-words ≤ length s → at s (4096 + x) ≡ 0 → Named s (set s (4096 + x) (top + 1)) (next-top top x) (appear names (var x))
   named-now x l long z = by-choose (Named s (set s (4096 + x) (top + 1)) (next-top top x)) (member x names) _ _
       (λ e. absurd (word-some 0 names x e (sym (h .words x l) ∙ z))) (λ e. named-more x l long e)
 

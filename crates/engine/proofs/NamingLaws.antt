@@ -7,9 +7,9 @@ use native.Mathlib.Omega.{arith}
 use lib.ListN.{length, set, length-set, length-append}
 use lib.Seq.{getD-set-same, getD-set-other}
 use Rattle.rules.specs.Syntax.{Term, var, pair}
+use Rattle.rules.specs.Settings.{scratch-words}
 use Rattle.semantics.specs.Answer.{appear, vars-in}
 use Rattle.semantics.proofs.Basics.{compared, same, other}
-use Rattle.engine.specs.Layout.{layout-words}
 use Rattle.engine.specs.Reference.{at}
 use Rattle.engine.specs.Walk.{Resolves, Shaped}
 use Rattle.engine.specs.Names.{next-top, top-from, Names, NamesGiven, Named}
@@ -157,7 +157,7 @@ pub record Popped (s : List ℕ) (top : ℕ) : Type 0 where
   pub falls : (at s (4096 + (top / 4096 - 1)) - 1) % 4096 < top % 4096
 
 -- the last name
-popped : {s : List ℕ} {top : ℕ} (xs : List ℕ) (x : ℕ) → layout-words ≤ length s → Names s top (xs ++ (x ∷ [])) → Popped s top
+popped : {s : List ℕ} {top : ℕ} (xs : List ℕ) (x : ℕ) → scratch-words ≤ length s → Names s top (xs ++ (x ∷ [])) → Popped s top
 popped {s} {top} xs x long h =
     let d = distinct-init xs x (h .distinct) in
     let low : x < 2048 = d .1 in
@@ -189,7 +189,7 @@ popped {s} {top} xs x long h =
       falls = omega arith;
     }
 
-pub pop : {s : List ℕ} {top : ℕ} (names : List ℕ) → layout-words ≤ length s → Names s top names → ¬ (top ≡ 0) → Popped s top
+pub pop : {s : List ℕ} {top : ℕ} (names : List ℕ) → scratch-words ≤ length s → Names s top names → ¬ (top ≡ 0) → Popped s top
 unfolding top-from
 pop {s} {top} names long h n = go (snoc names) h
   where

@@ -5,9 +5,9 @@ use mathlib.Core.List.{List, [], _++_, append-nil}
 use native.Mathlib.Omega.{arith}
 use lib.ListN.{length}
 use Rattle.rules.specs.Syntax.{Relation, Program}
+use Rattle.rules.specs.Settings.{scratch-words}
 use Rattle.semantics.specs.Path.{Path, ChoicePoint}
 use Rattle.semantics.specs.Round.{start, Tally}
-use Rattle.engine.specs.Layout.{layout-words}
 use Rattle.engine.specs.Reference.{at}
 use Rattle.engine.specs.Memory.{Registers, TableIn, BindingsIn, Nameless, Stored}
 use Rattle.engine.specs.Trail.{Trailed}
@@ -16,7 +16,7 @@ abbrev pub first-registers : ℕ → Registers
 first-registers vars = record { head = 0; trail = 0; variables = vars; goals = 1; constraints = 0; calls = 0 }
 
 -- Substitution all 0 and the table written, whatever else the scratch holds.
-pub start-stored : (P : Program) (ws s : List ℕ) (R : Relation) (t : Tally) → layout-words ≤ length s → TableIn ws s P → ((x : ℕ) → x < 2048 → at s x ≡ 0) → Nameless s → R .vars ≤ 2048
+pub start-stored : (P : Program) (ws s : List ℕ) (R : Relation) (t : Tally) → scratch-words ≤ length s → TableIn ws s P → ((x : ℕ) → x < 2048 → at s x ≡ 0) → Nameless s → R .vars ≤ 2048
     → Stored P ws s (first-registers (R .vars)) 0 (start R t .path) []
 start-stored P ws s R t long table zeros nameless few = record {
   roomy = record { long = long; trail = omega arith; made = few; put = omega arith; choices = omega arith; kept = omega arith };

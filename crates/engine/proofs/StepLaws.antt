@@ -10,7 +10,7 @@ use Rattle.rules.specs.Syntax.{Constraint, Goal, Goals, one, more, Program}
 use Rattle.semantics.specs.Substitution.{Substitution}
 use Rattle.semantics.specs.Path.{Path, ChoicePoint, waiting-on}
 use Rattle.rules.specs.Reading.{after}
-use Rattle.engine.specs.Layout.{layout-words}
+use Rattle.rules.specs.Settings.{scratch-words}
 use Rattle.engine.specs.Reference.{at, beyond, pos-of, TaskAt, RestAt}
 use Rattle.engine.specs.Memory.{goal-at, next-at, point-at, Registers, saved, BindingsIn, KeptIn, PathIn, Grown, ChoiceIn, Stored, cell, point}
 use Rattle.engine.proofs.FrameLaws.{Untouched, frame, Outside, store, path-same, table-same, names-same, kept-same, choices-same}
@@ -38,7 +38,7 @@ module _ {P : Program} {ws s : List ℕ} {r : Registers} {n : ℕ} {p : Path} {c
   pub wait-one : (base : ℕ) (g : Goal) (w : ℕ) → r .goals < 1024 → TaskAt ws w (base, g) → Stored P ws s r n p cs → Stored P ws (cell s (r .goals + 1) w (r .head)) (waited r) n (waiting-on p ((base, g) ∷ p .stack) (suc (p .put))) cs
   wait-one base g w lt is h =
       let c : ℕ = r .goals + 1 in
-      let long : layout-words ≤ length s = h .roomy .long in
+      let long : scratch-words ≤ length s = h .roomy .long in
       let few : n ≤ 256 = h .roomy .choices in
       let trail : r .trail ≤ 2048 = h .roomy .trail in
       let k : Stored P ws (cell s c w (r .head)) r n p cs = store (next-at c) (r .head) (omega arith) (store (goal-at c) w (omega arith) h) in
@@ -49,7 +49,7 @@ module _ {P : Program} {ws s : List ℕ} {r : Registers} {n : ℕ} {p : Path} {c
   -- A choice point is made: eight stores.
   pub push : (base : ℕ) (rest : Goals) (w to : ℕ) → n < 256 → r .goals < 1024 → RestAt ws w to base rest → Stored P ws s r n p cs → Stored P ws (point s n w to r) r (n + 1) p (record { path = p; base = base; rest = rest } ∷ cs)
   push base rest w to lt room is h =
-      let long : layout-words ≤ length s = h .roomy .long in
+      let long : scratch-words ≤ length s = h .roomy .long in
       let trail : r .trail ≤ 2048 = h .roomy .trail in
       let kept : r .constraints ≤ 512 = h .roomy .kept in
       let vs : List ℕ = w ∷ to ∷ r .head ∷ r .trail ∷ r .variables ∷ r .goals ∷ r .constraints ∷ r .calls ∷ [] in
@@ -104,7 +104,7 @@ restore {P} {ws} {s} {r} {p} {c} {cs} m s′ h u =
     let d : ChoiceIn ws s m p c = subst (λ k. ChoiceIn ws s k p c) e (h .choices-in .0) in
     let g : Grown q p = d .grown in
     let i : PathIn ws s (saved s m) q = d .path-in in
-    let long : layout-words ≤ length s = h .roomy .long in
+    let long : scratch-words ≤ length s = h .roomy .long in
     let few : m + 1 ≤ 256 = h .roomy .choices in
     let kept-sum : length (p .kept) ≡ length (q .kept) + length (g .later) = ap length (g .kept) ∙ length-append (q .kept) (g .later) in
     record {
@@ -145,7 +145,7 @@ resume-next {P} {ws} {s} {s′} {q} {base} {g} {gs} {cs} m few k =
     let w : ℕ = at s (point-at m) in
     let v : ℕ = beyond ws w in
     let t : Then ws w (at s (point-at m + 1)) base g gs = task-more ws w (at s (point-at m + 1)) base g gs (k .rest-at) in
-    let long : layout-words ≤ length s′ = k .stored .roomy .long in
+    let long : scratch-words ≤ length s′ = k .stored .roomy .long in
     let room : saved s m .goals < 1024 = k .room in
     let trail : saved s m .trail ≤ 2048 = k .stored .roomy .trail in
     let out : Outside (saved s m) m (point-at m) = omega arith in

@@ -12,13 +12,13 @@ use Rattle.rules.specs.WellFormed.{RelationsGood}
 use Rattle.rules.specs.Inner.{PartAt, RelationsAt}
 use Rattle.rules.proofs.Pass.{relations-split, relations-some, relations-none, lookup-none}
 use Rattle.semantics.proofs.Basics.{clash, compared, same, other}
-use Rattle.engine.specs.Layout.{positions, layout-words}
+use Rattle.engine.specs.Layout.{positions}
 use Rattle.engine.specs.Reference.{at, pos-of, RelationAt}
 use Rattle.engine.specs.Memory.{table-at, TableIn}
 use Rattle.engine.specs.Walk.{PartRead}
 use Rattle.engine.specs.Trail.{Same}
 use Rattle.engine.specs.Take.{RelationIs}
-use Rattle.rules.specs.Settings.{most-words}
+use Rattle.rules.specs.Settings.{most-words, scratch-words}
 use Rattle.engine.proofs.ReadLaws.{Written, written-here, relation-at}
 
 -- the first of written relations
@@ -38,10 +38,10 @@ pub record Filling (ws s₀ s : List ℕ) (P : Program) (pos r : ℕ) : Type 0 w
   pub filled : (k : ℕ) (R : Relation) → k < r → getElem? P k ≡ some R → RelationAt ws (at s (table-at k)) R
   pub few : length P ≤ 256
   pub long : length s ≡ length s₀
-  pub long-enough : layout-words ≤ length s₀
+  pub long-enough : scratch-words ≤ length s₀
   pub low : Same s₀ s 0 11776
 
-pub fill-start : (ws s : List ℕ) (P : Program) → RelationsAt ws 0 P → length P ≤ 256 → layout-words ≤ length s → Filling ws s s P 0 0
+pub fill-start : (ws s : List ℕ) (P : Program) → RelationsAt ws 0 P → length P ≤ 256 → scratch-words ≤ length s → Filling ws s s P 0 0
 fill-start ws s P h few long = record {
   rest = P;
   there = h;
@@ -80,7 +80,7 @@ fill-step ws s₀ s P pos r b k p f lt i = go (f .rest) (f .there) (f .left-are)
     go (R ∷ Rs) h l c =
         let a = relations-split ws pos k p R Rs h (part-of ws pos b k p (omega arith) i) in
         let few : r < 256 = omega (arith, c, f .few) in
-        let long : layout-words ≤ length s = omega (arith, f .long, f .long-enough) in
+        let long : scratch-words ≤ length s = omega (arith, f .long, f .long-enough) in
         let s′ : List ℕ = set s (11776 + r) pos in (
           record {
             rest = Rs;

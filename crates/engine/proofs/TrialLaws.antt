@@ -8,10 +8,10 @@ use lib.ListN.{length, set, length-set, length-append}
 use lib.Seq.{getD-set-same, getD-set-other}
 use borrow.Author.Tests.{eq-eqb}
 use Rattle.rules.specs.Syntax.{Term}
+use Rattle.rules.specs.Settings.{scratch-words}
 use Rattle.semantics.specs.Substitution.{Substitution}
 use Rattle.semantics.proofs.Basics.{compared, same, other}
 use Rattle.semantics.proofs.SubstitutionLaws.{lookup-same}
-use Rattle.engine.specs.Layout.{layout-words}
 use Rattle.engine.specs.Reference.{at, Stands}
 use Rattle.engine.specs.Memory.{BoundTo, Entry, BindingsIn}
 use Rattle.engine.specs.Trail.{Trailed, Apart}
@@ -26,7 +26,7 @@ half-same : (s s′ : List ℕ) (j : ℕ) → at s′ (10752 + j / 2) ≡ at s (
 unfolding half
 half-same s s′ j e = rw e refl
 
-module _ {s : List ℕ} {i x : ℕ} (long : layout-words ≤ length s) (l : i < 2048) (low : x < 2048) where
+module _ {s : List ℕ} {i x : ℕ} (long : scratch-words ≤ length s) (l : i < 2048) (low : x < 2048) where
   module _ (v : ℕ) (fine : (j : ℕ) → j / 2 ≡ i / 2 → ¬ (j ≡ i) → half (set s (10752 + i / 2) v) j ≡ half s j) (is : half (set s (10752 + i / 2) v) i ≡ x) where
     half-made : HalfSet s (set s (10752 + i / 2) v) i x
     half-made = record {
@@ -87,7 +87,7 @@ pub record Keeping (ws s₀ s : List ℕ) (new bs : Substitution) (mark top : �
   pub top-is : top ≡ length (rest ++ bs)
   pub few : top + length later ≤ 2048
   pub kept : EquationsKept ws s mark (top - mark) later
-  pub long : layout-words ≤ length s
+  pub long : scratch-words ≤ length s
   pub apart : Apart s₀ s
 
 pub keeping-start : {ws s : List ℕ} {new bs : Substitution} {mark trail : ℕ} → Trailed ws s new bs mark trail → Keeping ws s s new bs mark trail
@@ -128,7 +128,7 @@ pub record Newest (ws s₀ s : List ℕ) (new bs : Substitution) (mark top : ℕ
   pub above : mark ≤ top - 1
   pub few : top + length later ≤ 2048
   pub kept : EquationsKept ws s mark (top - mark) later
-  pub long : layout-words ≤ length s
+  pub long : scratch-words ≤ length s
   pub apart : Apart s₀ s
 
 pub newest : {ws s₀ s : List ℕ} {new bs : Substitution} {mark top : ℕ} → Keeping ws s₀ s new bs mark top → mark < top → Newest ws s₀ s new bs mark top

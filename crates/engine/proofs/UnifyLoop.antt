@@ -9,10 +9,10 @@ use lib.ListN.{length, set, length-set}
 use lib.Seq.{getD-set-same, getD-set-other}
 use borrow.Author.Tests.{lt-ltb, le-ltb}
 use Rattle.rules.specs.Syntax.{Term}
+use Rattle.rules.specs.Settings.{scratch-words}
 use Rattle.semantics.specs.Substitution.{Substitution}
 use Rattle.semantics.specs.Steps.{waiting, no-steps, at-bound, done, stop}
 use Rattle.semantics.specs.Unify.{Pairs, unify-next, unify, unify-terms}
-use Rattle.engine.specs.Layout.{layout-words}
 use Rattle.engine.specs.Reference.{at, Stands}
 use Rattle.engine.specs.Memory.{BindingsIn}
 use Rattle.engine.specs.Trail.{Same}
@@ -185,7 +185,7 @@ module _ {ws s₀ : List ℕ} {bs₀ : Substitution} {u₀ v₀ : Term} {steps :
             bs : Substitution
             bs = g .went .next
 
-            long : layout-words ≤ length s
+            long : scratch-words ≤ length s
             long = g .went .held .long
 
             other : (i : ℕ) → (i < j) ⊎ (j + 1 < i) → at s₁ i ≡ at s i

@@ -8,11 +8,11 @@ use Rattle.rules.specs.Lists.{Each}
 use Rattle.semantics.specs.Substitution.{shift, Substitution}
 use Rattle.semantics.specs.Path.{bind-params}
 use Rattle.semantics.specs.Invariant.{TermIn, Sound}
-use Rattle.engine.specs.Layout.{most-variables, layout-words}
+use Rattle.engine.specs.Layout.{most-variables}
 use Rattle.engine.specs.Reference.{TermsAt, refer}
 use Rattle.engine.specs.Memory.{BindingsIn}
 use Rattle.engine.specs.Trail.{Apart}
-use Rattle.rules.specs.Settings.{most-words}
+use Rattle.rules.specs.Settings.{most-words, scratch-words}
 
 -- Parameters under way: `count` arguments from the reference w on are left for the variables from x on, the trail has n entries, and what is left leads to the substitution `whole`.
 pub record BindingParameters (ws s₀ s : List ℕ) (base to : ℕ) (whole : Substitution) (x n w count : ℕ) : Type 0 where
@@ -31,7 +31,7 @@ pub record BindingParameters (ws s₀ s : List ℕ) (base to : ℕ) (whole : Sub
   pub sound : Sound now-bound kept x
   pub in-range : Each (λ t. TermIn x (shift base t)) args
   pub fits : x + count ≤ most-variables
-  pub long : layout-words ≤ length s
+  pub long : scratch-words ≤ length s
   pub bindings-in : BindingsIn ws s now-bound
   pub apart : Apart s₀ s
 

@@ -27,10 +27,6 @@ positions = 16384
 abbrev pub references : ℕ
 references = positions * (most-variables + 1)
 
--- how many words of the scratch the layout may use: it ends at 12,032, and the words up to here are free
-abbrev pub layout-words : ℕ
-layout-words = 12288
-
 -- Where the areas of the scratch begin: bindings at 0, then the trail, names, cells of waiting goals, choice points, constraints, waiting term pairs and the table of relations.
 abbrev pub trail-area : ℕ
 trail-area = 2048
@@ -52,3 +48,7 @@ pairs-area = 10752
 
 abbrev pub relations-area : ℕ
 relations-area = 11776
+
+-- where the areas end: of the `scratch-words` that a run uses, those from here on are free
+abbrev pub free-area : ℕ
+free-area = 12032

@@ -6,10 +6,10 @@ use mathlib.Core.List.{List, [], _∷_, _++_}
 use lib.ListN.{length, set, getElem?}
 use lib.Seq.{sets}
 use Rattle.rules.specs.Syntax.{Term, Constraint, Relation, Program}
-use Rattle.rules.specs.Settings.{most-relations}
+use Rattle.rules.specs.Settings.{most-relations, scratch-words}
 use Rattle.semantics.specs.Substitution.{Substitution, lookup}
 use Rattle.semantics.specs.Path.{Task, Path, ChoicePoint}
-use Rattle.engine.specs.Layout.{most-variables, most-goals, most-disjunctions, most-constraints, layout-words, trail-area, names-area, cells-area, points-area, constraints-area, relations-area}
+use Rattle.engine.specs.Layout.{most-variables, most-goals, most-disjunctions, most-constraints, trail-area, names-area, cells-area, points-area, constraints-area, relations-area}
 use Rattle.engine.specs.Reference.{at, Stands, TaskAt, RestAt, KeepsAt, RelationAt}
 
 -- Places in the scratch.
@@ -122,7 +122,7 @@ Nameless s = (i : ℕ) → names-area ≤ i → i < cells-area → at s i ≡ 0
 
 -- the areas do not run over
 pub record Roomy (s : List ℕ) (r : Registers) (n : ℕ) : Type 0 where
-  pub long : layout-words ≤ length s
+  pub long : scratch-words ≤ length s
   pub trail : r .trail ≤ most-variables
   pub made : r .variables ≤ most-variables
   pub put : r .goals ≤ most-goals

@@ -6,8 +6,9 @@ use mathlib.Core.List.{List, [], _∷_}
 use lib.Dec.{eqb}
 use lib.ListN.{length}
 use Rattle.rules.specs.Reading.{choose}
+use Rattle.rules.specs.Settings.{scratch-words}
 use Rattle.semantics.specs.Answer.{member}
-use Rattle.engine.specs.Layout.{most-variables, layout-words, names-area, cells-area}
+use Rattle.engine.specs.Layout.{most-variables, names-area, cells-area}
 use Rattle.engine.specs.Reference.{at}
 
 -- `top` after one name more
@@ -37,7 +38,7 @@ pub record Names (s : List ℕ) (top : ℕ) (names : List ℕ) : Type 0 where
 
 -- names are given, in a scratch that is long enough
 pub record NamesGiven (s : List ℕ) (names : List ℕ) : Type 0 where
-  pub long : layout-words ≤ length s
+  pub long : scratch-words ≤ length s
   pub top : ℕ
   pub named : Names s top names
 

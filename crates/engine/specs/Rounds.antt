@@ -6,10 +6,11 @@ use mathlib.Core.List.{List}
 use lib.ListN.{length, take, getElem?}
 use Rattle.rules.specs.Syntax.{Program, Relation}
 use Rattle.rules.specs.Accept.{read, accepted}
+use Rattle.rules.specs.Settings.{scratch-words}
 use Rattle.semantics.specs.Path.{Path, ChoicePoint}
 use Rattle.semantics.specs.Round as definition
 use Rattle.semantics.specs.Run.{usable, page}
-use Rattle.engine.specs.Layout.{most-variables, layout-words}
+use Rattle.engine.specs.Layout.{most-variables}
 use Rattle.engine.specs.Reference.{at, TaskAt}
 use Rattle.engine.specs.Memory.{TableIn, Nameless}
 use Rattle.engine.specs.Report.{ran, end-says}
@@ -26,7 +27,7 @@ use Rattle.engine.specs.declared.round.Rounded.the-variants.{Completed, 
 
 -- The scratch as a round finds and leaves it: the table of relations filled, no variable bound or named.
 pub record Clean (ws s : List ℕ) (P : Program) : Type 0 where
-  pub long : layout-words ≤ length s
+  pub long : scratch-words ≤ length s
   pub table : TableIn ws s P
   pub open-all : (x : ℕ) → x < most-variables → at s x ≡ 0
   pub nameless : Nameless s

@@ -2,16 +2,13 @@
 use Prim.Native.Nat.{ℕ, _-_, _≤_}
 use mathlib.Core.Path.{_≡_}
 use mathlib.Core.List.{List, _++_}
-use lib.ListN.{length, replicate, take, drop}
+use lib.ListN.{length, take, drop}
 use Rattle.rules.specs.Syntax.{Program}
 use Rattle.rules.specs.Accept.{read, accepted}
 use Rattle.rules.specs.Settings.{scratch-words}
+use Rattle.semantics.specs.Run.{zeroed}
 use Rattle.engine.specs.declared.report.End.the-variants.{Refused}
 use Rattle.engine.specs.declared.report.Report.{Report}
-
--- the first n words are 0
-abbrev pub zeroed : ℕ → List ℕ → List ℕ
-zeroed n ws = replicate (length (take n ws)) 0 ++ drop n ws
 
 -- the words from one place up to another are 0, and all others stay
 abbrev pub cleared : List ℕ → ℕ → ℕ → List ℕ
@@ -25,9 +22,9 @@ pub record RefusalReport (number place : ℕ) (r : Report) : Type 0 where
   pub is-answers : r .answers ≡ 0
   pub is-words : r .words ≡ 0
 
--- an accepted program, with settings in their bounds
+-- an accepted program, with settings in their bounds, and just the scratch that a run uses
 pub record Admitted (words : List ℕ) (round-limit : ℕ) (scratch : List ℕ) : Type 0 where
   pub program : Program
   pub is-read : read words ≡ accepted program
   pub few-rounds : round-limit ≤ 255
-  pub long : scratch-words ≤ length scratch
+  pub length-is : length scratch ≡ scratch-words

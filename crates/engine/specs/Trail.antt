@@ -1,10 +1,11 @@
 -- What `undo` promises, and how a scratch is left beside bindings and trail.
-use Prim.Native.Nat.{ℕ, _+_, _≤_, _<_}
+use Prim.Native.Nat.{ℕ, _≤_, _<_}
 use mathlib.Core.Path.{_≡_}
 use mathlib.Core.List.{List, _++_}
 use lib.ListN.{length}
+use Rattle.rules.specs.Settings.{scratch-words}
 use Rattle.semantics.specs.Substitution.{Substitution}
-use Rattle.engine.specs.Layout.{layout-words, trail-area, names-area, pairs-area, relations-area}
+use Rattle.engine.specs.Layout.{trail-area, names-area, pairs-area, relations-area}
 use Rattle.engine.specs.Reference.{at}
 use Rattle.engine.specs.Memory.{BindingsIn}
 
@@ -14,7 +15,7 @@ Same s s′ lo hi = (i : ℕ) → lo ≤ i → i < hi → at s′ i ≡ at s i
 
 -- the trail has grown from `mark` entries, those of bs, to `trail`
 pub record Trailed (ws s : List ℕ) (new bs : Substitution) (mark trail : ℕ) : Type 0 where
-  pub long : layout-words ≤ length s
+  pub long : scratch-words ≤ length s
   pub bindings-in : BindingsIn ws s (new ++ bs)
   pub mark-is : mark ≡ length bs
   pub trail-is : trail ≡ length (new ++ bs)

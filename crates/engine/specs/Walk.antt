@@ -7,12 +7,12 @@ use Rattle.rules.specs.Reading.{kind-at, payload-at}
 use Rattle.rules.specs.Syntax.{Term, Atom, var, atom, pair}
 use Rattle.semantics.specs.Substitution.{Substitution, walk, resolve}
 use Rattle.semantics.specs.Invariant.{Good}
-use Rattle.engine.specs.Layout.{most-variables, layout-words}
+use Rattle.engine.specs.Layout.{most-variables}
 use Rattle.engine.specs.Reference.{at, pos-of, Stands}
 use Rattle.engine.specs.Memory.{BindingsIn}
 use Rattle.engine.specs.declared.terms.walk.Walked.{Walked}
 use Rattle.rules.specs.Written.{atom-word}
-use Rattle.rules.specs.Settings.{most-words}
+use Rattle.rules.specs.Settings.{most-words, scratch-words}
 use Rattle.engine.specs.declared.terms.walk.Shape.{Shape}
 use Rattle.engine.specs.declared.terms.walk.Shape.the-variants.{Open, Atom as Leaf, Pair}
 
@@ -29,7 +29,7 @@ IsNode ws n = PartRead ws (n .at) (n .bits) (n .kind) (n .payload)
 -- the scratch holds a path's bindings, and they are acyclic
 pub record Binds (ws s : List ℕ) (bs : Substitution) : Type 0 where
   pub short : length ws ≤ most-words
-  pub long : layout-words ≤ length s
+  pub long : scratch-words ≤ length s
   pub bindings-in : BindingsIn ws s bs
   pub good : Good bs
 

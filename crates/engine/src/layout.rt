@@ -7,11 +7,8 @@ pub(crate) const POSITIONS: u32 = 16384;
 // A word of kind pair, which no leaf of a term has.
 pub(crate) const PAIR_WORD: u32 = Word::PAIR * 268435456;
 
-// The least scratch that a run takes: condition 9 of document 01.
-pub const SCRATCH_WORDS: usize = 16384;
-
-// Places in the scratch: each area's first word. The whole ends at 12,032 and is to stay below 12,288: the words between are free. From word 0 on, a variable's word is 0 while it is open, else the
-// reference that it is bound to, plus 1.
+// Places in the scratch: each area's first word. A run uses `rules::SCRATCH_WORDS`; the areas end at 12,032, and the words from there on are free. From word 0 on, a variable's word is 0 while it
+// is open, else the reference that it is bound to, plus 1.
 
 // The bound variables in the order of binding.
 pub(crate) const TRAIL: usize = 2048;

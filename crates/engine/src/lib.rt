@@ -9,12 +9,12 @@ mod terms;
 mod writer;
 
 use crate::clear::clear;
-pub use crate::layout::SCRATCH_WORDS;
 pub use crate::report::Bound;
 pub use crate::report::End;
 pub use crate::report::Report;
 use crate::rounds::rounds;
 use crate::search::table::fill_relations;
+use rules::SCRATCH_WORDS;
 use rules::Verdict;
 ghost use Rattle.engine.specs.Report.{RunPromise};
 ghost use Rattle.engine.specs.Run.{Admitted, RefusalReport};
@@ -32,7 +32,8 @@ fn refuse(number: u32, place: usize) -> Report
     }
 }
 
-// Runs the program through its rounds. Answers go to `output`, one after the other; `scratch` is all 0 afterwards. A refusal leaves both as lent.
+// Runs the program through its rounds. Answers go to `output`, one after the other; the first `SCRATCH_WORDS` of `scratch` are 0 afterwards, and those beyond as lent. A refusal leaves
+// both as lent.
 pub fn run(
     program: &[u32],
     rounds: u32,
@@ -42,19 +43,22 @@ pub fn run(
 ) -> Report
     ensures { λ r. ⌜ RunPromise (now (program .entry)) rounds steps (now (output .entry)) (now (scratch .entry)) r (now (output .exit)) (now (scratch .exit)) ⌝ }
 {
-    if 255 < rounds {
-        return refuse(9, 0);
-    }
-    if scratch.len() < SCRATCH_WORDS {
+    if !rules::settings_good(rounds, scratch.len()) {
         return refuse(9, 0);
     }
     match rules::check(program) {
         Verdict::Refused(condition, place) => refuse(condition.number(), place),
-        Verdict::Accepted => run_accepted(program, rounds, steps, output, scratch),
+        Verdict::Accepted => run_accepted(
+            program,
+            rounds,
+            steps,
+            output,
+            &mut scratch[..SCRATCH_WORDS],
+        ),
     }
 }
 
-// Runs a program that is accepted, with settings in their bounds.
+// Runs a program that is accepted, with settings in their bounds, over just the scratch that a run uses.
 fn run_accepted(
     program: &[u32],
     limit: u32,

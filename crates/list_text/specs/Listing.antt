@@ -84,7 +84,7 @@ report-answers (run.ran r) = map (λ a. a .1) (r .answers)
 abbrev pub report-text : run.Report → List ℕ
 report-text x = first-line (report-ended x) (run.counts x .round) (run.counts x .steps) (run.counts x .answers) ++ joined (map line (report-answers x))
 
--- the text of a file: of the run of its words with these limits, so many output words, but at most 4,096, and a scratch of 16,384 words
+-- the text of a file: of the run of its words with these limits, so many output words, but at most 4,096, and the shortest scratch that is taken
 abbrev pub listing-text : List ℕ → ℕ → ℕ → ℕ → List ℕ
 listing-text bytes rounds steps room = report-text (run.run-as-written (words-of bytes) rounds steps (replicate (min room 4096) 0) (replicate scratch-words 0) .report)
 

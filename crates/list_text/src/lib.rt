@@ -8,7 +8,7 @@ use crate::answers::put_answers;
 use crate::report::put_report;
 use crate::words::read_words;
 use crate::words::word_count;
-use engine::SCRATCH_WORDS;
+use rules::SCRATCH_WORDS;
 use word::at_most;
 ghost use mathlib.Core.Path.{_≡_};
 ghost use Prim.Native.Nat.{_≤_};

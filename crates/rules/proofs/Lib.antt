@@ -8,3 +8,4 @@ pub mod Places
 pub mod Readers
 pub mod Pass
 pub mod Checked
+pub mod SettingsLaws

@@ -11,10 +11,10 @@ most-words = 16384
 abbrev pub most-relations : ℕ
 most-relations = 256
 
--- "scratch at least 16,384 words"
+-- "The bedside unit lends 12,288 scratch words. .. Condition 9 uses the new length." (Document 02, Note 12.) A call takes so many or more, and uses the first so many.
 abbrev pub scratch-words : ℕ
-scratch-words = 16384
+scratch-words = 12288
 
--- "round limit 0 to 255", with a scratch of that length
+-- "round limit 0 to 255", with a scratch of at least that length
 abbrev pub settings-good : ℕ → ℕ → Bool
 settings-good rounds scratch = leb rounds 255 && leb scratch-words scratch

@@ -1,9 +1,12 @@
-// Rule files in the written form: is this list of words a program, and if not, why and where?
+// Rule files in the written form: is this list of words a program, and if not, why and where? And may it be run with these settings?
 mod calls;
 mod part;
 mod reading;
+mod settings;
 
 use crate::part::Read;
+pub use crate::settings::SCRATCH_WORDS;
+pub use crate::settings::settings_good;
 ghost use mathlib.Core.Path.{_≡_};
 ghost use Rattle.rules.specs.Accept.{read};
 ghost use Rattle.rules.specs.Verdict.{number-of, said, meaning};

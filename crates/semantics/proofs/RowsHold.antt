@@ -41,8 +41,8 @@ same-all f g (x ∷ xs) e = (cc, same-all f g xs (cc))
 pub rows-run : Each RowRuns rows
 rows-run = each-map row-runs rows (same-all computed (λ (r : Row). ran (r .expected)) rows rows-hold)
 
--- "round limit 0 to 255 .. scratch at least 16,384 words", and "at most the first 268,435,455 words" of the output
-pub settings-held : settings-good 255 scratch-words ∷ settings-good 256 scratch-words ∷ settings-good 255 16383 ∷ [] ≡ true ∷ false ∷ false ∷ []
+-- "round limit 0 to 255", "12,288 scratch words" (document 02, Note 12), and "at most the first 268,435,455 words" of the output
+pub settings-held : settings-good 255 12288 ∷ settings-good 256 12288 ∷ settings-good 255 12287 ∷ [] ≡ true ∷ false ∷ false ∷ []
 settings-held = refl
 
 pub usable-held : usable 4096 ∷ usable 268435455 ∷ usable 268435456 ∷ [] ≡ 4096 ∷ 268435455 ∷ 268435455 ∷ []

@@ -1,10 +1,11 @@
 -- What holds of every call: the demands, that the engine's promise cites.
-use Prim.Native.Nat.{_+_, _≤_, ℕ}
+use Prim.Native.Nat.{_+_, _<_, _≤_, ℕ}
 use mathlib.Core.List.{List, map}
 use mathlib.Core.Logic.{_↔_}
 use mathlib.Core.Option.{some}
 use mathlib.Core.Path.{_≡_}
-use lib.ListN.{getD, getElem?, length}
+use lib.ListN.{drop, getD, getElem?, length}
+use Rattle.rules.specs.Settings.{scratch-words}
 use Rattle.rules.specs.Syntax.{Program, Relation}
 use Rattle.rules.specs.WellFormed.{WrittenForm}
 use Rattle.semantics.specs.Demand.{Demand1, Demand2, Demand3}
@@ -41,11 +42,13 @@ pub record Promised (words : List ℕ) (round-limit step-limit : ℕ) (output af
   pub just : (e : End) → (r .end ≡ e) ↔ Situation as-written program query step-limit round-limit (usable (length output)) e
   pub on-output : OnPage output after r
 
--- What becomes of the lent words. Refused: "output and scratch stay as lent". Else "scratch is all 0 and output beyond the last whole answer is 0 to its end".
+-- What becomes of the lent words. Refused: "output and scratch stay as lent". Else "scratch is all 0 and output beyond the last whole answer is 0 to its end", but
+-- "Scratch beyond 12,288 words is left untouched" (document 02, Note 12).
 abbrev pub Lent : Report → List ℕ → List ℕ → List ℕ → List ℕ → Type 0
 Lent (refusal number place) output scratch after scratch-after = (after ≡ output) × (scratch-after ≡ scratch)
 Lent (ran r) output scratch after scratch-after =
-    (length after ≡ length output) × (length scratch-after ≡ length scratch) × ((i : ℕ) → length (page (r .answers)) ≤ i → getD after i 0 ≡ 0) × ((i : ℕ) → getD scratch-after i 0 ≡ 0)
+    (length after ≡ length output) × (length scratch-after ≡ length scratch) × ((i : ℕ) → length (page (r .answers)) ≤ i → getD after i 0 ≡ 0)
+    × ((i : ℕ) → i < scratch-words → getD scratch-after i 0 ≡ 0) × (drop scratch-words scratch-after ≡ drop scratch-words scratch)
 
 -- What a call returns is a result or a refusal as demand 1 says; of a result all that is promised holds; and the lent words are left so.
 pub record Demands (words : List ℕ) (round-limit step-limit : ℕ) (output scratch after scratch-after : List ℕ) (x : Report) : Type 0 where

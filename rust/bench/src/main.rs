@@ -7,7 +7,7 @@ mod prolog;
 mod rules;
 mod words;
 
-use kindcanvas::{Ending, Report};
+use kindcanvas::{Ending, Report, SCRATCH_WORDS};
 use programs::Program;
 use prolog::Style;
 use std::fmt::Write;
@@ -45,7 +45,7 @@ impl Bench {
             rounds,
             steps: u32::MAX,
             output: vec![1; 1 << 22],
-            scratch: vec![1; 16384],
+            scratch: vec![1; SCRATCH_WORDS],
         };
         let report = bench.proved();
         let page = bench.output.clone();
@@ -176,7 +176,7 @@ fn at_steps(program: &Program, steps: u32) -> [f64; 2] {
         rounds: program.rounds,
         steps,
         output: Vec::new(),
-        scratch: vec![0; 16384],
+        scratch: vec![0; SCRATCH_WORDS],
     };
     let runs = STEPS.div_ceil(steps);
     let mut sums = [0.0; 2];

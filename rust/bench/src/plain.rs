@@ -86,7 +86,8 @@ enum Line {
 /// Runs a program through its rounds.
 ///
 /// # Safety
-/// The program must be accepted by `kindcanvas_check` and the scratch have at least 16,384 words.
+/// The program must be accepted by `kindcanvas_check` and the scratch have at least `kindcanvas::SCRATCH_WORDS` words;
+/// all that are lent are set to 0.
 pub unsafe fn run(
     program: &[u32],
     limit: u32,

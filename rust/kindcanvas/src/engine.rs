@@ -24,8 +24,8 @@ extern "C" {
     ) -> u32;
 }
 
-/// The words of scratch that a run needs.
-pub const SCRATCH_WORDS: usize = 16_384;
+/// The words of scratch that a run needs. Of a longer scratch it uses only the first so many.
+pub const SCRATCH_WORDS: usize = 12_288;
 /// The words of output that a run can use.
 pub const USABLE_WORDS: usize = (1 << 28) - 1;
 
@@ -166,16 +166,18 @@ pub fn check(words: &[u32]) -> Result<(), Refusal> {
     }
 }
 
-/// Runs the program through its rounds. Answers go to `output`, one after the other, with zeros behind them; `scratch` is all 0
-/// afterwards. A refusal leaves both as lent.
+/// Runs the program through its rounds. Answers go to `output`, one after the other, with zeros behind them. Of `scratch` the
+/// first [`SCRATCH_WORDS`] are 0 afterwards; those beyond stay as lent. A refusal leaves both as lent.
 ///
 /// ```
 /// let program = kindcanvas::words::parse("13:5 2:1 2:1 5:2 0:0 1:7")?;
 /// let mut output = [9; 4];
-/// let mut scratch = vec![9; kindcanvas::SCRATCH_WORDS];
+/// let mut scratch = vec![9; kindcanvas::SCRATCH_WORDS + 1];
 /// let report = kindcanvas::run(&program, 16, 1_000_000, &mut output, &mut scratch).unwrap();
 /// assert_eq!((report.steps, report.answers, report.words), (4, 1, 2));
 /// assert_eq!(kindcanvas::words::show(&output), "15:1 1:7 0:0 0:0");
+/// let (used, beyond) = scratch.split_at(kindcanvas::SCRATCH_WORDS);
+/// assert!(used.iter().all(|&word| word == 0) && beyond == [9]);
 /// # Ok::<(), kindcanvas::words::TextError>(())
 /// ```
 ///

@@ -45,7 +45,7 @@ impl fmt::Display for Refusal {
             ),
             9 => write!(
                 f,
-                "the round limit is over 255 or the scratch shorter than 16,384 words"
+                "the round limit is over 255 or the scratch shorter than 12,288 words"
             ),
             number => write!(f, "condition {number} turned the file away at word {place}"),
         }
@@ -66,6 +66,8 @@ mod tests {
         for sentence in &sentences[1..8] {
             assert!(sentence.contains("word 77"), "{sentence}");
         }
+        assert_eq!(crate::SCRATCH_WORDS, 12_288);
+        assert!(sentences[8].contains("12,288 words"), "{}", sentences[8]);
         sentences.sort();
         sentences.dedup();
         assert_eq!(sentences.len(), 9);

@@ -11,6 +11,7 @@ use kindcanvas::{Bound, Ending, Refusal, Report};
 use reference::cases::{self, Case};
 use reference::coverage::{covered, wanted};
 use reference::gen::{self, Rng};
+use reference::run::leave_scratch;
 use reference::shrink::shrink;
 use reference::table;
 use reference::trace::Event;
@@ -47,12 +48,10 @@ impl Lent {
         &mut self.all[self.from..self.from + self.len]
     }
 
-    /// All of it, once these words and then zeros are in the lent part.
-    fn with(&self, words: &[u32]) -> Vec<u32> {
+    /// All of it, once the lent part is changed so.
+    fn with(&self, change: impl Fn(&mut [u32])) -> Vec<u32> {
         let mut all = self.all.clone();
-        let part = &mut all[self.from..self.from + self.len];
-        part.fill(0);
-        part[..words.len()].copy_from_slice(words);
+        change(&mut all[self.from..self.from + self.len]);
         all
     }
 }
@@ -82,8 +81,11 @@ fn difference(case: &Case, seed: u64, expected: &Expected) -> Option<String> {
     let (expected, page, cleared) = match expected {
         Ok(outcome) => (
             Ok(report(outcome)),
-            output.with(&outcome.words),
-            scratch.with(&[]),
+            output.with(|part| {
+                part.fill(0);
+                part[..outcome.words.len()].copy_from_slice(&outcome.words);
+            }),
+            scratch.with(leave_scratch),
         ),
         Err(refusal) => (
             Err(Refusal {
@@ -255,6 +257,63 @@ fn tables() {
     for row in table::refusals() {
         let name = format!("refusals.txt line {}", row.line);
         compare(&Case::new("table", row.words), 8, &name);
+    }
+}
+
+/// Scratch lengths on either side of the 12,288 words that a run uses, and of the 16,384 that it once took. One word short is
+/// refused by 9; else the run is the same, and the words beyond 12,288 are as lent.
+#[test]
+fn scratch_lengths() {
+    for row in table::runs() {
+        for scratch in [0, 12_287, 12_288, 12_289, 16_383, 16_384, 20_000] {
+            let case = Case {
+                scratch,
+                ..row.case.clone()
+            };
+            let result = compare_with(&case, 8, Case::run);
+            let result = result.unwrap_or_else(|(told, _)| panic!("{}: {told}", row.label));
+            match scratch {
+                0..=12_287 => assert_eq!(
+                    result,
+                    Err(reference::Refusal {
+                        number: 9,
+                        place: 0
+                    })
+                ),
+                _ => assert_eq!(result, row.case.run()),
+            }
+        }
+    }
+}
+
+/// What is lent beyond 12,288 words stays, and after a refusal all that is lent: each word compared, without the reference.
+#[test]
+fn words_beyond_those_used() {
+    let accepted = table::words("13:5 2:1 2:1 5:2 0:0 1:7");
+    let unknown_relation = table::words("13:4 2:0 2:0 12:1 2:1");
+    let refused = |number, place| Some(Refusal { number, place });
+    for (words, scratch_len, refusal) in [
+        (&accepted, 12_287, refused(9, 0)),
+        (&accepted, 12_288, None),
+        (&accepted, 12_289, None),
+        (&accepted, 20_000, None),
+        (&unknown_relation, 12_287, refused(9, 0)),
+        (&unknown_relation, 20_000, refused(7, 3)),
+    ] {
+        // Rubbish, none of it 0.
+        let lent = (1..=scratch_len).map(|i: u32| i.wrapping_mul(0x9e37_79b9));
+        let lent: Vec<u32> = lent.collect();
+        let (mut scratch, mut output) = (lent.clone(), vec![3; 4]);
+        let result = kindcanvas::run(words, 16, 99, &mut output, &mut scratch);
+        assert_eq!(result.err(), refusal);
+        match refusal {
+            Some(_) => assert!(scratch == lent && output == [3; 4]),
+            None => {
+                assert_eq!(show(&output), "15:1 1:7 0:0 0:0");
+                assert!(scratch[..12_288].iter().all(|&word| word == 0));
+                assert!(scratch[12_288..] == lent[12_288..]);
+            }
+        }
     }
 }
 

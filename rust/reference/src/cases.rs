@@ -167,21 +167,29 @@ fn small_settings(rng: &mut Rng) -> Case {
         rounds: rng.pick(&[0, 1, ROUND_LIMIT, ROUND_LIMIT + 1, u32::MAX]),
         steps: rng.pick(&[0, 1, 50]),
         output: rng.below(10),
-        scratch: rng.pick(&[
-            0,
-            SCRATCH_WORDS - 1,
-            SCRATCH_WORDS,
-            SCRATCH_WORDS,
-            SCRATCH_WORDS,
-            SCRATCH_WORDS + 1,
-        ]),
+        scratch: match rng.below(8) {
+            0 => rng.below(SCRATCH_WORDS),
+            1 => SCRATCH_WORDS - 1,
+            2..=4 => SCRATCH_WORDS,
+            5 => SCRATCH_WORDS + 1,
+            _ => longer_scratch(rng),
+        },
     }
+}
+
+/// A scratch with words beyond those that a run uses, at most as many again.
+fn longer_scratch(rng: &mut Rng) -> usize {
+    rng.between(SCRATCH_WORDS + 1, 2 * SCRATCH_WORDS)
 }
 
 /// The case with limits set by what a run with the given ones needs.
 fn around(rng: &mut Rng, mut case: Case, rounds: u32, steps: u32) -> Case {
     (case.rounds, case.steps) = (rounds, steps);
-    case.scratch += rng.pick(&[0, 0, 1, 100]);
+    case.scratch = match rng.below(4) {
+        0 => longer_scratch(rng),
+        1 => SCRATCH_WORDS + 1,
+        _ => SCRATCH_WORDS,
+    };
     let Ok(outcome) = case.run() else {
         case.output = rng.below(10);
         return case;

@@ -27,8 +27,11 @@ pub fn wanted() -> Vec<String> {
         "output: just enough",
         "output: one word short",
         "output: longer than needed",
-        "scratch: longer than needed",
         "scratch: one word short",
+        "scratch: just enough",
+        "scratch: one word more",
+        "scratch: longer than needed",
+        "scratch: longer than needed, refused",
         "round limit: 0, rounds used up",
         "round limit: 255, rounds used up",
         "round limit: 255, finished in that round",
@@ -80,6 +83,9 @@ pub fn covered(case: &Case, result: &Result<Outcome, Refusal>) -> BTreeSet<Strin
     match result {
         Err(refusal) => {
             all.insert(format!("refused {}", refusal.number));
+            if case.scratch > SCRATCH_WORDS {
+                all.insert("scratch: longer than needed, refused".to_string());
+            }
             if refusal.number == 9 {
                 all.extend(settings(case).map(String::from));
             }
@@ -150,6 +156,8 @@ fn limits(case: &Case, outcome: &Outcome) -> Vec<&'static str> {
             end != End::Output && used > 0 && used < case.output,
             "output: longer than needed",
         ),
+        (case.scratch == SCRATCH_WORDS, "scratch: just enough"),
+        (case.scratch == SCRATCH_WORDS + 1, "scratch: one word more"),
         (case.scratch > SCRATCH_WORDS, "scratch: longer than needed"),
         (
             case.rounds == 0 && end == End::Rounds,

@@ -34,7 +34,8 @@ pub struct Outcome {
 }
 
 pub const ROUND_LIMIT: u32 = 255;
-pub const SCRATCH_WORDS: usize = 16_384;
+/// A run takes at least so many scratch words and uses no more (document 02, Note 12).
+pub const SCRATCH_WORDS: usize = 12_288;
 /// More output words than these are not used.
 pub const OUTPUT_WORDS: usize = 268_435_455;
 
@@ -104,6 +105,11 @@ pub fn run_with(
         words: search.words,
         trace: search.trace,
     })
+}
+
+/// Makes of lent scratch what a run leaves of it: the words that it uses are 0, and those beyond untouched.
+pub fn leave_scratch(scratch: &mut [u32]) {
+    scratch[..SCRATCH_WORDS].fill(0);
 }
 
 /// Whether a round cut some branch.

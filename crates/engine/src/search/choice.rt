@@ -17,15 +17,16 @@ ghost use mathlib.Core.List.{List};
 ghost use Prim.Native.Nat.{_-_, _<_, _≤_, ℕ};
 ghost use lib.ListN.{length};
 ghost use Rattle.rules.specs.Syntax.{Program, Goals, disj};
+ghost use Rattle.rules.specs.Settings.{scratch-words};
 ghost use Rattle.semantics.specs.Path.{Path, ChoicePoint, take-disj};
 ghost use Rattle.semantics.specs.Round.{Tally, backtrack};
-ghost use Rattle.engine.specs.Layout.{most-goals, most-disjunctions, layout-words};
+ghost use Rattle.engine.specs.Layout.{most-goals, most-disjunctions};
 ghost use Rattle.engine.specs.Memory.{point};
 ghost use Rattle.engine.specs.Take.{registers, one-choice-more, resumed, PathHeld, BacktrackAs, Taking, TookAs};
 
 // Makes a choice point: the alternatives left, from a reference up to the position `end`, and all that the path has when it is come back to.
 pub(crate) fn push_choice(scratch: &mut [u32], st: State, rest: u32, end: u32) -> State
-    requires { ⌜ (layout-words ≤ length (now scratch)) × (st .choices < most-disjunctions) ⌝ }
+    requires { ⌜ (scratch-words ≤ length (now scratch)) × (st .choices < most-disjunctions) ⌝ }
     ensures { λ r. ⌜ (r ≡ one-choice-more st) × (now (scratch .exit) ≡ point (now (scratch .entry)) (st .choices) rest end (registers st)) ⌝ }
 {
     let at = (POINTS + 8 * st.choices) as usize;
@@ -51,7 +52,7 @@ pub(crate) fn push_choice(scratch: &mut [u32], st: State, rest: u32, end: u32) -
 
 // The state that the newest choice point has saved, with one goal more put to wait, when so many choice points are left.
 fn saved_state(scratch: &[u32], st: State, choices: u32) -> State
-    requires { ⌜ (layout-words ≤ length (now scratch)) × (0 < st .choices) × (st .choices ≤ most-disjunctions) × (resumed (now scratch) st choices .goals ≤ most-goals) ⌝ }
+    requires { ⌜ (scratch-words ≤ length (now scratch)) × (0 < st .choices) × (st .choices ≤ most-disjunctions) × (resumed (now scratch) st choices .goals ≤ most-goals) ⌝ }
     ensures { λ r. ⌜ r ≡ resumed (now (scratch .entry)) st choices ⌝ }
 {
     let at = (POINTS + 8 * (st.choices - 1)) as usize;

@@ -14,8 +14,9 @@ ghost use mathlib.Core.List.{List};
 ghost use Prim.Native.Nat.{ℕ, _+_, _<_, _≤_};
 ghost use lib.ListN.{length};
 ghost use Rattle.rules.specs.Syntax.{Goals, conj, Program};
+ghost use Rattle.rules.specs.Settings.{scratch-words};
 ghost use Rattle.semantics.specs.Path.{Path, ChoicePoint, take-conj};
-ghost use Rattle.engine.specs.Layout.{most-goals, layout-words};
+ghost use Rattle.engine.specs.Layout.{most-goals};
 ghost use Rattle.engine.specs.Memory.{cell};
 ghost use Rattle.engine.specs.Take.{Taking, TookAs, one-goal-more};
 
@@ -62,7 +63,7 @@ pub(crate) fn take_conj(program: &[u32], scratch: &mut [u32], st: State, conjunc
 
 // Puts a goal to wait: it stands ahead of all older ones.
 pub(crate) fn push_goal(scratch: &mut [u32], st: State, goal: u32) -> State
-    requires { ⌜ (layout-words ≤ length (now scratch)) × (st .goals < most-goals) ⌝ }
+    requires { ⌜ (scratch-words ≤ length (now scratch)) × (st .goals < most-goals) ⌝ }
     ensures { λ r. ⌜ (r ≡ one-goal-more st) × (now (scratch .exit) ≡ cell (now (scratch .entry)) (st .goals + 1) goal (st .head)) ⌝ }
 {
     let at = (CELL_GOAL + 2 * (st.goals + 1)) as usize;

@@ -7,8 +7,8 @@ ghost use Prim.Native.Nat.{_≤_};
 ghost use lib.ListN.{length, getElem?};
 ghost use Rattle.rules.specs.Syntax.{Relation, Program};
 ghost use Rattle.rules.specs.Inner.{RelationsAt};
-ghost use Rattle.rules.specs.Settings.{most-relations};
-ghost use Rattle.engine.specs.Layout.{layout-words, relations-area};
+ghost use Rattle.rules.specs.Settings.{most-relations, scratch-words};
+ghost use Rattle.engine.specs.Layout.{relations-area};
 ghost use Rattle.engine.specs.Memory.{TableIn};
 ghost use Rattle.engine.specs.Trail.{Same};
 ghost use Rattle.engine.specs.Take.{RelationIs};
@@ -21,7 +21,7 @@ pub struct RelationHead {
 }
 
 pub(crate) fn fill_relations(program: &[u32], scratch: &mut [u32])
-    requires { ⌜ ((P : Program) × RelationsAt (now program) 0 P × (length P ≤ most-relations) × (layout-words ≤ length (now scratch))) ⌝ }
+    requires { ⌜ ((P : Program) × RelationsAt (now program) 0 P × (length P ≤ most-relations) × (scratch-words ≤ length (now scratch))) ⌝ }
     ensures { λ _. ⌜ ((P : Program) → RelationsAt (now (program .entry)) 0 P → length P ≤ most-relations → TableIn (now (program .entry)) (now (scratch .exit)) P)
         × Same (now (scratch .entry)) (now (scratch .exit)) 0 relations-area ⌝ }
 {
@@ -35,7 +35,7 @@ pub(crate) fn fill_relations(program: &[u32], scratch: &mut [u32])
 }
 
 pub(crate) fn relation(program: &[u32], scratch: &[u32], number: u32) -> RelationHead
-    requires { ⌜ ((P : Program) × (R : Relation) × TableIn (now program) (now scratch) P × (getElem? P number ≡ some R) × (layout-words ≤ length (now scratch))) ⌝ }
+    requires { ⌜ ((P : Program) × (R : Relation) × TableIn (now program) (now scratch) P × (getElem? P number ≡ some R) × (scratch-words ≤ length (now scratch))) ⌝ }
     ensures { λ r. ⌜ ((P : Program) (R : Relation) → TableIn (now (program .entry)) (now (scratch .entry)) P → getElem? P number ≡ some R
         → RelationIs (now (program .entry)) (r .params) (r .vars) (r .body) R) ⌝ }
 {

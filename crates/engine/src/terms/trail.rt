@@ -4,14 +4,15 @@ ghost use mathlib.Core.Path.{_≡_};
 ghost use mathlib.Core.List.{List};
 ghost use Prim.Native.Nat.{ℕ, _+_, _<_, _≤_};
 ghost use lib.ListN.{length};
+ghost use Rattle.rules.specs.Settings.{scratch-words};
 ghost use Rattle.semantics.specs.Substitution.{Substitution};
-ghost use Rattle.engine.specs.Layout.{most-variables, references, layout-words};
+ghost use Rattle.engine.specs.Layout.{most-variables, references};
 ghost use Rattle.engine.specs.Memory.{bound};
 ghost use Rattle.engine.specs.Trail.{Trailed, Undone};
 
 // Binds an open variable to a term, with so many entries on the trail. Returns the entries then: each variable was open when bound, so the trail never runs over.
 pub(crate) fn bind(scratch: &mut [u32], variable: u32, term: u32, trail: u32) -> u32
-    requires { ⌜ (layout-words ≤ length (now scratch)) × (variable < most-variables) × (trail < most-variables) × (term < references) ⌝ }
+    requires { ⌜ (scratch-words ≤ length (now scratch)) × (variable < most-variables) × (trail < most-variables) × (term < references) ⌝ }
     ensures { λ r. ⌜ (r ≡ trail + 1) × (now (scratch .exit) ≡ bound (now (scratch .entry)) variable term trail) ⌝ }
 {
     scratch[variable as usize] = term + 1;

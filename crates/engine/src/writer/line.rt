@@ -15,8 +15,9 @@ ghost use Prim.Native.Nat.{ℕ, _≤_, _<_, _+_};
 ghost use lib.ListN.{length};
 ghost use Rattle.rules.specs.Syntax.{Term, var};
 ghost use Rattle.rules.specs.Written.{part, term-words};
+ghost use Rattle.rules.specs.Settings.{scratch-words};
 ghost use Rattle.semantics.specs.Answer.{member, index, bindings-in, line-in, line-words, Line, not-all};
-ghost use Rattle.engine.specs.Layout.{most-variables, layout-words};
+ghost use Rattle.engine.specs.Layout.{most-variables};
 ghost use Rattle.engine.specs.Names.{NamesGiven};
 ghost use Rattle.engine.specs.Term.{Puts, Placed};
 ghost use Rattle.engine.specs.Line.{half, Equation, EquationsIn, equation-in, equation-words, equations-words, LineAs};
@@ -30,7 +31,7 @@ pub enum Listed {
 
 // The variable of equation `i`.
 pub(crate) fn equation_variable(scratch: &[u32], i: usize) -> u32
-    requires { ⌜ (layout-words ≤ length (now scratch)) × (i < most-variables) ⌝ }
+    requires { ⌜ (scratch-words ≤ length (now scratch)) × (i < most-variables) ⌝ }
     ensures { λ r. ⌜ r ≡ half (now (scratch .entry)) i ⌝ }
 {
     let bits = scratch[PAIRS + i / 2];
@@ -227,7 +228,7 @@ pub(crate) fn put_line(
 }
 
 pub(crate) fn has_name(scratch: &[u32], x: u32) -> bool
-    requires { ⌜ (layout-words ≤ length (now scratch)) × (x < most-variables) ⌝ }
+    requires { ⌜ (scratch-words ≤ length (now scratch)) × (x < most-variables) ⌝ }
     ensures { λ r. ⌜ ((names : List ℕ) → NamesGiven (now (scratch .entry)) names → r ≡ member x names) ⌝ }
 {
     if scratch[NAMES + x as usize] == 0 {

@@ -10,14 +10,15 @@ ghost use mathlib.Core.List.{List, []};
 ghost use Prim.Native.Nat.{ℕ, _≤_, _<_};
 ghost use lib.ListN.{length};
 ghost use Rattle.rules.specs.Syntax.{Term, var};
+ghost use Rattle.rules.specs.Settings.{scratch-words};
 ghost use Rattle.semantics.specs.Answer.{appear, vars-in};
-ghost use Rattle.engine.specs.Layout.{most-variables, layout-words};
+ghost use Rattle.engine.specs.Layout.{most-variables};
 ghost use Rattle.engine.specs.Walk.{Resolves};
 ghost use Rattle.engine.specs.Names.{Names, NamesGiven, Named};
 
 // Names variable `x`, unless it has a name.
 pub(crate) fn name_variable(scratch: &mut [u32], x: u32, top: u32) -> u32
-    requires { ⌜ (layout-words ≤ length (now scratch)) × (x < most-variables) × ((names : List ℕ) × Names (now scratch) top names) ⌝ }
+    requires { ⌜ (scratch-words ≤ length (now scratch)) × (x < most-variables) × ((names : List ℕ) × Names (now scratch) top names) ⌝ }
     ensures { λ r. ⌜ ((names : List ℕ) → Names (now (scratch .entry)) top names → Named (now (scratch .entry)) (now (scratch .exit)) r (appear names (var x))) ⌝ }
 {
     let at = NAMES + x as usize;
@@ -54,7 +55,7 @@ pub(crate) fn name_term(program: &[u32], scratch: &mut [u32], term: u32, top: u3
 
 // Takes all names back.
 pub(crate) fn clear_names(scratch: &mut [u32], top: u32)
-    requires { ⌜ (layout-words ≤ length (now scratch)) × ((names : List ℕ) × Names (now scratch) top names) ⌝ }
+    requires { ⌜ (scratch-words ≤ length (now scratch)) × ((names : List ℕ) × Names (now scratch) top names) ⌝ }
     ensures { λ r. ⌜ ((names : List ℕ) → Names (now (scratch .entry)) top names → Named (now (scratch .entry)) (now (scratch .exit)) 0 []) ⌝ }
 {
     let mut last = top;

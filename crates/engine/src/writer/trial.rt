@@ -4,14 +4,15 @@ use crate::layout::TRAIL;
 ghost use mathlib.Core.List.{List};
 ghost use Prim.Native.Nat.{ℕ, _≤_, _<_};
 ghost use lib.ListN.{length};
+ghost use Rattle.rules.specs.Settings.{scratch-words};
 ghost use Rattle.semantics.specs.Substitution.{Substitution};
-ghost use Rattle.engine.specs.Layout.{most-variables, layout-words};
+ghost use Rattle.engine.specs.Layout.{most-variables};
 ghost use Rattle.engine.specs.Trail.{Trailed};
 ghost use Rattle.engine.specs.Trial.{HalfSet, AllKept};
 
 // Two variables to a word of the pairs' area, which no trial needs now: there can be 2,048.
 pub(crate) fn keep_variable(scratch: &mut [u32], i: usize, x: u32)
-    requires { ⌜ (layout-words ≤ length (now scratch)) × (i < most-variables) × (x < most-variables) ⌝ }
+    requires { ⌜ (scratch-words ≤ length (now scratch)) × (i < most-variables) × (x < most-variables) ⌝ }
     ensures { λ _. ⌜ HalfSet (now (scratch .entry)) (now (scratch .exit)) i x ⌝ }
 {
     let at = PAIRS + i / 2;

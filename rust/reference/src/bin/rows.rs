@@ -1,5 +1,5 @@
 //! `rows N SEED FOLDER`: the programs of docs/DECISIONS.md and N random programs with limits, with the reference's results, as
-//! theorems over the definitions of crate semantics, in a crate `rows` below FOLDER. Each is proved by computing both sides, so a difference is an error at its row.
+//! theorems over the definitions of crate semantics, which is below FOLDER too, in a crate `rows` there. Each is proved by computing both sides, so a difference is an error at its row.
 
 use reference::cases::{case, Case};
 use reference::gen::Rng;
@@ -21,18 +21,33 @@ const HEADER: &str = "\
 use Prim.Native.Nat.{ℕ}
 use mathlib.Core.Path.{_≡_, refl}
 use mathlib.Core.List.{List, [], _∷_}
-use Rattle.rules.specs.Reading.{read-word, read-leaf, read-term, read-one, read-two, read-terms, read-absento, read-call, read-goal, read-goals, read-body, read-variables, read-relation, read-relations}
-use Rattle.rules.specs.Written.{term-words, terms-words, goal-words, goals-words}
-use Rattle.rules.specs.Calls.{goal-fault, goals-fault, relations-fault}
-use Rattle.rules.specs.Accept.{read}
 use Rattle.semantics.specs.Steps.{variables, goals, disjunctions, constraints, waiting}
 use Rattle.semantics.specs.Round.{finished, rounds-used, steps-used, output-full, path-limit}
 use Rattle.semantics.specs.Path.{as-written}
 use Rattle.semantics.specs.Run.{refusal, ran, returns-by}
 ";
 
-const UNFOLDING: &str = "unfolding read read-word read-leaf read-term read-one read-two read-terms read-absento read-call read-goal read-goals \
-read-body read-variables read-relation read-relations term-words terms-words goal-words goals-words goal-fault goals-fault relations-fault";
+/// The definitions of crate rules that a row computes through, as the crate's own rows name them.
+struct Unfolded {
+    imports: String,
+    unfolding: String,
+}
+
+impl Unfolded {
+    fn read(folder: &Path) -> io::Result<Unfolded> {
+        let text = fs::read_to_string(folder.join("crates/semantics/proofs/RowsHold.antt"))?;
+        let lines = |start| text.lines().filter(move |line| line.starts_with(start));
+        Ok(Unfolded {
+            imports: lines("use Rattle.rules.")
+                .map(|line| format!("{line}\n"))
+                .collect(),
+            unfolding: lines("unfolding ")
+                .next()
+                .expect("the rows unfold")
+                .to_string(),
+        })
+    }
+}
 
 fn main() -> ExitCode {
     let arguments: Vec<String> = env::args().skip(1).collect();
@@ -58,6 +73,7 @@ fn usage() -> ExitCode {
 
 /// Writes the crate and prints how many rows end in which way.
 fn write(count: usize, seed: u64, folder: &Path) -> io::Result<()> {
+    let unfolded = Unfolded::read(folder)?;
     let specs = folder.join("crates/rows/specs");
     fs::create_dir_all(&specs)?;
     fs::create_dir_all(folder.join("crates/rows/src"))?;
@@ -74,11 +90,11 @@ fn write(count: usize, seed: u64, folder: &Path) -> io::Result<()> {
     let mut ends: BTreeMap<String, usize> = BTreeMap::new();
     let mut modules = String::new();
     for (file, chunk) in cases.chunks(ROWS).enumerate() {
-        let mut text = HEADER.to_string();
+        let mut text = format!("{HEADER}{}", unfolded.imports);
         for (at, case) in chunk.iter().enumerate() {
             let result = case.run();
             *ends.entry(name(&result)).or_default() += 1;
-            text.push_str(&row(file * ROWS + at, case, &result));
+            text.push_str(&row(file * ROWS + at, case, &result, &unfolded.unfolding));
         }
         fs::write(specs.join(format!("Rows{file}.antt")), text)?;
         modules.push_str(&format!("pub mod Rows{file}\n"));
@@ -102,7 +118,7 @@ fn name(result: &Result<Outcome, Refusal>) -> String {
     }
 }
 
-fn row(number: usize, case: &Case, result: &Result<Outcome, Refusal>) -> String {
+fn row(number: usize, case: &Case, result: &Result<Outcome, Refusal>, unfolding: &str) -> String {
     let report = match result {
         Err(refusal) => format!("refusal {} {}", refusal.number, refusal.place),
         Ok(outcome) => format!(
@@ -114,7 +130,7 @@ fn row(number: usize, case: &Case, result: &Result<Outcome, Refusal>) -> String 
         ),
     };
     format!(
-        "\nrow-{number} : returns-by as-written ({}) {} {} {} {} ≡ {report}\n{UNFOLDING}\nrow-{number} = refl\n",
+        "\nrow-{number} : returns-by as-written ({}) {} {} {} {} ≡ {report}\n{unfolding}\nrow-{number} = refl\n",
         list(&case.words),
         case.rounds,
         case.steps,

@@ -63,7 +63,9 @@ word-bounded k ws at end =
 
 tag-bounded : (ws : List ℕ) (at end : ℕ) → Bounded end (read-tag ws at end)
 unfolding read-tag
-tag-bounded ws at end = bounded-next end (read-word 1 ws at end) _ (word-bounded 1 ws at end) (λ p n _. tt)
+tag-bounded ws at end =
+    bounded-choose end (eqb (kind-at ws at) 1) _ _ (λ _. bounded-next end (read-word 1 ws at end) _ (word-bounded 1 ws at end) (λ p n _. tt)) (λ _.
+    bounded-next end (read-word 2 ws at end) _ (word-bounded 2 ws at end) (λ p n _. tt))
 
 leaf-bounded : (k p vars at end : ℕ) → at ≤ end → Bounded end (read-leaf k p vars at)
 unfolding read-leaf

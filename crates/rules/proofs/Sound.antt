@@ -165,8 +165,13 @@ word-sound k ws at end p n e =
 pub tag-sound : (ws : List ℕ) (at end : ℕ) (a : Atom) (n : ℕ) → read-tag ws at end ≡ found a n → Found ws at end (atom-word a ∷ []) (TagGood a) n
 unfolding read-tag
 tag-sound ws at end a n e =
-    let p = next-found (read-word 1 ws at end) _ a n e in
-    found-carries (λ a n. Found ws at end (atom-word a ∷ []) (TagGood a) n) (p .rest) (word-sound 1 ws at end (p .value) (p .to) (p .first) .0)
+    choose-found (eqb (kind-at ws at) 1) _ _ _ e
+    (λ _ e₁.
+    let p = next-found (read-word 1 ws at end) _ a n e₁ in
+    found-carries (λ a n. Found ws at end (atom-word a ∷ []) (TagGood a) n) (p .rest) (word-sound 1 ws at end (p .value) (p .to) (p .first) .0))
+    (λ _ e₁.
+    let p = next-found (read-word 2 ws at end) _ a n e₁ in
+    found-carries (λ a n. Found ws at end (atom-word a ∷ []) (TagGood a) n) (p .rest) (word-sound 2 ws at end (p .value) (p .to) (p .first) .0))
 
 abbrev pub FoundGoal : List ℕ → ℕ → ℕ → ℕ → Goal → ℕ → Type 0
 FoundGoal ws vars at end g n = Found ws at end (goal-words g) (GoalGood vars g) n

@@ -120,9 +120,12 @@ abbrev pub of-goals : Bool → Goals → Goal
 of-goals true gs = conj gs
 of-goals false gs = disj gs
 
--- what stands in the tag's place: "a symbol word (the tag)", so any other word there is of a wrong kind
+-- What stands in the tag's place: "The tag of absento may be a symbol or a number from now on .. Condition 2 at the tag's place then refuses everything else."
+-- (document 02, Note 3)
 unfoldable pub read-tag : List ℕ → ℕ → ℕ → Reading Atom
-read-tag ws at end = next (read-word 1 ws at end) (λ p n. found (symbol p) n)
+read-tag ws at end =
+    choose (eqb (kind-at ws at) 1) (λ _. next (read-word 1 ws at end) (λ p n. found (symbol p) n)) (λ _.
+    next (read-word 2 ws at end) (λ p n. found (number p) n))
 
 -- "absento: .. the tag, one term"
 unfoldable pub read-absento : ℕ → List ℕ → ℕ → ℕ → ℕ → Reading Goal

@@ -315,8 +315,12 @@ impl Maker<'_> {
     }
 
     fn absento(&mut self) -> Vec<u32> {
-        let mut inside = vec![word(SYMBOL, self.symbol())];
-        if self.slips() {
+        let mut inside = match self.rng.chance(50) {
+            true => self.symbol(),
+            false => self.number(),
+        };
+        // More often than elsewhere: a tag of each kind that is not allowed has to be met.
+        if self.rng.below(1000) < 4 * self.slip {
             inside = self.any_word();
         }
         if !self.slips() {
@@ -378,14 +382,19 @@ impl Maker<'_> {
                 }
                 pair(first, second)
             }
-            80..=86 => vec![word(NUMBER, self.rng.pick(&[0, 1, 5]))],
+            80..=86 => self.number(),
             87..=91 => vec![word(EMPTY, 0)],
-            _ => vec![word(SYMBOL, self.symbol())],
+            _ => self.symbol(),
         }
     }
 
-    fn symbol(&mut self) -> u32 {
-        self.rng.pick(&[0, 1, 7])
+    /// Some payloads are those of a number too.
+    fn symbol(&mut self) -> Vec<u32> {
+        vec![word(SYMBOL, self.rng.pick(&[0, 1, 7]))]
+    }
+
+    fn number(&mut self) -> Vec<u32> {
+        vec![word(NUMBER, self.rng.pick(&[0, 1, 5]))]
     }
 
     fn any_word(&mut self) -> Vec<u32> {

@@ -145,7 +145,9 @@ fn tag_refused(words: &[u32], refusal: &Refusal) -> Vec<String> {
     }
     let stands = words[place];
     let mut all = vec![tag(kind(stands), "refused")];
-    let relation = words[..place].iter().rposition(|&word| kind(word) == RELATION);
+    let relation = words[..place]
+        .iter()
+        .rposition(|&word| kind(word) == RELATION);
     let variables = payload(words[relation.expect("a goal is in a relation") + 2]);
     let [over, filled] = TAG_FAULTS;
     if kind(stands) == VARIABLE && payload(stands) >= variables {

@@ -121,7 +121,7 @@ fn nothing_is_missed() {
     let trees = syntax::terms(&trees).unwrap();
     let mut rng = Rng::new(8);
     let mut counts = [0; 3];
-    for at in 0..2_000 {
+    for at in 0..3_000 {
         let fresh = at % 3;
         let words = programs::program(&mut rng, fresh);
         let program = syntax::program(&words).unwrap();

@@ -434,8 +434,17 @@ fn damage(rng: &mut Rng, words: &mut Vec<u32>) {
     let at = rng.below(words.len());
     let (old_kind, old_payload) = (kind(words[at]), payload(words[at]));
     match rng.below(100) {
-        0..=9 => words[at] = any_word(rng, old_payload as usize),
-        10..=17 => words[at] = word(rng.below(16) as u32, old_payload),
+        0..=5 => words[at] = any_word(rng, old_payload as usize),
+        6..=13 => {
+            // What stands in a tag's place.
+            let tags: Vec<usize> = (1..words.len())
+                .filter(|&at| kind(words[at - 1]) == ABSENTO)
+                .collect();
+            if !tags.is_empty() {
+                words[rng.pick(&tags)] = any_word(rng, old_payload as usize);
+            }
+        }
+        14..=17 => words[at] = word(rng.below(16) as u32, old_payload),
         18..=29 => words[at] = word(old_kind, (old_payload + 1) % PAYLOADS),
         30..=41 => words[at] = word(old_kind, (old_payload + PAYLOADS - 1) % PAYLOADS),
         42..=51 => {

@@ -3,12 +3,12 @@ use Prim.Native.Nat.{ℕ, suc, zero}
 use mathlib.Core.Bool.{Bool, false, true}
 use mathlib.Core.List.{List, [], _∷_, map}
 use mathlib.Core.Logic.{_↔_}
-use mathlib.Core.Path.{_∙_, _≡_, ap, refl, subst, sym}
+use mathlib.Core.Path.{_∙_, _≡_, refl, subst}
 use native.Mathlib.Omega.{arith}
 use Rattle.word.specs.Word.{word}
 use Rattle.rules.specs.Lists.{Each}
 use Rattle.rules.specs.Reading.{found}
-use Rattle.rules.specs.Syntax.{Atom, Constraint, Goal, Sort, Term, absento, atom, constrain, pair, var}
+use Rattle.rules.specs.Syntax.{Atom, Constraint, Sort, Term, absento, atom, constrain, pair, var}
 use Rattle.rules.specs.WellFormed.{TagGood, TermGood}
 use Rattle.rules.specs.Written.{atom-word, goal-words, term-words, terms-words}
 use Rattle.semantics.specs.Answer.{lacks}
@@ -30,21 +30,22 @@ use Rattle.semantics.proofs.TermLaws.{same-atom-refl, same-atom-true}
 pub tag-matches : (a b : Atom) → (is-atom a (atom b) ≡ true) ↔ (a ≡ b)
 tag-matches a b = (same-atom-true a b, λ e. subst (λ c. is-atom a (atom c) ≡ true) e (same-atom-refl a))
 
--- the atoms of a term, and those of a tree, are all of one sort
-abbrev pub AllOf : Sort → Term → Type 0
-AllOf k (var x) = Unit {0}
-AllOf k (atom b) = OfSort k (leaf b)
-AllOf k (pair s t) = AllOf k s × AllOf k t
+-- no atom of a term, and none of a tree, is of this sort
+abbrev pub NoneOf : Sort → Term → Type 0
+NoneOf k (var x) = Unit {0}
+NoneOf k (atom b) = ¬ OfSort k (leaf b)
+NoneOf k (pair s t) = NoneOf k s × NoneOf k t
 
-abbrev pub TreeOf : Sort → Tree → Type 0
-TreeOf k (leaf b) = OfSort k (leaf b)
-TreeOf k (node s t) = TreeOf k s × TreeOf k t
+abbrev pub NoneOfTree : Sort → Tree → Type 0
+NoneOfTree k (leaf b) = ¬ OfSort k (leaf b)
+NoneOfTree k (node s t) = NoneOfTree k s × NoneOfTree k t
 
-module _ (k : Sort) (a : Atom) (other : ¬ OfSort k (leaf a)) where
-  apart : (b : Atom) → OfSort k (leaf b) → ¬ (a ≡ b)
-  apart b h e = other (subst (λ c. OfSort k (leaf c)) (sym e) h)
+-- a tag of this sort
+module _ (k : Sort) (a : Atom) (own : OfSort k (leaf a)) where
+  apart : (b : Atom) → ¬ OfSort k (leaf b) → ¬ (a ≡ b)
+  apart b h e = h (subst (λ c. OfSort k (leaf c)) e own)
 
-  not-among : (t : Term) → AllOf k t → some-node (is-atom a) t ≡ false
+  not-among : (t : Term) → NoneOf k t → some-node (is-atom a) t ≡ false
   not-among (var x) h = refl
   not-among (atom b) h = go (same-atom a b) refl
     where
@@ -53,14 +54,14 @@ module _ (k : Sort) (a : Atom) (other : ¬ OfSort k (leaf a)) where
       go false e = e
   not-among (pair s t) h = rw (not-among s (h .0), not-among t (h .1))
 
-  -- a review with a tag that is not of this sort does not fail on such a term, whatever the payloads
-  pub other-kind-passes : (bs : Substitution) → Good bs → (cs : List Constraint) (t : Term) → AllOf k (resolve bs t)
+  -- a review does not fail on such a term, whatever the payloads in it
+  pub other-kind-passes : (bs : Substitution) → Good bs → (cs : List Constraint) (t : Term) → NoneOf k (resolve bs t)
       → (left l : ℕ) (b : Bool) → review bs cs (absento a t) left ≡ done b l → b ≡ false
   other-kind-passes bs good cs t h zero l b e = clash (cc)
   other-kind-passes bs good cs t h (suc left) l b e = scan-alone (is-atom a) (is-atom-heads a) bs good t left b l e ∙ not-among (resolve bs t) h
 
   -- and in the logic such a tree lacks the tag
-  pub other-kind-lacks : (v : Tree) → TreeOf k v → Lacks a v
+  pub other-kind-lacks : (v : Tree) → NoneOfTree k v → Lacks a v
   other-kind-lacks (leaf b) h = apart b h
   other-kind-lacks (node s t) h = (other-kind-lacks s (h .0), other-kind-lacks t (h .1))
 

@@ -17,14 +17,14 @@ use Rattle.semantics.specs.Logic.{Assignment, Holds, Lacks, OfSort, Prop
 use Rattle.semantics.specs.Review.{review}
 use Rattle.semantics.specs.Shows.{Shows, read-answer}
 use Rattle.semantics.specs.Steps.{done}
-use Rattle.semantics.specs.Substitution.{Substitution, resolve, same-atom}
+use Rattle.semantics.specs.Substitution.{Substitution, resolve}
 use Rattle.semantics.specs.Unify.{is-atom}
 use Rattle.semantics.proofs.Answered.{same-read}
 use Rattle.semantics.proofs.Basics.{clash}
 use Rattle.semantics.proofs.Listed.{goal-met}
 use Rattle.semantics.proofs.ReadBack.{answer-back}
 use Rattle.semantics.proofs.ScanLaws.{is-atom-heads, scan-alone}
-use Rattle.semantics.proofs.TermLaws.{same-atom-refl, same-atom-true}
+use Rattle.semantics.proofs.TermLaws.{other-atom, same-atom-refl, same-atom-true}
 
 -- an atom is the tag exactly if it has its kind and its payload
 pub tag-matches : (a b : Atom) → (is-atom a (atom b) ≡ true) ↔ (a ≡ b)
@@ -47,11 +47,7 @@ module _ (k : Sort) (a : Atom) (own : OfSort k (leaf a)) where
 
   not-among : (t : Term) → NoneOf k t → some-node (is-atom a) t ≡ false
   not-among (var x) h = refl
-  not-among (atom b) h = go (same-atom a b) refl
-    where
-      go : (c : Bool) → same-atom a b ≡ c → same-atom a b ≡ false
-      go true e = absurd (apart b h (same-atom-true a b e))
-      go false e = e
+  not-among (atom b) h = other-atom a b (apart b h)
   not-among (pair s t) h = rw (not-among s (h .0), not-among t (h .1))
 
   -- a review does not fail on such a term, whatever the payloads in it

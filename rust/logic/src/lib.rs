@@ -1,6 +1,6 @@
 //! Decides for small programs which tuples the relations give, and holds an engine's answers to it (demand 3).
 //!
-//! Taken from document 01: the table of words; the section "Logic without a search", entire; and of "One answer" that no
+//! Taken from document 01, as document 02 amends it: the table of words; the section "Logic without a search", entire; and of "One answer" that no
 //! constraint mentions a variable absent from the query terms. The last needs a look at the words, because a disequality
 //! about such a variable can always be met, and so changes no tuple.
 //!

@@ -77,7 +77,7 @@ pub fn wanted() -> Vec<String> {
     for kind in VARIABLE..=ANSWER {
         match kind {
             SYMBOL | NUMBER => all.extend(tag_events(kind)),
-            _ => all.push(tag(kind, "refused")),
+            _ => all.push(of_tag(kind, "refused")),
         }
     }
     all.extend(TAG_FAULTS.map(String::from));
@@ -86,17 +86,18 @@ pub fn wanted() -> Vec<String> {
 
 /// What has to happen to a tag of each kind that is allowed.
 fn tag_events(kind: u32) -> [String; 4] {
-    ["read", "found", "went past the other kind", "listed"].map(|what| tag(kind, what))
+    ["read", "found", "went past the other kind", "listed"].map(|what| of_tag(kind, what))
 }
 
-fn tag(kind: u32, what: &str) -> String {
+fn of_tag(kind: u32, what: &str) -> String {
     format!("tag of kind {kind} {what}")
 }
 
 /// Words in a tag's place that would be refused by another number elsewhere.
-const TAG_FAULTS: [&str; 2] = [
+const TAG_FAULTS: [&str; 3] = [
     "tag: a variable over the count",
     "tag: an empty list with a payload",
+    "tag: a pair that overruns",
 ];
 
 /// What the case covers; each is said once.
@@ -144,18 +145,21 @@ fn tag_refused(words: &[u32], refusal: &Refusal) -> Vec<String> {
         return Vec::new();
     }
     let stands = words[place];
-    let mut all = vec![tag(kind(stands), "refused")];
+    let mut all = vec![of_tag(kind(stands), "refused")];
     let relation = words[..place]
         .iter()
         .rposition(|&word| kind(word) == RELATION);
     let variables = payload(words[relation.expect("a goal is in a relation") + 2]);
-    let [over, filled] = TAG_FAULTS;
-    if kind(stands) == VARIABLE && payload(stands) >= variables {
-        all.push(over.to_string());
-    }
-    if kind(stands) == EMPTY && payload(stands) != 0 {
-        all.push(filled.to_string());
-    }
+    // The words of the absento behind its tag.
+    let behind = payload(words[place - 1]) - 1;
+    let [over, filled, overruns] = TAG_FAULTS;
+    let fault = match (kind(stands), payload(stands)) {
+        (VARIABLE, number) if number >= variables => over,
+        (EMPTY, payload) if payload != 0 => filled,
+        (PAIR, first) if first > behind => overruns,
+        _ => return all,
+    };
+    all.push(fault.to_string());
     all
 }
 
@@ -269,8 +273,8 @@ fn events(outcome: &Outcome) -> impl Iterator<Item = String> + '_ {
         Event::FailedWhenTaken(kind) => format!("kind {kind} failed when taken"),
         Event::FailedLater(kind) => format!("kind {kind} failed after an equality"),
         Event::TypesMet => "types met".to_string(),
-        Event::TagFound(kind) => tag(*kind, "found"),
-        Event::OtherKindPassed(kind) => tag(*kind, "went past the other kind"),
+        Event::TagFound(kind) => of_tag(*kind, "found"),
+        Event::OtherKindPassed(kind) => of_tag(*kind, "went past the other kind"),
         Event::LineDropped(kind) => format!("line of kind {kind} dropped"),
         Event::LineRepeated => "line repeated".to_string(),
         Event::Stopped(during, steps) => stopped(*during, *steps),
@@ -305,7 +309,7 @@ fn answers(outcome: &Outcome) -> Vec<String> {
             }
         }
         for line in lines.windows(2).filter(|line| kind(line[0]) == ABSENTO) {
-            all.push(tag(kind(line[1]), "listed"));
+            all.push(of_tag(kind(line[1]), "listed"));
         }
         rest = later;
     }
@@ -326,9 +330,9 @@ fn syntax(program: &Program) -> BTreeSet<String> {
                 Goal::Call(number, _) => {
                     called.insert(number);
                 }
-                Goal::Absento(of, _) => {
-                    let is_number = matches!(program[of], Term::Number(_));
-                    all.insert(tag(if is_number { NUMBER } else { SYMBOL }, "read"));
+                Goal::Absento(tag, _) => {
+                    let is_number = matches!(program[tag], Term::Number(_));
+                    all.insert(of_tag(if is_number { NUMBER } else { SYMBOL }, "read"));
                 }
                 _ => (),
             }

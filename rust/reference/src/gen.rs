@@ -436,13 +436,12 @@ fn damage(rng: &mut Rng, words: &mut Vec<u32>) {
     match rng.below(100) {
         0..=5 => words[at] = any_word(rng, old_payload as usize),
         6..=13 => {
-            // What stands in a tag's place.
+            // In a tag's place, if there is one.
             let tags: Vec<usize> = (1..words.len())
                 .filter(|&at| kind(words[at - 1]) == ABSENTO)
                 .collect();
-            if !tags.is_empty() {
-                words[rng.pick(&tags)] = any_word(rng, old_payload as usize);
-            }
+            let at = if tags.is_empty() { at } else { rng.pick(&tags) };
+            words[at] = any_word(rng, old_payload as usize);
         }
         14..=17 => words[at] = word(rng.below(16) as u32, old_payload),
         18..=29 => words[at] = word(old_kind, (old_payload + 1) % PAYLOADS),

@@ -717,7 +717,7 @@ impl Names {
         }
     }
 
-    /// The words of the term with these nodes, unless it holds a variable with no name.
+    /// The words of the terms with these nodes, unless one is a variable with no name.
     fn words(&self, nodes: &[Value]) -> Option<Vec<u32>> {
         // From the last node to the first, each pair finds the sizes of its two parts on the stack.
         let mut first_sizes = vec![0; nodes.len()];

@@ -80,7 +80,7 @@ terms-at ws v pos to (t ∷ ts) lv g h e =
 
 tag-here : (w : ℕ) (a : Atom) → w ≡ atom-word a → TagGood a → AtomIs w a
 tag-here w (symbol p) e g = is-word w 1 p e g
-tag-here w (number p) e g = absurd g
+tag-here w (number p) e g = is-word w 2 p e g
 tag-here w empty e g = absurd g
 
 constraint-at : (ws : List ℕ) (v pos : ℕ) (c : Constraint) → v ≤ 255 → ConstraintGood v c → Written ws pos (constraint-words c) → ConstraintAt ws 0 pos c × (after ws pos ≡ pos + length (constraint-words c))

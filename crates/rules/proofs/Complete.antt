@@ -109,8 +109,8 @@ word-complete k ws at end p e l r =
 
 tag-complete : (ws : List ℕ) (at end : ℕ) (a : Atom) → getD ws at 0 ≡ atom-word a → TagGood a → at < end → read-tag ws at end ≡ found a (at + 1)
 unfolding read-tag
-tag-complete ws at end (symbol p) e g r = simp (word-complete 1 ws at end p e g r)
-tag-complete ws at end (number p) e g r = absurd g
+tag-complete ws at end (symbol p) e g r = simp (eq-eqb (kind-at ws at) 1 (kind-of ws at 1 p e g), word-complete 1 ws at end p e g r)
+tag-complete ws at end (number p) e g r = simp (ne-eqb (kind-at ws at) 1 (λ h. omega (arith, h, kind-of ws at 2 p e g)), word-complete 2 ws at end p e g r)
 tag-complete ws at end empty e g r = absurd g
 
 goal-word : (words : ℕ) (ws : List ℕ) (vars at end k n : ℕ) → getD ws at 0 ≡ word k n → 5 ≤ k → k ≤ 12 → at + 1 + n ≤ end → end ≤ 268435456

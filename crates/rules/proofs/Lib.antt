@@ -9,3 +9,4 @@ pub mod Readers
 pub mod Pass
 pub mod Checked
 pub mod SettingsLaws
+pub mod TagLaws

@@ -8,9 +8,9 @@ use native.Mathlib.Omega.{arith}
 use lib.Dec.{eqb, ltb, leb}
 use lib.ListN.{length, getElem?, length-append}
 use borrow.Author.Tests.{ltb-true, leb-true}
-use Rattle.rules.specs.Syntax.{Goal, Goals, equal, constrain, conj, disj, call, one, more, Relation, Program}
+use Rattle.rules.specs.Syntax.{Atom, symbol, number, Goal, Goals, equal, constrain, conj, disj, call, one, more, Relation, Program}
 use Rattle.rules.specs.Written.{goal-words, goals-words, relation-words, written}
-use Rattle.rules.specs.Reading.{Reading, found, refuse, next, require, choose, filled, fill, kind-at, payload-at, after, read-word, read-leaf, read-term, read-one, read-two, read-terms, goal-kind, goal-parts, read-goal, read-goals, read-tag, read-absento, read-call, read-body, read-variables, read-relation, read-relations, read-structure}
+use Rattle.rules.specs.Reading.{Reading, found, refuse, next, require, choose, filled, fill, kind-at, payload-at, after, read-word, read-leaf, read-term, read-one, read-two, read-terms, goal-kind, goal-parts, read-goal, read-goals, read-atom, read-tag, read-absento, read-call, read-body, read-variables, read-relation, read-relations, read-structure}
 use Rattle.rules.specs.Calls.{Fault, sound, fault, or-else, counted, call-fault, goal-fault, goals-fault, relations-fault}
 use Rattle.rules.specs.Accept.{refused, judge, calls-read, read}
 use Rattle.rules.specs.Settings.{most-words}
@@ -61,9 +61,12 @@ word-bounded k ws at end =
     let l : at < end = ltb-true at end z in
     bounded-require end 2 at (eqb (kind-at ws at) k) _ (placed end 2 at (omega arith) (omega arith) (omega arith)) (λ _. tt))
 
+atom-bounded : (k : ℕ) (make : ℕ → Atom) (ws : List ℕ) (at end : ℕ) → Bounded end (read-atom k make ws at end)
+atom-bounded k make ws at end = bounded-next end (read-word k ws at end) _ (word-bounded k ws at end) (λ p n _. tt)
+
 tag-bounded : (ws : List ℕ) (at end : ℕ) → Bounded end (read-tag ws at end)
 unfolding read-tag
-tag-bounded ws at end = bounded-next end (read-word 1 ws at end) _ (word-bounded 1 ws at end) (λ p n _. tt)
+tag-bounded ws at end = bounded-choose end (eqb (kind-at ws at) 1) _ _ (λ _. atom-bounded 1 symbol ws at end) (λ _. atom-bounded 2 number ws at end)
 
 leaf-bounded : (k p vars at end : ℕ) → at ≤ end → Bounded end (read-leaf k p vars at)
 unfolding read-leaf

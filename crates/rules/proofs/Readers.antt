@@ -1,12 +1,13 @@
 -- What the code's readers tell, test by test: one law for each way in which a reader returns or goes on.
 use mathlib.Core.Path.{_≡_, refl, sym, ap, _∙_}
+use mathlib.Core.Bool.{Bool, true, false}
 use mathlib.Core.List.{List, _∷_}
 use Prim.Native.Nat.{ℕ, zero, suc, _+_, _-_, _*_, _<_, _≤_}
 use native.Mathlib.Omega.{arith}
 use lib.Dec.{eqb, ltb}
 use lib.ListN.{length}
-use borrow.Author.Tests.{lt-ltb, le-ltb, le-leb, lt-leb, eq-eqb, ne-eqb, ltb-true}
-use Rattle.rules.specs.Syntax.{symbol, Term, var, atom, pair, empty, absento, constrain, call, more}
+use borrow.Author.Tests.{lt-ltb, le-ltb, le-leb, lt-leb, eq-eqb, ne-eqb, ltb-true, eqb-true}
+use Rattle.rules.specs.Syntax.{symbol, number, Term, var, atom, pair, empty, absento, constrain, call, more}
 use Rattle.rules.specs.Reading.{Reading, found, next, require, fill, kind-at, payload-at, read-word, read-leaf, read-term, read-one, read-two, read-terms, read-tag, read-absento, read-call, goal-parts, read-goal, read-goals, read-body, read-variables, read-relation, read-relations, two-terms, one-term, of-goals}
 use Rattle.rules.specs.Inner.{ReadOutcome, ends, stops, told, filled-told, Settles, PartAt}
 use Rattle.rules.proofs.Combine.{ended, next-stops, told-map, require-found, fill-settles}
@@ -43,6 +44,7 @@ word-right k ws at end q p l s e = simp (lt-ltb at end l, eq-eqb (kind-at ws at)
 pub record WordRead (k : ℕ) (ws : List ℕ) (at end n : ℕ) : Type 0 where
   pub before-end : at < end
   pub to : n ≡ at + 1
+  pub is-kind : kind-at ws at ≡ k
   pub reads : read-word k ws at end ≡ found (payload-at ws at) n
 
 pub word-read : (k : ℕ) (ws : List ℕ) (at end n : ℕ) → ends n ≡ told (read-word k ws at end) → WordRead k ws at end n
@@ -52,7 +54,7 @@ word-read k ws at end n e =
     let q₁ = require-found (ltb at end) 3 end _ (q .0) n (q .1) in
     let q₂ = require-found (eqb (kind-at ws at) k) 2 at _ (q .0) n (q₁ .1) in
     let z : at + 1 ≡ n = cc in
-    record { before-end = ltb-true at end (q₁ .0); to = sym z; reads = simp (q₁ .0, q₂ .0) (ap (found (payload-at ws at)) z) }
+    record { before-end = ltb-true at end (q₁ .0); to = sym z; is-kind = eqb-true _ _ (q₂ .0); reads = simp (q₁ .0, q₂ .0) (ap (found (payload-at ws at)) z) }
 
 -- leaves
 pub leaf-variable : (k p vars at : ℕ) (o : ReadOutcome) → k ≡ 0 → o ≡ told (require {A = Term} (ltb p vars) 5 at (λ _. found (var p) (at + 1))) → o ≡ told (read-leaf k p vars at)
@@ -166,9 +168,20 @@ terms-next ws vars at end n l h o r = settle (λ f. read-terms f ws vars at end)
     simp (lt-ltb at end l) (next-ends (read-term g ws vars at end) _ n o (h g (omega arith)) (λ t _. next-map (read-terms g ws vars n end) (λ ts. t ∷ ts) o (r g (omega (arith, a .past, a .within))))))
 
 -- absento and call
-pub tag-told : (ws : List ℕ) (at end : ℕ) (o : ReadOutcome) → o ≡ told (read-word 1 ws at end) → o ≡ told (read-tag ws at end)
+pub tag-symbol : (ws : List ℕ) (at end n : ℕ) → ends n ≡ told (read-word 1 ws at end) → ends n ≡ told (read-tag ws at end)
 unfolding read-tag
-tag-told ws at end o h = next-map (read-word 1 ws at end) symbol o h
+tag-symbol ws at end n h =
+    let r = word-read 1 ws at end n h in
+    rw (eq-eqb (kind-at ws at) 1 (r .is-kind)) (next-map (read-word 1 ws at end) symbol (ends n) h)
+
+pub tag-number : (ws : List ℕ) (at end c q : ℕ) (o : ReadOutcome) → stops c q ≡ told (read-word 1 ws at end) → o ≡ told (read-word 2 ws at end) → o ≡ told (read-tag ws at end)
+unfolding read-tag read-word
+tag-number ws at end c q o h e = go (eqb (kind-at ws at) 1) refl (ltb at end) refl
+  where
+    go : (b : Bool) → eqb (kind-at ws at) 1 ≡ b → (d : Bool) → ltb at end ≡ d → o ≡ told (read-tag ws at end)
+    go false k d l = rw k (next-map (read-word 2 ws at end) number o e)
+    go true k true l = let y : stops c q ≡ ends (at + 1) = simp (l, k) at h in absurd (let z : _≡_ {A = ℕ} 0 1 = cc in omega arith)
+    go true k false l = simp (l, k) (simp l at e)
 
 pub absento-stops : (ws : List ℕ) (vars at end c q : ℕ) → stops c q ≡ told (read-tag ws at end) → Settles (λ f. read-absento f ws vars at end) (end - at) (stops c q)
 unfolding read-absento

@@ -8,9 +8,9 @@ use lib.Dec.{eqb, ltb, leb}
 use lib.ListN.{length, getD, length-append}
 use borrow.Author.Tests.{ltb-true, ltb-false, leb-true, leb-false, eqb-true, eqb-false}
 use Rattle.word.specs.Word.{payload, word}
-use Rattle.rules.specs.Syntax.{Atom, Term, pair, Goal, Goals, Relation, Program}
+use Rattle.rules.specs.Syntax.{Atom, symbol, number, Term, pair, Goal, Goals, Relation, Program}
 use Rattle.rules.specs.Written.{atom-word, term-words, terms-words, goal-words, goals-words, relation-words, written, part}
-use Rattle.rules.specs.Reading.{found, fill, kind-at, payload-at, after, read-word, read-leaf, read-term, read-one, read-two, read-terms, goal-kind, goal-parts, read-goal, read-goals, read-tag, read-absento, read-call, read-body, read-variables, read-relation, read-relations, two-terms, one-term, of-goals}
+use Rattle.rules.specs.Reading.{found, fill, kind-at, payload-at, after, read-word, read-leaf, read-term, read-one, read-two, read-terms, goal-kind, goal-parts, read-goal, read-goals, read-atom, read-tag, read-absento, read-call, read-body, read-variables, read-relation, read-relations, two-terms, one-term, of-goals}
 use Rattle.rules.specs.WellFormed.{TagGood, TermGood, TermsGood, GoalGood, GoalsGood, RelationGood, RelationsGood}
 use Rattle.rules.proofs.Combine.{found-not-refused, found-carries, require-found, choose-found, next-found, fill-found, and-true}
 use Rattle.rules.specs.Inner.{Spells}
@@ -162,11 +162,18 @@ word-sound k ws at end p n e =
     found-carries (λ p n. Found ws at end (word k p ∷ []) (p < 268435456) n × (n ≡ at + 1)) (q₂ .1)
     (one-word ws at end (word k (payload-at ws at)) _ (is-word _ k (eqb-true _ _ (q₂ .0))) (ltb-true _ _ (q₁ .0)) (payload-small _), refl)
 
+-- of an atom whose word is of this kind, and which may be a tag
+atom-sound : (k : ℕ) (make : ℕ → Atom) (ws : List ℕ) (at end : ℕ) (a : Atom) (n : ℕ)
+    → ((p m : ℕ) → Found ws at end (word k p ∷ []) (p < 268435456) m → Found ws at end (atom-word (make p) ∷ []) (TagGood (make p)) m)
+    → read-atom k make ws at end ≡ found a n → Found ws at end (atom-word a ∷ []) (TagGood a) n
+atom-sound k make ws at end a n is e =
+    let p = next-found (read-word k ws at end) _ a n e in
+    found-carries (λ a n. Found ws at end (atom-word a ∷ []) (TagGood a) n) (p .rest) (is (p .value) (p .to) (word-sound k ws at end (p .value) (p .to) (p .first) .0))
+
 pub tag-sound : (ws : List ℕ) (at end : ℕ) (a : Atom) (n : ℕ) → read-tag ws at end ≡ found a n → Found ws at end (atom-word a ∷ []) (TagGood a) n
 unfolding read-tag
 tag-sound ws at end a n e =
-    let p = next-found (read-word 1 ws at end) _ a n e in
-    found-carries (λ a n. Found ws at end (atom-word a ∷ []) (TagGood a) n) (p .rest) (word-sound 1 ws at end (p .value) (p .to) (p .first) .0)
+    choose-found (eqb (kind-at ws at) 1) _ _ _ e (λ _. atom-sound 1 symbol ws at end a n (λ p m f. f)) (λ _. atom-sound 2 number ws at end a n (λ p m f. f))
 
 abbrev pub FoundGoal : List ℕ → ℕ → ℕ → ℕ → Goal → ℕ → Type 0
 FoundGoal ws vars at end g n = Found ws at end (goal-words g) (GoalGood vars g) n

@@ -8,4 +8,5 @@ pub mod Accept
 pub mod WellFormed
 pub mod Verdict
 pub mod Lists
+pub mod Earlier
 pub mod Inner

@@ -58,7 +58,7 @@ filled a at end = require (leb end at) 3 at (λ _. found a at)
 abbrev pub fill : {A : Type 0} → Reading A → ℕ → Reading A
 fill r end = next r (λ a n. filled a n end)
 
--- a word of one kind, "number word" or "symbol word"; its payload is what is found
+-- a word of one kind, as a "number word" is; its payload is what is found
 unfoldable pub read-word : ℕ → List ℕ → ℕ → ℕ → Reading ℕ
 read-word k ws at end = present at end (λ _. require (eqb (kind-at ws at) k) 2 at (λ _. found (payload-at ws at) (at + 1)))
 
@@ -120,9 +120,14 @@ abbrev pub of-goals : Bool → Goals → Goal
 of-goals true gs = conj gs
 of-goals false gs = disj gs
 
--- what stands in the tag's place: "a symbol word (the tag)", so any other word there is of a wrong kind
+-- a word of one kind as the atom that it stands for
+abbrev pub read-atom : ℕ → (ℕ → Atom) → List ℕ → ℕ → ℕ → Reading Atom
+read-atom k make ws at end = next (read-word k ws at end) (λ p n. found (make p) n)
+
+-- What stands in the tag's place: "The tag of absento may be a symbol or a number from now on .. Condition 2 at the tag's place then refuses everything else."
+-- (document 02, Note 3)
 unfoldable pub read-tag : List ℕ → ℕ → ℕ → Reading Atom
-read-tag ws at end = next (read-word 1 ws at end) (λ p n. found (symbol p) n)
+read-tag ws at end = choose (eqb (kind-at ws at) 1) (λ _. read-atom 1 symbol ws at end) (λ _. read-atom 2 number ws at end)
 
 -- "absento: .. the tag, one term"
 unfoldable pub read-absento : ℕ → List ℕ → ℕ → ℕ → ℕ → Reading Goal

@@ -17,8 +17,8 @@ pub data Term : Type 0 where
 pub data Sort : Type 0 where
   symbols numbers : Sort
 
--- "differ: two terms", "symbolo, numbero: one term", "absento: a symbol word (the tag), one term".
--- The tag is an atom here; the reading allows a symbol only.
+-- "differ: two terms", "symbolo, numbero: one term", "absento: .. the tag, one term".
+-- The tag is an atom here; which atoms it may be is for the reading to say.
 pub data Constraint : Type 0 where
   differ : Term → Term → Constraint
   typed : Sort → Term → Constraint

@@ -24,10 +24,10 @@ unfoldable pub TermsGood : ℕ → List Term → Type 0
 TermsGood vars [] = Unit {0}
 TermsGood vars (t ∷ ts) = TermGood vars t × TermsGood vars ts
 
--- "absento: a symbol word (the tag)"
+-- "The tag of absento may be a symbol or a number" (document 02, Note 3), but not the empty list
 abbrev pub TagGood : Atom → Type 0
 TagGood (symbol p) = p < 268435456
-TagGood (number p) = ⊥
+TagGood (number p) = p < 268435456
 TagGood empty = ⊥
 
 abbrev pub ConstraintGood : ℕ → Constraint → Type 0

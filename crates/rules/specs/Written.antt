@@ -30,7 +30,7 @@ abbrev pub sort-kind : Sort → ℕ
 sort-kind symbols = 7
 sort-kind numbers = 8
 
--- "6: differ: two terms; 7, 8: one term; 9: absento: a symbol word (the tag), one term"
+-- "6: differ: two terms; 7, 8: one term; 9: absento: .. the tag, one term"
 abbrev pub constraint-words : Constraint → List ℕ
 constraint-words (differ s t) = part 6 (term-words s ++ term-words t)
 constraint-words (typed k t) = part (sort-kind k) (term-words t)

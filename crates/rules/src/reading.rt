@@ -132,12 +132,15 @@ fn read_terms(program: &[u32], vars: usize, start: usize, end: usize) -> Read
     Read::Done(at)
 }
 
-// The tag of an absento.
+// The tag of an absento: a symbol or a number.
 fn read_tag(program: &[u32], at: usize, end: usize) -> Read
     requires { ⌜ end ≤ length (now program) ⌝ }
     ensures { λ r. ⌜ outcome r ≡ told (read-tag (now (program .entry)) at end) ⌝ }
 {
-    read_word(program, Word::SYMBOL, at, end)
+    match read_word(program, Word::SYMBOL, at, end) {
+        Read::Done(next) => Read::Done(next),
+        Read::Refused(_, _) => read_word(program, Word::NUMBER, at, end),
+    }
 }
 
 // The tag and the term of an absento.

@@ -29,7 +29,7 @@ use Rattle.semantics.proofs.ReviewLaws.{clashes-true, sort-true}
 use Rattle.semantics.proofs.StepLaws.{done-value, through}
 use Rattle.semantics.proofs.SubstitutionLaws.{Seen, complete, in-more, resolve-in, sat-complete, value-resolve, walk-seen}
 
-same-read : {A B : Type 0} {o : Reading (A × B)} {a c : A} {b d : B} {m n : ℕ} → o ≡ found (a, b) m → o ≡ found (c, d) n → (a ≡ c) × (b ≡ d)
+pub same-read : {A B : Type 0} {o : Reading (A × B)} {a c : A} {b d : B} {m n : ℕ} → o ≡ found (a, b) m → o ≡ found (c, d) n → (a ≡ c) × (b ≡ d)
 same-read {A} {B} {a} {c} {b} {d} p q = let e : _≡_ {A = A × B} (a, b) (c, d) = cc in (ap (λ (r : A × B). r .0) e, ap (λ (r : A × B). r .1) e)
 
 line-goals-each : (H : Goal → Type 0) (names : List ℕ) (ls : List Line) → Each H (line-goals names ls) ↔ Each (λ l. H (line-goal (reify-line names l))) ls

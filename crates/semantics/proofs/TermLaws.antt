@@ -41,6 +41,13 @@ same-atom-refl empty = refl
 pub same-atom-false : (a b : Atom) → same-atom a b ≡ false → ¬ (a ≡ b)
 same-atom-false a b e q = clash (cc (same-atom-refl a))
 
+pub other-atom : (a b : Atom) → ¬ (a ≡ b) → same-atom a b ≡ false
+other-atom a b n = go (same-atom a b) refl
+  where
+    go : (c : Bool) → same-atom a b ≡ c → same-atom a b ≡ false
+    go true e = absurd (n (same-atom-true a b e))
+    go false e = e
+
 -- a term put for a variable
 abbrev pub replace : ℕ → Term → Term → Term
 replace x u t = put x (λ _. u) t
@@ -116,14 +123,7 @@ inside-pair α x s t e q = elim (one-of (inside x s) (inside x t) e) [
 -- an atom in a term, and what a constraint against it says
 pub lacks-term : (α : Assignment) (a : Atom) (t : Term) → Lacks a (value α t) ↔ ((some-node (is-atom a) t ≡ false) × Vars (λ x. Lacks a (α x)) t)
 lacks-term α a (var x) = (λ h. (refl, h), λ h. h .1)
-lacks-term α a (atom b) = (λ h. (not-same h, tt), λ h. same-atom-false a b (h .0))
-  where
-    not-same : ¬ (a ≡ b) → same-atom a b ≡ false
-    not-same n = go (same-atom a b) refl
-      where
-        go : (c : Bool) → same-atom a b ≡ c → same-atom a b ≡ false
-        go true e = absurd (n (same-atom-true a b e))
-        go false e = e
+lacks-term α a (atom b) = (λ h. (other-atom a b h, tt), λ h. same-atom-false a b (h .0))
 lacks-term α a (pair s t) =
     let h = lacks-term α a s in let k = lacks-term α a t in (
       λ l. let i = h .0 (l .0) in let j = k .0 (l .1) in (rw (i .0, j .0), (i .1, j .1)),

@@ -44,7 +44,7 @@ TermIn v (pair s t) = TermIn v s × TermIn v t
 abbrev pub TermsIn : ℕ → List Term → Type 0
 TermsIn v ts = Each (TermIn v) ts
 
--- a constraint is, and its tag is a symbol
+-- a constraint is, and its tag is a symbol or a number that fits a word
 abbrev pub ConstraintIn : ℕ → Constraint → Type 0
 ConstraintIn v (differ s t) = TermIn v s × TermIn v t
 ConstraintIn v (typed k t) = TermIn v t

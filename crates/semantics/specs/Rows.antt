@@ -44,9 +44,9 @@ F = word 13 9 ∷ word 2 1 ∷ word 2 2 ∷ word 10 6 ∷ word 5 2 ∷ word 0 0 
 abbrev pub G : List ℕ
 G = word 13 9 ∷ word 2 2 ∷ word 2 2 ∷ word 6 6 ∷ word 4 1 ∷ word 0 0 ∷ word 0 1 ∷ word 4 1 ∷ word 2 1 ∷ word 2 2 ∷ []
 
--- "absento 7 in q, then q equal to a pair that holds 1:7"
-abbrev pub H : List ℕ
-H = word 13 11 ∷ word 2 1 ∷ word 2 1 ∷ word 10 8 ∷ word 9 2 ∷ word 1 7 ∷ word 0 0 ∷ word 5 4 ∷ word 0 0 ∷ word 4 1 ∷ word 1 7 ∷ word 3 0 ∷ []
+-- "absento 7 in q, then q equal to a pair that holds 1:7", with any tag and any atom held: "a tag matches only its own kind" (document 02, Note 3)
+abbrev pub H : ℕ → ℕ → List ℕ
+H tag held = word 13 11 ∷ word 2 1 ∷ word 2 1 ∷ word 10 8 ∷ word 9 2 ∷ tag ∷ word 0 0 ∷ word 5 4 ∷ word 0 0 ∷ word 4 1 ∷ held ∷ word 3 0 ∷ []
 
 -- "x symbolo and y numbero meet when x equals y": the query x and a variable y become equal to a third
 abbrev pub I : List ℕ
@@ -60,9 +60,9 @@ J = word 13 5 ∷ word 2 2 ∷ word 2 2 ∷ word 6 2 ∷ word 0 0 ∷ word 0 1 �
 abbrev pub K : List ℕ
 K = word 13 9 ∷ word 2 1 ∷ word 2 2 ∷ word 6 6 ∷ word 4 1 ∷ word 0 0 ∷ word 0 1 ∷ word 4 1 ∷ word 2 1 ∷ word 2 2 ∷ []
 
--- absento 7 in the pair of q and a variable that is no query term: absence is dropped for that variable only
-abbrev pub L : List ℕ
-L = word 13 7 ∷ word 2 1 ∷ word 2 2 ∷ word 9 4 ∷ word 1 7 ∷ word 4 1 ∷ word 0 0 ∷ word 0 1 ∷ []
+-- absento of a tag in the pair of q and a variable that is no query term: absence is dropped for that variable only
+abbrev pub L : ℕ → List ℕ
+L tag = word 13 7 ∷ word 2 1 ∷ word 2 2 ∷ word 9 4 ∷ tag ∷ word 4 1 ∷ word 0 0 ∷ word 0 1 ∷ []
 
 -- q equal to 1:1 or to 1:2: two answers in one round, the left alternative's first
 abbrev pub M : List ℕ
@@ -187,11 +187,16 @@ rows =
     ∷ row E 16 1000000 4096 finished 0 5 []
     ∷ row F 16 1000000 4096 finished 0 12 ((0, seven) ∷ [])
     ∷ row G 16 1000000 4096 finished 0 16 ((0, word 15 9 ∷ word 0 0 ∷ word 0 1 ∷ word 11 6 ∷ word 6 2 ∷ word 0 0 ∷ word 2 1 ∷ word 6 2 ∷ word 0 1 ∷ word 2 2 ∷ []) ∷ [])
-    ∷ row H 16 1000000 4096 finished 0 12 []
+    ∷ row (H (word 1 7) (word 1 7)) 16 1000000 4096 finished 0 12 []
+    ∷ row (H (word 2 7) (word 2 7)) 16 1000000 4096 finished 0 12 []
+    ∷ row (H (word 2 7) (word 2 8)) 16 1000000 4096 finished 0 19 ((0, word 15 3 ∷ word 4 1 ∷ word 2 8 ∷ word 3 0 ∷ []) ∷ [])
+    ∷ row (H (word 2 7) (word 1 7)) 16 1000000 4096 finished 0 19 ((0, word 15 3 ∷ word 4 1 ∷ word 1 7 ∷ word 3 0 ∷ []) ∷ [])
+    ∷ row (H (word 1 7) (word 2 7)) 16 1000000 4096 finished 0 19 ((0, word 15 3 ∷ word 4 1 ∷ word 2 7 ∷ word 3 0 ∷ []) ∷ [])
     ∷ row I 16 1000000 4096 finished 0 14 []
     ∷ row J 16 1000000 4096 finished 0 9 ((0, word 15 5 ∷ word 0 0 ∷ word 0 1 ∷ word 6 2 ∷ word 0 0 ∷ word 0 1 ∷ []) ∷ [])
     ∷ row K 16 1000000 4096 finished 0 15 ((0, word 15 1 ∷ word 0 0 ∷ []) ∷ [])
-    ∷ row L 16 1000000 4096 finished 0 9 ((0, word 15 4 ∷ word 0 0 ∷ word 9 2 ∷ word 1 7 ∷ word 0 0 ∷ []) ∷ [])
+    ∷ row (L (word 1 7)) 16 1000000 4096 finished 0 9 ((0, word 15 4 ∷ word 0 0 ∷ word 9 2 ∷ word 1 7 ∷ word 0 0 ∷ []) ∷ [])
+    ∷ row (L (word 2 7)) 16 1000000 4096 finished 0 9 ((0, word 15 4 ∷ word 0 0 ∷ word 9 2 ∷ word 2 7 ∷ word 0 0 ∷ []) ∷ [])
     ∷ row M 16 1000000 4096 finished 0 9 ((0, word 15 1 ∷ word 1 1 ∷ []) ∷ (0, word 15 1 ∷ word 1 2 ∷ []) ∷ [])
     ∷ row M 16 1000000 3 output-full 0 9 ((0, word 15 1 ∷ word 1 1 ∷ []) ∷ [])
     ∷ row M 16 8 4096 steps-used 0 8 ((0, word 15 1 ∷ word 1 1 ∷ []) ∷ [])

@@ -150,7 +150,7 @@ fn goal(rules: &Rules, goal: &Goal, before: &str, after: &str, fresh: &mut usize
         Goal::Other(a, b) => format!("dif({}, {})", term(a), term(b)),
         Goal::Symbol(a) => format!("kc_kind({}, symbol)", term(a)),
         Goal::Number(a) => format!("kc_kind({}, number)", term(a)),
-        Goal::Without(tag, a) => format!("kc_absent({}, {})", term(a), symbol(rules, *tag)),
+        Goal::Without(tag, a) => format!("kc_absent({}, {})", term(a), term(tag)),
         Goal::All(goals) => format!("( {} )", conjunction(rules, goals, before, after, fresh)),
         Goal::Any(goals) => {
             let alternatives: Vec<String> = goals

@@ -1,5 +1,5 @@
 //! Rules as text, read once for all engines: `(rule name (p ..) (l ..) goal)`, the first rule being the query. Goals are
-//! `(same t t)`, `(other t t)`, `(symbol t)`, `(number t)`, `(without 'tag t)`, `(all g ..)`, `(any g ..)` and `(name t ..)`;
+//! `(same t t)`, `(other t t)`, `(symbol t)`, `(number t)`, `(without tag t)`, `(all g ..)`, `(any g ..)` and `(name t ..)`;
 //! terms are variables, `'symbol`, numbers and lists `(t .. . t)`. A semicolon starts a comment.
 
 use std::collections::HashMap;
@@ -19,7 +19,8 @@ pub enum Goal {
     Other(Term, Term),
     Symbol(Term),
     Number(Term),
-    Without(usize, Term),
+    /// The tag, a symbol or a number, and the term that it may not be in.
+    Without(Term, Term),
     All(Vec<Goal>),
     Any(Vec<Goal>),
     Call(usize, Vec<Term>),
@@ -138,7 +139,9 @@ impl Reader {
             ("symbol", [a]) => Goal::Symbol(self.term(a, names)),
             ("number", [a]) => Goal::Number(self.term(a, names)),
             ("without", [tag, a]) => match self.term(tag, names) {
-                Term::Symbol(tag) => Goal::Without(tag, self.term(a, names)),
+                tag @ (Term::Symbol(_) | Term::Number(_)) => {
+                    Goal::Without(tag, self.term(a, names))
+                }
                 other => panic!("a tag, not {other:?}"),
             },
             ("all", goals) => Goal::All(goals.iter().map(|goal| self.goal(goal, names)).collect()),

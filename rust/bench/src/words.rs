@@ -40,10 +40,7 @@ fn goal(words: &mut Vec<u32>, goal: &Goal) {
         Goal::Other(a, b) => part(words, 6, |words| two(words, a, b)),
         Goal::Symbol(a) => part(words, 7, |words| term(words, a)),
         Goal::Number(a) => part(words, 8, |words| term(words, a)),
-        Goal::Without(tag, a) => part(words, 9, |words| {
-            words.push(word(1, *tag));
-            term(words, a);
-        }),
+        Goal::Without(tag, a) => part(words, 9, |words| two(words, tag, a)),
         Goal::All(inside) => part(words, 10, |words| goals(words, inside)),
         Goal::Any(inside) => part(words, 11, |words| goals(words, inside)),
         Goal::Call(rule, arguments) => part(words, 12, |words| {

@@ -191,7 +191,7 @@ pub enum Constraint<'a> {
     Symbol(u32),
     /// The variable is a number.
     Number(u32),
-    /// The tag, a symbol, stands nowhere in the variable's value.
+    /// The tag, a symbol or a number, stands nowhere in the variable's value.
     Absent {
         /// What stands nowhere in it.
         tag: Term<'a>,

@@ -145,7 +145,7 @@ impl<P: Fn(usize) -> String> Reader<'_, P> {
         let fits = match wanted {
             Wanted::Relation => kind(word) == RELATION,
             Wanted::Parameters | Wanted::Variables | Wanted::Called => kind(word) == NUMBER,
-            Wanted::Tag => kind(word) == SYMBOL,
+            Wanted::Tag => matches!(kind(word), SYMBOL | NUMBER),
             Wanted::Goal => is_goal(kind(word)),
             Wanted::Term => is_term(kind(word)),
         };
@@ -260,7 +260,7 @@ impl<P: Fn(usize) -> String> Reader<'_, P> {
             Wanted::Parameters => "the number of parameters",
             Wanted::Variables => "the number of variables",
             Wanted::Called => "the number of a relation",
-            Wanted::Tag => "the tag, a symbol,",
+            Wanted::Tag => "the tag, a symbol or a number,",
             Wanted::Goal => "a goal",
             Wanted::Term => "a term",
         };

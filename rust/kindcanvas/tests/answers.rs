@@ -64,7 +64,7 @@ fn random_programs() {
     let mut rng = Rng::new(20_240_614);
     // How often each kind of term and constraint came.
     let mut terms = [0; 5];
-    let mut constraints = [0; 5];
+    let mut constraints = [0; 6];
     for number in 0..20_000 {
         let case = case(&mut rng);
         let Ok(program) = Program::new(case.words.clone()) else {
@@ -94,7 +94,11 @@ fn random_programs() {
                     Constraint::NotAll(_) => 1,
                     Constraint::Symbol(_) => 2,
                     Constraint::Number(_) => 3,
-                    Constraint::Absent { .. } => 4,
+                    Constraint::Absent { tag, .. } => match tag {
+                        Term::Symbol(_) => 4,
+                        Term::Number(_) => 5,
+                        _ => panic!("case {number}: no tag"),
+                    },
                 }] += 1;
             }
         }
@@ -189,9 +193,9 @@ fn terms_are_shown() {
 
 #[test]
 fn constraints_are_shown() {
-    // Of four variables: types, an absence, one disequality alone, two and three together.
-    let text = "13:35 2:4 2:4 10:32
-        7:1 0:0  8:1 0:1  9:2 1:7 0:3  6:2 0:3 3:0
+    // Of four variables: types, absence of a symbol and of a number, one disequality alone, two and three together.
+    let text = "13:38 2:4 2:4 10:35
+        7:1 0:0  8:1 0:1  9:2 1:7 0:3  9:2 2:7 0:3  6:2 0:3 3:0
         6:6 4:1 0:0 0:1 4:1 1:1 2:2
         6:14 4:1 0:0 4:1 0:1 4:1 0:3 3:0 4:1 1:3 4:1 2:4 4:1 0:2 3:0";
     let program: Program = text.parse().unwrap();
@@ -204,6 +208,7 @@ fn constraints_are_shown() {
             "_0 is a symbol",
             "_1 is a number",
             "'7 stands nowhere in _3",
+            "7 stands nowhere in _3",
             "_3 is not ()",
             "not both _0 = '1 and _1 = 2",
             "not all of _0 = '3 and _1 = 4 and _3 = _2",

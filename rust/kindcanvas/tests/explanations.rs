@@ -62,8 +62,20 @@ const CASES: &[(u32, usize, &str, &str)] = &[
     (
         2,
         4,
-        "13:5 2:0 2:0 9:2 2:7 3:0",
-        "2:7 (a number) stands where the tag, a symbol, must, in the absento at word 3 (9:2)",
+        "13:5 2:0 2:0 9:2 3:0 3:0",
+        "3:0 (an empty list) stands where the tag, a symbol or a number, must, in the absento at word 3 (9:2)",
+    ),
+    (
+        2,
+        4,
+        "13:5 2:0 2:0 9:2 0:9 3:0",
+        "0:9 (a variable) stands where the tag, a symbol or a number, must, in the absento at word 3 (9:2)",
+    ),
+    (
+        2,
+        4,
+        "13:6 2:0 2:0 9:3 4:1 1:7 3:0",
+        "4:1 (a pair) stands where the tag, a symbol or a number, must, in the absento at word 3 (9:3)",
     ),
     (
         2,

@@ -229,21 +229,26 @@ fn differences_are_found_and_made_small() {
             ..refusal
         })
     };
-    // Each with as many words as suffice for it to show.
-    made_small("late absence", late_absence, 10);
-    made_small("no second answer", no_second_answer, 10);
-    made_small("misplaced", misplaced, 1);
+    // Each with as many words as suffice for it to show, and the most that a case may keep: no change unfolds a call, so a
+    // run that shows it only after a call stays longer. Of refused words any are cut.
+    made_small("late absence", late_absence, 10, 30);
+    made_small("no second answer", no_second_answer, 10, 20);
+    made_small("misplaced", misplaced, 1, 1);
 }
 
-/// The first cases that such a reference gets wrong are each made as small as that, and told as text.
-fn made_small(name: &str, wrong: impl Fn(&Case) -> Expected, length: usize) {
+/// The first cases that such a reference gets wrong are made small and told as text: each to at most so many words, and most to
+/// as few as suffice.
+fn made_small(name: &str, wrong: impl Fn(&Case) -> Expected, suffice: usize, most: usize) {
     let differences = (0..)
         .map(|seed| (seed, random_case(seed)))
         .filter_map(|(seed, case)| compare_with(&case, seed, &wrong).err());
-    for (told, small) in differences.take(10) {
-        assert!(small.words.len() <= length, "{name}: {told}");
+    let mut smallest = 0;
+    for (told, small) in differences.take(20) {
+        assert!(small.words.len() <= most, "{name}: {told}");
         assert!(told.ends_with(&show(&small.words)), "{told}");
+        smallest += (small.words.len() <= suffice) as usize;
     }
+    assert!(smallest > 10, "{name}: {smallest}");
 }
 
 #[test]

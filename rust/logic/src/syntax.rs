@@ -196,7 +196,7 @@ fn goal(words: &mut &[u32]) -> Option<Goal> {
         6 => Literal::Differ(term(&mut inside)?, term(&mut inside)?),
         7 => Literal::Symbolo(term(&mut inside)?),
         8 => Literal::Numbero(term(&mut inside)?),
-        9 => Literal::Absento(term(&mut inside)?, term(&mut inside)?),
+        9 => Literal::Absento(tag(&mut inside)?, term(&mut inside)?),
         10 => return Some(Goal::Conjunction(sequence(inside, goal)?)),
         11 => return Some(Goal::Disjunction(sequence(inside, goal)?)),
         12 => return Some(Goal::Call(number(&mut inside)?, sequence(inside, term)?)),
@@ -217,6 +217,12 @@ fn term(words: &mut &[u32]) -> Option<Term> {
         }
         _ => None,
     }
+}
+
+/// A symbol or a number (document 02, Note 3).
+fn tag(words: &mut &[u32]) -> Option<Term> {
+    let word = take(words, 1)?[0];
+    matches!(kind(word), SYMBOL | NUMBER).then_some(Term::Atom(word))
 }
 
 fn number(words: &mut &[u32]) -> Option<usize> {

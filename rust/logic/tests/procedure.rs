@@ -16,7 +16,7 @@ const CLAUSES: usize = 100;
 /// A tuple, and the numbers of calls up to 3 with which the relations give it.
 type Given = (&'static str, &'static [u32]);
 
-const RUNS: [(&str, &[Given]); 13] = [
+const RUNS: [(&str, &[Given]); 15] = [
     // A to H of document 01, and a relation that calls itself without end.
     ("13:5 2:1 2:1 5:2 0:0 1:7", &[("1:7", &[0]), ("2:7", &[])]),
     ("13:7 2:1 2:1 5:4 0:0 4:1 0:0 3:0", &[("3:0", &[]), ("4:1 3:0 3:0", &[])]),
@@ -35,6 +35,12 @@ const RUNS: [(&str, &[Given]); 13] = [
         "13:11 2:1 2:1 10:8 9:2 1:7 0:0 5:4 0:0 4:1 3:0 1:7",
         &[("4:1 3:0 1:7", &[]), ("3:0", &[])],
     ),
+    // Absence of a number, which a symbol of its payload is not, and of a symbol.
+    (
+        "13:5 2:1 2:1 9:2 2:7 0:0",
+        &[("2:7", &[]), ("4:1 1:7 2:7", &[]), ("2:8", &[0]), ("4:1 1:7 3:0", &[0])],
+    ),
+    ("13:5 2:1 2:1 9:2 1:7 0:0", &[("4:1 1:7 3:0", &[]), ("4:1 2:7 3:0", &[0])]),
     ("13:4 2:0 2:255 12:1 2:0", &[("", &[])]),
     // x symbolo, y numbero, x = z, y = z.
     ("13:13 2:0 2:3 10:10 7:1 0:0 8:1 0:1 5:2 0:0 0:2 5:2 0:1 0:2", &[("", &[])]),
@@ -117,11 +123,11 @@ impl Definition<'_> {
 /// With fresh variables from a short list, the definition gives no more than is decided; without fresh variables just that.
 #[test]
 fn nothing_is_missed() {
-    let trees = table::words("1:0 1:1 2:0 2:9 3:0 4:1 1:0 1:1 4:1 2:0 3:0");
+    let trees = table::words("1:0 1:1 2:0 2:1 3:0 4:1 1:0 1:1 4:1 2:0 3:0");
     let trees = syntax::terms(&trees).unwrap();
     let mut rng = Rng::new(8);
     let mut counts = [0; 3];
-    for at in 0..2_000 {
+    for at in 0..3_000 {
         let fresh = at % 3;
         let words = programs::program(&mut rng, fresh);
         let program = syntax::program(&words).unwrap();

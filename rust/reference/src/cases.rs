@@ -320,6 +320,7 @@ fn deep_terms(rng: &mut Rng) -> Vec<u32> {
     // Variables: 0 the calls to go as a list, 1 and 2 the terms, 3 the rest of the list, 4 fresh.
     let goal = rng.pick(&[
         table::words("9:2 1:7 0:1"),
+        table::words("9:2 2:7 0:1"),
         table::words("5:2 0:4 0:1"),
         table::words("5:2 0:1 0:2"),
         table::words("6:2 0:2 0:1"),
@@ -388,6 +389,7 @@ fn walk(rng: &mut Rng, length: usize) -> Vec<u32> {
             "6:2 0:1 0:2",
             "5:2 0:1 0:2",
             "9:2 1:105 0:2",
+            "9:2 2:5 0:2",
             "7:1 0:2",
             "8:1 0:2",
             "5:2 3:0 3:0",
@@ -423,7 +425,10 @@ fn lists(rng: &mut Rng, length: usize) -> Vec<u32> {
     let mut goals = match rng.below(3) {
         0 => part(DIFFER, both),
         1 => part(EQUAL, both),
-        _ => part(ABSENTO, [vec![word(SYMBOL, 7)], one].concat()),
+        _ => {
+            let tag = rng.pick(&[word(SYMBOL, 7), word(NUMBER, 7), word(NUMBER, 5)]);
+            part(ABSENTO, [vec![tag], one].concat())
+        }
     };
     goals.extend(table::words(rng.pick(&[
         "5:2 0:1 1:7",

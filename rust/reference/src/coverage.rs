@@ -74,8 +74,31 @@ pub fn wanted() -> Vec<String> {
         all.push(format!("line of kind {kind} listed"));
         all.push(format!("line of kind {kind} dropped"));
     }
+    for kind in VARIABLE..=ANSWER {
+        match kind {
+            SYMBOL | NUMBER => all.extend(tag_events(kind)),
+            _ => all.push(of_tag(kind, "refused")),
+        }
+    }
+    all.extend(TAG_FAULTS.map(String::from));
     all
 }
+
+/// What has to happen to a tag of each kind that is allowed.
+fn tag_events(kind: u32) -> [String; 4] {
+    ["read", "found", "went past the other kind", "listed"].map(|what| of_tag(kind, what))
+}
+
+fn of_tag(kind: u32, what: &str) -> String {
+    format!("tag of kind {kind} {what}")
+}
+
+/// Words in a tag's place that would be refused by another number elsewhere.
+const TAG_FAULTS: [&str; 3] = [
+    "tag: a variable over the count",
+    "tag: an empty list with a payload",
+    "tag: a pair that overruns",
+];
 
 /// What the case covers; each is said once.
 pub fn covered(case: &Case, result: &Result<Outcome, Refusal>) -> BTreeSet<String> {
@@ -83,6 +106,7 @@ pub fn covered(case: &Case, result: &Result<Outcome, Refusal>) -> BTreeSet<Strin
     match result {
         Err(refusal) => {
             all.insert(format!("refused {}", refusal.number));
+            all.extend(tag_refused(&case.words, refusal));
             if case.scratch > SCRATCH_WORDS {
                 all.insert("scratch: longer than needed, refused".to_string());
             }
@@ -112,6 +136,31 @@ fn settings(case: &Case) -> impl Iterator<Item = &'static str> {
     all.into_iter()
         .filter(|(holds, _)| *holds)
         .map(|(_, name)| name)
+}
+
+/// Of a case refused by 2 at a tag's place. What stands before a fault has been read, so a word of kind 9 there is an absento's.
+fn tag_refused(words: &[u32], refusal: &Refusal) -> Vec<String> {
+    let place = refusal.place;
+    if refusal.number != 2 || place == 0 || kind(words[place - 1]) != ABSENTO {
+        return Vec::new();
+    }
+    let stands = words[place];
+    let mut all = vec![of_tag(kind(stands), "refused")];
+    let relation = words[..place]
+        .iter()
+        .rposition(|&word| kind(word) == RELATION);
+    let variables = payload(words[relation.expect("a goal is in a relation") + 2]);
+    // The words of the absento behind its tag.
+    let behind = payload(words[place - 1]) - 1;
+    let [over, filled, overruns] = TAG_FAULTS;
+    let fault = match (kind(stands), payload(stands)) {
+        (VARIABLE, number) if number >= variables => over,
+        (EMPTY, payload) if payload != 0 => filled,
+        (PAIR, first) if first > behind => overruns,
+        _ => return all,
+    };
+    all.push(fault.to_string());
+    all
 }
 
 /// Where the limits stand to what the run needs.
@@ -224,6 +273,8 @@ fn events(outcome: &Outcome) -> impl Iterator<Item = String> + '_ {
         Event::FailedWhenTaken(kind) => format!("kind {kind} failed when taken"),
         Event::FailedLater(kind) => format!("kind {kind} failed after an equality"),
         Event::TypesMet => "types met".to_string(),
+        Event::TagFound(kind) => of_tag(*kind, "found"),
+        Event::OtherKindPassed(kind) => of_tag(*kind, "went past the other kind"),
         Event::LineDropped(kind) => format!("line of kind {kind} dropped"),
         Event::LineRepeated => "line repeated".to_string(),
         Event::Stopped(during, steps) => stopped(*during, *steps),
@@ -257,6 +308,9 @@ fn answers(outcome: &Outcome) -> Vec<String> {
                 _ => (),
             }
         }
+        for line in lines.windows(2).filter(|line| kind(line[0]) == ABSENTO) {
+            all.push(of_tag(kind(line[1]), "listed"));
+        }
         rest = later;
     }
     if outcome.answer_rounds.iter().any(|&round| round >= 2) {
@@ -272,8 +326,15 @@ fn syntax(program: &Program) -> BTreeSet<String> {
         let mut called = BTreeSet::new();
         for goal in goals(program, relation.goal) {
             all.insert(format!("goal of kind {}", program[goal].kind()));
-            if let Goal::Call(number, _) = program[goal] {
-                called.insert(number);
+            match program[goal] {
+                Goal::Call(number, _) => {
+                    called.insert(number);
+                }
+                Goal::Absento(tag, _) => {
+                    let is_number = matches!(program[tag], Term::Number(_));
+                    all.insert(of_tag(if is_number { NUMBER } else { SYMBOL }, "read"));
+                }
+                _ => (),
             }
             for term in terms(&program[goal]) {
                 if chain(program, term, |_, second| second) >= MANY {

@@ -17,11 +17,13 @@ pub enum Fault {
     NoOccursCheck,
     /// No call is cut, and every path with no goal waiting gives an answer: a recursion on the left keeps out all else.
     DepthFirst,
+    /// A tag matches an atom of its payload, be it a symbol or a number.
+    TagOfEitherKind,
 }
 
 impl Fault {
     /// The first five are those of document 01, in its order.
-    pub const ALL: [Fault; 7] = [
+    pub const ALL: [Fault; 8] = [
         Fault::TestedOnlyWhenTaken,
         Fault::TypesDontMeet,
         Fault::AbsentDisequalityKept,
@@ -29,5 +31,6 @@ impl Fault {
         Fault::FinishedWithoutAnswer,
         Fault::NoOccursCheck,
         Fault::DepthFirst,
+        Fault::TagOfEitherKind,
     ];
 }

@@ -315,8 +315,12 @@ impl Maker<'_> {
     }
 
     fn absento(&mut self) -> Vec<u32> {
-        let mut inside = vec![word(SYMBOL, self.symbol())];
-        if self.slips() {
+        let mut inside = match self.rng.chance(50) {
+            true => self.symbol(),
+            false => self.number(),
+        };
+        // More often than elsewhere: a tag of each kind that is not allowed has to be met.
+        if self.rng.below(1000) < 4 * self.slip {
             inside = self.any_word();
         }
         if !self.slips() {
@@ -378,14 +382,19 @@ impl Maker<'_> {
                 }
                 pair(first, second)
             }
-            80..=86 => vec![word(NUMBER, self.rng.pick(&[0, 1, 5]))],
+            80..=86 => self.number(),
             87..=91 => vec![word(EMPTY, 0)],
-            _ => vec![word(SYMBOL, self.symbol())],
+            _ => self.symbol(),
         }
     }
 
-    fn symbol(&mut self) -> u32 {
-        self.rng.pick(&[0, 1, 7])
+    /// Some payloads are those of a number too.
+    fn symbol(&mut self) -> Vec<u32> {
+        vec![word(SYMBOL, self.rng.pick(&[0, 1, 7]))]
+    }
+
+    fn number(&mut self) -> Vec<u32> {
+        vec![word(NUMBER, self.rng.pick(&[0, 1, 5]))]
     }
 
     fn any_word(&mut self) -> Vec<u32> {
@@ -425,8 +434,16 @@ fn damage(rng: &mut Rng, words: &mut Vec<u32>) {
     let at = rng.below(words.len());
     let (old_kind, old_payload) = (kind(words[at]), payload(words[at]));
     match rng.below(100) {
-        0..=9 => words[at] = any_word(rng, old_payload as usize),
-        10..=17 => words[at] = word(rng.below(16) as u32, old_payload),
+        0..=5 => words[at] = any_word(rng, old_payload as usize),
+        6..=13 => {
+            // In a tag's place, if there is one.
+            let tags: Vec<usize> = (1..words.len())
+                .filter(|&at| kind(words[at - 1]) == ABSENTO)
+                .collect();
+            let at = if tags.is_empty() { at } else { rng.pick(&tags) };
+            words[at] = any_word(rng, old_payload as usize);
+        }
+        14..=17 => words[at] = word(rng.below(16) as u32, old_payload),
         18..=29 => words[at] = word(old_kind, (old_payload + 1) % PAYLOADS),
         30..=41 => words[at] = word(old_kind, (old_payload + PAYLOADS - 1) % PAYLOADS),
         42..=51 => {

@@ -1,4 +1,4 @@
-//! A separate implementation of the rule language, written from document 01 alone and for obviousness, not
+//! A separate implementation of the rule language, written from the customer's documents alone and for obviousness, not
 //! speed: the verified engine is compared with it on random programs.
 
 pub mod cases;

@@ -93,7 +93,7 @@ enum Make {
     Symbolo,
     Numbero,
     Absento {
-        tag: u32,
+        tag: TermId,
     },
     Conjunction {
         from: usize,
@@ -126,6 +126,18 @@ impl Reader<'_> {
         }
         self.at += 1;
         Ok(payload(next) as usize)
+    }
+
+    /// An absento's tag: a symbol or a number, and nothing else (document 02, Note 3).
+    fn tag(&mut self, end: usize) -> Result<TermId, Refusal> {
+        let next = self.next(end)?;
+        let tag = match kind(next) {
+            SYMBOL => Term::Symbol(payload(next)),
+            NUMBER => Term::Number(payload(next)),
+            _ => return refused(2, self.at),
+        };
+        self.at += 1;
+        Ok(self.program.add_term(tag))
     }
 
     /// Goes past a word whose payload counts words that follow, and says where they end.
@@ -228,7 +240,7 @@ impl Reader<'_> {
                 wants.extend([Want::Closed { end }, Want::Term { end }]);
             }
             ABSENTO => {
-                let tag = self.plain(SYMBOL, end)? as u32;
+                let tag = self.tag(end)?;
                 wants.push(Want::Make(Make::Absento { tag }));
                 wants.extend([Want::Closed { end }, Want::Term { end }]);
             }

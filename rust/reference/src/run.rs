@@ -435,7 +435,8 @@ impl Search<'_> {
                 _ => return Ok(None),
             };
             if !self.has(Fault::NoOccursCheck) {
-                let occurs = self.finds(Value::Variable(variable), other, substitution);
+                let itself = Value::Variable(variable);
+                let occurs = self.finds(other, substitution, |node| node == itself);
                 if self.during(During::OccursCheck, occurs)? {
                     self.trace.note(Event::OccursCheckFailed);
                     return Ok(None);
@@ -447,16 +448,16 @@ impl Search<'_> {
         Ok(Some(bound))
     }
 
-    /// Looks at the nodes of a term up to the one that is sought, and says whether it is there.
+    /// Looks at the nodes of a term up to one that is sought, and says whether there is one.
     fn finds(
         &mut self,
-        sought: Value,
         value: Value,
         substitution: &Substitution,
+        mut sought: impl FnMut(Value) -> bool,
     ) -> Result<bool, End> {
         let mut nodes = Nodes::of(value);
         while let Some(node) = self.look(&mut nodes, substitution)? {
-            if node == sought {
+            if sought(node) {
                 return Ok(true);
             }
         }
@@ -514,9 +515,26 @@ impl Search<'_> {
                 _ => false,
             }),
             Goal::Absento(tag, term) => {
-                let term = self.value(term, base);
-                let found = self.finds(Value::Symbol(tag), term, &path.substitution);
-                Ok(!self.during(During::AbsenceReview, found)?)
+                let (tag, term) = (self.value(tag, base), self.value(term, base));
+                let (kind, other) = match tag {
+                    Value::Symbol(payload) => (SYMBOL, Value::Number(payload)),
+                    Value::Number(payload) => (NUMBER, Value::Symbol(payload)),
+                    _ => unreachable!("no tag"),
+                };
+                let either = self.has(Fault::TagOfEitherKind);
+                let mut passed = false;
+                let found = self.finds(term, &path.substitution, |node| {
+                    passed |= node == other;
+                    node == tag || either && node == other
+                });
+                let found = self.during(During::AbsenceReview, found)?;
+                if found {
+                    self.trace.note(Event::TagFound(kind));
+                }
+                if passed {
+                    self.trace.note(Event::OtherKindPassed(kind));
+                }
+                Ok(!found)
             }
             Goal::Differ(left, right) => {
                 let (left, right) = (self.value(left, base), self.value(right, base));
@@ -626,6 +644,7 @@ impl Search<'_> {
                 })
             }
             Goal::Absento(tag, term) => {
+                let tag = self.value(tag, base);
                 let nodes = self.all_nodes(self.value(term, base), &path.substitution)?;
                 let mut seen: Vec<Value> = Vec::new();
                 let mut lines = Vec::new();
@@ -634,10 +653,8 @@ impl Search<'_> {
                         continue;
                     }
                     seen.push(node);
-                    match names.words(&[node]) {
-                        Some(variable) => {
-                            lines.push(part(ABSENTO, &[vec![word(SYMBOL, tag)], variable]))
-                        }
+                    match names.words(&[tag, node]) {
+                        Some(words) => lines.push(part(ABSENTO, &[words])),
                         None => self.trace.note(Event::LineDropped(ABSENTO)),
                     }
                 }
@@ -700,7 +717,7 @@ impl Names {
         }
     }
 
-    /// The words of the term with these nodes, unless it holds a variable with no name.
+    /// The words of the terms with these nodes, unless one is a variable with no name.
     fn words(&self, nodes: &[Value]) -> Option<Vec<u32>> {
         // From the last node to the first, each pair finds the sizes of its two parts on the stack.
         let mut first_sizes = vec![0; nodes.len()];

@@ -4,6 +4,7 @@ use crate::cases::Case;
 use crate::read::read;
 use crate::run::SCRATCH_WORDS;
 use crate::word::*;
+use std::collections::BTreeSet;
 use std::iter;
 
 /// A case that still fails, and of which no smaller one that is tried does.
@@ -29,7 +30,7 @@ pub fn shrink(mut case: Case, fails: impl Fn(&Case) -> bool) -> Case {
 /// A goal that holds.
 const HOLDS: [u32; 3] = [EQUAL << 28 | 2, EMPTY << 28, EMPTY << 28];
 
-/// A way to make a case smaller. None leads back: relations, words, words other than `3:0`, kinds or limits get fewer or lower.
+/// A way to make a case smaller. None leads back: relations, words, words other than `3:0`, kinds, variables or limits get fewer or lower.
 enum Change {
     Rounds(usize),
     Steps(usize),
@@ -43,6 +44,8 @@ enum Change {
     Without(usize),
     /// A relation's counts of parameters and variables are lowered by so much.
     Counts(usize, u32, u32),
+    /// In a relation a variable becomes the one before it.
+    Merge(usize, u32),
 }
 
 enum By {
@@ -78,6 +81,11 @@ impl Change {
             Change::Counts(relation, parameters, variables) => {
                 case.words[relation + 1] -= parameters;
                 case.words[relation + 2] -= variables;
+            }
+            Change::Merge(relation, variable) => {
+                for place in parts.variables(*relation) {
+                    case.words[place] -= (payload(case.words[place]) == *variable) as u32;
+                }
             }
         }
         case
@@ -131,6 +139,12 @@ fn smaller_programs(parts: &Parts) -> Vec<Change> {
                 all.push(Change::Counts(relation, parameters, variables));
             }
         }
+        let there: BTreeSet<u32> = parts
+            .variables(relation)
+            .map(|place| payload(parts.words[place]))
+            .collect();
+        let merged = there.into_iter().filter(|&variable| variable > 0);
+        all.extend(merged.map(|variable| Change::Merge(relation, variable)));
     }
     for &part in &parts.all {
         let kind = kind(parts.words[part]);
@@ -222,6 +236,13 @@ impl Parts<'_> {
             }
         }
         parts
+    }
+
+    /// The places of the variables in a relation.
+    fn variables(&self, relation: usize) -> impl Iterator<Item = usize> + '_ {
+        let inside = relation..self.end[relation];
+        let parts = self.all.iter().copied();
+        parts.filter(move |part| inside.contains(part) && kind(self.words[*part]) == VARIABLE)
     }
 
     /// The parts of a part. Counts, tags and numbers of relations are none.

@@ -28,8 +28,8 @@ pub enum Goal {
     Differ(TermId, TermId),
     Symbolo(TermId),
     Numbero(TermId),
-    /// The tag's payload and the term that it may not occur in.
-    Absento(u32, TermId),
+    /// The tag, a symbol or a number, and the term that it may not occur in.
+    Absento(TermId, TermId),
     Conjunction(Vec<GoalId>),
     Disjunction(Vec<GoalId>),
     /// The relation's number and the arguments.
@@ -105,11 +105,10 @@ pub fn written(program: &Program) -> Vec<u32> {
     let mut goal_words: Vec<usize> = Vec::new();
     for goal in &program.goals {
         goal_words.push(match goal {
-            Goal::Equal(left, right) | Goal::Differ(left, right) => {
-                1 + term_words[left.0] + term_words[right.0]
-            }
+            Goal::Equal(first, second)
+            | Goal::Differ(first, second)
+            | Goal::Absento(first, second) => 1 + term_words[first.0] + term_words[second.0],
             Goal::Symbolo(term) | Goal::Numbero(term) => 1 + term_words[term.0],
-            Goal::Absento(_, term) => 2 + term_words[term.0],
             Goal::Conjunction(goals) | Goal::Disjunction(goals) => {
                 1 + goals.iter().map(|goal| goal_words[goal.0]).sum::<usize>()
             }
@@ -139,14 +138,12 @@ pub fn written(program: &Program) -> Vec<u32> {
                     let count = goal_words[id.0];
                     words.push(part(program[id].kind(), count));
                     match &program[id] {
-                        Goal::Equal(left, right) | Goal::Differ(left, right) => {
-                            parts.extend([Item::Term(*left), Item::Term(*right)]);
+                        Goal::Equal(first, second)
+                        | Goal::Differ(first, second)
+                        | Goal::Absento(first, second) => {
+                            parts.extend([Item::Term(*first), Item::Term(*second)]);
                         }
                         Goal::Symbolo(term) | Goal::Numbero(term) => parts.push(Item::Term(*term)),
-                        Goal::Absento(tag, term) => {
-                            words.push(word(SYMBOL, *tag));
-                            parts.push(Item::Term(*term));
-                        }
                         Goal::Conjunction(goals) | Goal::Disjunction(goals) => {
                             parts.extend(goals.iter().map(|&goal| Item::Goal(goal)));
                         }

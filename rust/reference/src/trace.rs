@@ -13,6 +13,10 @@ pub enum Event {
     FailedLater(u32),
     /// An open variable was reached by a symbolo and a numbero.
     TypesMet,
+    /// An absento's review found its tag, which is of this kind.
+    TagFound(u32),
+    /// The tag is of this kind, and its review went past an atom of the same payload and the other kind.
+    OtherKindPassed(u32),
     /// A line of this kind mentioned a variable absent from the query terms.
     LineDropped(u32),
     LineRepeated,

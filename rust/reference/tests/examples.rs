@@ -9,9 +9,15 @@ use std::fs;
 use std::path::Path;
 
 /// Worked out as each file's comment says: file, round of the end, rounds of the answers, answers.
-const EXAMPLES: [(&str, u32, &[u32], &str); 7] = [
+const EXAMPLES: [(&str, u32, &[u32], &str); 8] = [
     ("abo-rh.kp", 2, &[2, 2], "15:2 1:1 1:5 15:2 1:2 1:5"),
     ("abo.kp", 8, &[4, 6], "15:1 1:1 15:1 1:2"),
+    (
+        "coded-antigens.kp",
+        1,
+        &[1, 1, 1],
+        "15:6 1:202 4:1 2:24 4:1 2:27 3:0 15:12 1:203 4:1 2:24 4:1 0:0 3:0 9:2 2:2 0:0 9:2 1:102 0:0 15:6 1:212 4:1 1:2 4:1 1:144 3:0",
+    ),
     (
         "exchange.kp",
         12,

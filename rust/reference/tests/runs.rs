@@ -699,8 +699,19 @@ fn absento() {
         4,
         "",
     );
-    // A number with the tag's payload is no find.
+    // The tag may be a number, and matches only its own kind (document 02, Note 3): found, another payload, another kind.
+    assert_run("13:5 2:0 2:0 9:2 2:7 2:7", End::Finished, 0, 3, "");
+    assert_run("13:5 2:0 2:0 9:2 2:7 2:8", End::Finished, 0, 3 + 1, "15:0");
+    assert_run("13:5 2:0 2:0 9:2 2:7 1:7", End::Finished, 0, 3 + 1, "15:0");
     assert_run("13:5 2:0 2:0 9:2 1:7 2:7", End::Finished, 0, 3 + 1, "15:0");
+    // Two tags of one payload are two lines; the same tag twice is one.
+    assert_run(
+        "13:12 2:1 2:1 10:9 9:2 2:7 0:0 9:2 1:7 0:0 9:2 2:7 0:0",
+        End::Finished,
+        0,
+        1 + 3 * 3 + 1 + 3,
+        "15:7 0:0 9:2 2:7 0:0 9:2 1:7 0:0",
+    );
 }
 
 #[test]

@@ -60,7 +60,7 @@ impl Maker<'_> {
             61..=67 => part(SYMBOLO, self.term(0)),
             68..=74 => part(NUMBERO, self.term(0)),
             75..=80 => {
-                let tag = word(SYMBOL, self.rng.below(2) as u32);
+                let tag = word(self.rng.pick(&[SYMBOL, NUMBER]), self.rng.below(2) as u32);
                 part(ABSENTO, [vec![tag], self.term(1)].concat())
             }
             _ => self.call(),

@@ -1,6 +1,8 @@
 //! `bench DATE FILE`: times the proved engine beside the same engine in plain Rust and beside SWI-Prolog, prints the tables and
-//! writes them to FILE.
+//! writes them to FILE. With the feature `before`, `bench` prints how it compares with the engine of an earlier build.
 
+#[cfg(feature = "before")]
+mod before;
 mod plain;
 mod programs;
 mod prolog;
@@ -57,6 +59,17 @@ impl Bench {
         bench.output.truncate(report.words);
         bench.output.shrink_to_fit();
         (bench, report)
+    }
+
+    /// A program that has no answer within so many steps.
+    fn limited(program: &Program, steps: u32) -> Bench {
+        Bench {
+            words: words::words(&rules::parse(&program.text)),
+            rounds: program.rounds,
+            steps,
+            output: Vec::new(),
+            scratch: vec![0; SCRATCH_WORDS],
+        }
     }
 
     fn proved(&mut self) -> Report {
@@ -171,13 +184,7 @@ fn run_prolog(folder: &Path, text: &str, answers: u32) -> f64 {
 /// Nanoseconds a step of the proved engine and of the plain one, with a step limit: the mean over as many runs as `STEPS` needs, in
 /// turn. The best of many short runs would not compare with one of 10^9 steps.
 fn at_steps(program: &Program, steps: u32) -> [f64; 2] {
-    let mut bench = Bench {
-        words: words::words(&rules::parse(&program.text)),
-        rounds: program.rounds,
-        steps,
-        output: Vec::new(),
-        scratch: vec![0; SCRATCH_WORDS],
-    };
+    let mut bench = Bench::limited(program, steps);
     let runs = STEPS.div_ceil(steps);
     let mut sums = [0.0; 2];
     for _ in 0..runs {
@@ -293,6 +300,11 @@ fn find_swi() -> Option<(PathBuf, String)> {
 
 fn main() {
     let arguments: Vec<String> = std::env::args().skip(1).collect();
+    #[cfg(feature = "before")]
+    if arguments.is_empty() {
+        print!("{}", before::table());
+        return;
+    }
     let [date, file] = &arguments[..] else {
         eprintln!("usage: bench DATE FILE");
         exit(2);

@@ -2,12 +2,13 @@
 
 use crate::cases::{Case, MADE};
 use crate::listing;
-use crate::read::{read, Refusal};
-use crate::run::{End, Outcome, ROUND_LIMIT, SCRATCH_WORDS};
+use crate::read::{read, Refusal, PROGRAM_WORDS};
+use crate::run::{End, Outcome, ROUND_LIMIT, SCRATCH_WORDS, VARIABLES};
 use crate::syntax::{Goal, GoalId, Program, Term, TermId};
 use crate::trace::{Bounded, During, Event};
 use crate::word::*;
 use std::collections::BTreeSet;
+use std::iter;
 
 /// A list of so many elements is long, pairs so deep in first parts are deep.
 const MANY: usize = 100;
@@ -81,6 +82,10 @@ pub fn wanted() -> Vec<String> {
         }
     }
     all.extend(TAG_FAULTS.map(String::from));
+    for length in [PROGRAM_WORDS - 1, PROGRAM_WORDS] {
+        all.push(last_word(length, ""));
+        all.extend([VARIABLES - 2, VARIABLES - 1].map(|base| last_word(length, &bound_from(base))));
+    }
     all
 }
 
@@ -120,6 +125,7 @@ pub fn covered(case: &Case, result: &Result<Outcome, Refusal>) -> BTreeSet<Strin
             all.extend(bounds(outcome));
             all.extend(events(outcome));
             all.extend(answers(outcome));
+            all.extend(last_word_found(&case.words, outcome));
             let program = read(&case.words).expect("it was run");
             all.extend(syntax(&program));
         }
@@ -161,6 +167,32 @@ fn tag_refused(words: &[u32], refusal: &Refusal) -> Vec<String> {
     };
     all.push(fault.to_string());
     all
+}
+
+fn last_word(length: usize, how: &str) -> String {
+    format!("last word of {length} found{how}")
+}
+
+fn bound_from(base: usize) -> String {
+    format!(", bound from variable {base} on")
+}
+
+/// Of a run with an answer that has the program's last word, an atom which stands nowhere else in the program.
+fn last_word_found(words: &[u32], outcome: &Outcome) -> Vec<String> {
+    let (last, others) = words.split_last().expect("a program has words");
+    let is_atom = (SYMBOL..=EMPTY).contains(&kind(*last));
+    let long = words.len() + 1 >= PROGRAM_WORDS;
+    if !long || !is_atom || others.contains(last) || !outcome.words.contains(last) {
+        return Vec::new();
+    }
+    let bound = outcome.trace.events.iter().filter_map(|event| match event {
+        Event::BoundFrom(base) => Some(bound_from(*base)),
+        _ => None,
+    });
+    iter::once(String::new())
+        .chain(bound)
+        .map(|how| last_word(words.len(), &how))
+        .collect()
 }
 
 /// Where the limits stand to what the run needs.
@@ -270,6 +302,7 @@ fn stopped(during: During, steps: bool) -> String {
 fn events(outcome: &Outcome) -> impl Iterator<Item = String> + '_ {
     outcome.trace.events.iter().map(|event| match event {
         Event::OccursCheckFailed => "occurs check failed".to_string(),
+        Event::BoundFrom(base) => format!("variable{}", bound_from(*base)),
         Event::FailedWhenTaken(kind) => format!("kind {kind} failed when taken"),
         Event::FailedLater(kind) => format!("kind {kind} failed after an equality"),
         Event::TypesMet => "types met".to_string(),

@@ -322,6 +322,9 @@ impl Search<'_> {
                     Some(bound) if bound.is_empty() => (),
                     Some(_) if self.has(Fault::TestedOnlyWhenTaken) => (),
                     Some(_) => {
+                        if base + 2 >= VARIABLES {
+                            self.trace.note(Event::BoundFrom(base));
+                        }
                         for &constraint in &path.constraints {
                             if !self.review(constraint, &path)? {
                                 let kind = self.program[constraint.goal].kind();

@@ -7,6 +7,8 @@ use std::collections::BTreeSet;
 pub enum Event {
     /// In an equality or a trial.
     OccursCheckFailed,
+    /// An equality of a relation whose variables begin at this one, the path's last or the one before, bound a variable.
+    BoundFrom(usize),
     /// A constraint of this kind failed when it was taken.
     FailedWhenTaken(u32),
     /// A constraint of this kind failed after a later equality.

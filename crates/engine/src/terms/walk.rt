@@ -53,28 +53,32 @@ pub struct Walked {
     pub payload: u32,
 }
 
-// The term, followed through the bindings: up to an atom, a pair or an open variable.
+// The term, followed through the bindings: up to an atom, a pair or an open variable. Position and base are held apart, and sixteen bits hold every position.
 pub(crate) fn walk(program: &[u32], scratch: &[u32], term: u32) -> Walked
     requires { ⌜ ((bs : Substitution) × (t : Term) × Follows (now program) (now scratch) bs term t) ⌝ }
     ensures { λ r. ⌜ WalkedTo (now (program .entry)) (now (scratch .entry)) term r ⌝ }
 {
-    let mut at = term;
+    let mut position = (term % POSITIONS) as u16;
+    let mut base = term / POSITIONS;
     loop {
-        let part = part_at(program, at);
+        let bits = program[position as usize];
+        let word = Word::from_bits(bits);
         let here = Walked {
-            at,
-            bits: part.bits,
-            kind: part.kind,
-            payload: part.payload,
+            at: base * POSITIONS + position as u32,
+            bits,
+            kind: word.kind(),
+            payload: word.payload(),
         };
-        if part.kind != Word::VARIABLE {
+        if here.kind != Word::VARIABLE {
             return here;
         }
-        let entry = scratch[variable_at(at, part.payload) as usize];
+        let entry = scratch[(base + here.payload) as usize];
         if entry == 0 {
             return here;
         }
-        at = entry - 1;
+        let next = entry - 1;
+        position = (next % POSITIONS) as u16;
+        base = next / POSITIONS;
     }
 }
 

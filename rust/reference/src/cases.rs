@@ -444,7 +444,7 @@ fn lists(rng: &mut Rng, length: usize) -> Vec<u32> {
 
 /// A program as long as may be, or one word less, that mostly ends in an atom of which there is no other word.
 fn full_length(rng: &mut Rng) -> Vec<u32> {
-    let words = match rng.chance(50) {
+    let words = match rng.chance(30) {
         true => small(rng, gen::program),
         false => last_environment(rng),
     };
@@ -457,11 +457,14 @@ fn full_length(rng: &mut Rng) -> Vec<u32> {
     words
 }
 
-/// The last relation has one variable and is called with the query's, once 2,047 variables are made, or one more or less.
+/// The query's parameter is a variable of its own, with which the last relation is called. This one has one variable itself, which
+/// is the path's last, or one before or behind.
 fn last_environment(rng: &mut Rng) -> Vec<u32> {
-    let calls = "(12:1 2:1)*7 12:1 2:2 12:2 2:3 0:0";
-    let before = rng.pick(&["", "6:2 0:0 1:9", "7:1 0:0", "9:2 1:9 0:0"]);
-    let goals = [before, calls].map(table::words).concat();
+    let constraint = rng.pick(&["", "", "6:2 0:0 1:9", "7:1 0:0", "9:2 1:9 0:0"]);
+    let calls = "(12:1 2:1)*7 12:1 2:2 12:2 2:3 0:1";
+    let goals = ["5:2 0:0 0:1", constraint, calls]
+        .map(table::words)
+        .concat();
     let holds = table::words("5:2 3:0 3:0");
     let last = rng.pick(&["5:2 0:0 1:9", "5:4 0:0 4:1 3:0 1:9", "6:2 0:0 1:9"]);
     let relations = [

@@ -8,7 +8,6 @@ use crate::syntax::{Goal, GoalId, Program, Term, TermId};
 use crate::trace::{Bounded, During, Event};
 use crate::word::*;
 use std::collections::BTreeSet;
-use std::iter;
 
 /// A list of so many elements is long, pairs so deep in first parts are deep.
 const MANY: usize = 100;
@@ -83,8 +82,10 @@ pub fn wanted() -> Vec<String> {
     }
     all.extend(TAG_FAULTS.map(String::from));
     for length in [PROGRAM_WORDS - 1, PROGRAM_WORDS] {
-        all.push(last_word(length, ""));
-        all.extend([VARIABLES - 2, VARIABLES - 1].map(|base| last_word(length, &bound_from(base))));
+        all.push(last_word(length));
+        for base in [VARIABLES - 2, VARIABLES - 1] {
+            all.push(format!("{}, {}", last_word(length), bound_from(base)));
+        }
     }
     all
 }
@@ -169,30 +170,30 @@ fn tag_refused(words: &[u32], refusal: &Refusal) -> Vec<String> {
     all
 }
 
-fn last_word(length: usize, how: &str) -> String {
-    format!("last word of {length} found{how}")
+fn last_word(length: usize) -> String {
+    format!("last word of {length} found through a variable")
 }
 
 fn bound_from(base: usize) -> String {
-    format!(", bound from variable {base} on")
+    format!("bound from variable {base} on")
 }
 
-/// Of a run with an answer that has the program's last word, an atom which stands nowhere else in the program.
+/// Of a run with a query term that is the program's last word, which stands nowhere else, and was found through a variable.
 fn last_word_found(words: &[u32], outcome: &Outcome) -> Vec<String> {
     let (last, others) = words.split_last().expect("a program has words");
-    let is_atom = (SYMBOL..=EMPTY).contains(&kind(*last));
     let long = words.len() + 1 >= PROGRAM_WORDS;
-    if !long || !is_atom || others.contains(last) || !outcome.words.contains(last) {
+    let followed = outcome.trace.events.contains(&Event::Followed(*last));
+    if !long || others.contains(last) || !followed {
         return Vec::new();
     }
-    let bound = outcome.trace.events.iter().filter_map(|event| match event {
-        Event::BoundFrom(base) => Some(bound_from(*base)),
-        _ => None,
-    });
-    iter::once(String::new())
-        .chain(bound)
-        .map(|how| last_word(words.len(), &how))
-        .collect()
+    let found = last_word(words.len());
+    let mut all = vec![found.clone()];
+    for event in &outcome.trace.events {
+        if let Event::BoundFrom(base) = event {
+            all.push(format!("{found}, {}", bound_from(*base)));
+        }
+    }
+    all
 }
 
 /// Where the limits stand to what the run needs.
@@ -302,7 +303,8 @@ fn stopped(during: During, steps: bool) -> String {
 fn events(outcome: &Outcome) -> impl Iterator<Item = String> + '_ {
     outcome.trace.events.iter().map(|event| match event {
         Event::OccursCheckFailed => "occurs check failed".to_string(),
-        Event::BoundFrom(base) => format!("variable{}", bound_from(*base)),
+        Event::BoundFrom(base) => format!("variable {}", bound_from(*base)),
+        Event::Followed(_) => "query term found through a variable".to_string(),
         Event::FailedWhenTaken(kind) => format!("kind {kind} failed when taken"),
         Event::FailedLater(kind) => format!("kind {kind} failed after an equality"),
         Event::TypesMet => "types met".to_string(),

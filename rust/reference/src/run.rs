@@ -587,6 +587,9 @@ impl Search<'_> {
                 names.give(node);
             }
             let words = names.words(&nodes).expect("all have names");
+            if let Some(Value::Variable(_)) = path.substitution.0[parameter] {
+                self.trace.note(Event::Followed(words[0]));
+            }
             inside.extend(words);
         }
         // With this fault a disequality may name what no query term has.

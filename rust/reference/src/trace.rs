@@ -9,6 +9,8 @@ pub enum Event {
     OccursCheckFailed,
     /// An equality of a relation whose variables begin at this one, the path's last or the one before, bound a variable.
     BoundFrom(usize),
+    /// A query term that begins with this word was found through a variable that its parameter is bound to.
+    Followed(u32),
     /// A constraint of this kind failed when it was taken.
     FailedWhenTaken(u32),
     /// A constraint of this kind failed after a later equality.

@@ -1,6 +1,7 @@
 pub mod ReferenceLaws
 pub mod TrailLaws
 pub mod WalkLaws
+pub mod WalkLoop
 pub mod LastWord
 pub mod SizeLaws
 pub mod ScanSteps

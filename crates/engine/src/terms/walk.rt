@@ -64,7 +64,7 @@ pub(crate) fn walk(program: &[u32], scratch: &[u32], term: u32) -> Walked
         let bits = program[position as usize];
         let word = Word::from_bits(bits);
         let here = Walked {
-            at: base * POSITIONS + position as u32,
+            at: position as u32 + POSITIONS * base,
             bits,
             kind: word.kind(),
             payload: word.payload(),
@@ -76,9 +76,8 @@ pub(crate) fn walk(program: &[u32], scratch: &[u32], term: u32) -> Walked
         if entry == 0 {
             return here;
         }
-        let next = entry - 1;
-        position = (next % POSITIONS) as u16;
-        base = next / POSITIONS;
+        position = ((entry - 1) % POSITIONS) as u16;
+        base = (entry - 1) / POSITIONS;
     }
 }
 

@@ -1,0 +1,68 @@
+-- The loop of `walk` holds position and base of a reference apart: what it knows before and after the word there is read.
+use Prim.Native.Nat.{ℕ, _+_, _-_, _/_, _%_, _<_}
+use mathlib.Core.Path.{_≡_, refl, sym, ap, subst, _∙_}
+use mathlib.Core.List.{List}
+use native.Mathlib.Omega.{arith}
+use lib.ListN.{length}
+use Rattle.word.specs.Word.{kind, payload}
+use Rattle.rules.specs.Syntax.{Term}
+use Rattle.semantics.specs.Substitution.{Substitution, walk}
+use Rattle.engine.specs.Layout.{most-variables, positions, references}
+use Rattle.engine.specs.Reference.{at, refer, pos-of, base-of, Stands}
+use Rattle.engine.specs.Walk.{PartRead, Follows, WalkedTo}
+use Rattle.engine.specs.declared.terms.walk.Walked.{Walked}
+use Rattle.engine.proofs.ReferenceLaws.{pos-refer, base-refer, stands-inside}
+use Rattle.engine.proofs.WalkLaws.{hops, Hop, walk-node, walk-variable, walk-free, walk-hop}
+
+-- what is left to follow, at the position and base that are held, comes to the same term
+pub record Walking (ws s : List ℕ) (term pos base : ℕ) : Type 0 where
+  pub low : pos < positions
+  pub left : (bs : Substitution) (t : Term) → Follows ws s bs term t → (u : Term) × Follows ws s bs (refer pos base) u × (walk bs t ≡ walk bs u)
+
+-- a reference may be taken apart and joined again
+rejoined : (w : ℕ) → w ≡ refer (w % positions) (w / positions)
+rejoined w = omega arith
+
+pub walking-starts : (ws s : List ℕ) (term : ℕ) → Walking ws s term (term % positions) (term / positions)
+walking-starts ws s term = record { low = omega arith; left = λ bs t f. (t, subst (λ w. Follows ws s bs w t) (rejoined term) f, refl) }
+
+module _ {ws s : List ℕ} {term pos base : ℕ} (h : Walking ws s term pos base) where
+  module _ (pre : (bs : Substitution) × (t : Term) × Follows ws s bs term t) where
+    follows-here : Follows ws s (pre .0) (refer pos base) (h .left (pre .0) (pre .1) (pre .2) .0)
+    follows-here = h .left (pre .0) (pre .1) (pre .2) .1
+
+    pub walking-inside : pos < length ws
+    walking-inside = subst (λ p. p < length ws) (pos-refer pos base (h .low)) (stands-inside (follows-here .stands))
+
+    pub walking-below : refer pos base < references
+    walking-below = follows-here .stands .below
+
+  -- The word at the position has been read.
+  module _ {bits k p : ℕ} (is-bits : bits ≡ at ws pos) (is-kind : k ≡ kind bits) (is-payload : p ≡ payload bits) where
+    here : PartRead ws (refer pos base) (at ws pos) k p
+    here =
+        let e : at ws pos ≡ at ws (pos-of (refer pos base)) = ap (at ws) (sym (pos-refer pos base (h .low))) in
+        record { is-bits = e; is-kind = is-kind ∙ ap kind (is-bits ∙ e); is-payload = is-payload ∙ ap payload (is-bits ∙ e) }
+
+    is-variable : base + p ≡ base-of (refer pos base) + p
+    is-variable = ap (λ b. b + p) (sym (base-refer pos base (h .low)))
+
+    pub walking-variable : ((bs : Substitution) × (t : Term) × Follows ws s bs term t) → k ≡ 0 → base + p < most-variables
+    walking-variable pre e = subst (λ x. x < most-variables) (sym is-variable) (walk-variable (follows-here pre) here e)
+
+    pub walking-node : ¬ (k ≡ 0) → WalkedTo ws s term (record { at = refer pos base; bits = at ws pos; kind = k; payload = p })
+    walking-node n = record { node = here; stands = λ bs t f. let q = h .left bs t f in subst (Stands ws (refer pos base)) (sym (q .2)) (walk-node (q .1) here n) }
+
+    pub walking-open : k ≡ 0 → at s (base + p) ≡ 0 → WalkedTo ws s term (record { at = refer pos base; bits = at ws pos; kind = k; payload = p })
+    walking-open e z = record { node = here; stands = λ bs t f. let q = h .left bs t f in subst (Stands ws (refer pos base)) (sym (q .2)) (walk-free (q .1) here is-variable e z) }
+
+    -- The variable is bound: the loop hops to what its word refers to.
+    module _ (e : k ≡ 0) (z : ¬ (at s (base + p) ≡ 0)) where
+      hop : {bs : Substitution} {u : Term} → Follows ws s bs (refer pos base) u → Hop ws s bs (refer pos base) u (refer ((at s (base + p) - 1) % positions) ((at s (base + p) - 1) / positions))
+      hop {bs} {u} f = subst (Hop ws s bs (refer pos base) u) (rejoined (at s (base + p) - 1)) (walk-hop f here is-variable e z)
+
+      pub walking-on : Walking ws s term ((at s (base + p) - 1) % positions) ((at s (base + p) - 1) / positions)
+      walking-on = record { low = omega arith; left = λ bs t f. let q = h .left bs t f in let g = hop (q .1) in (g .next, g .follows, q .2 ∙ g .same-walk) }
+
+      pub walking-falls : ((bs : Substitution) × (t : Term) × Follows ws s bs term t) → hops 2048 ws s (refer ((at s (base + p) - 1) % positions) ((at s (base + p) - 1) / positions)) < hops 2048 ws s (refer pos base)
+      walking-falls pre = hop (follows-here pre) .falls

@@ -444,9 +444,9 @@ fn lists(rng: &mut Rng, length: usize) -> Vec<u32> {
 
 /// A program as long as may be, or one word less, that mostly ends in an atom of which there is no other word.
 fn full_length(rng: &mut Rng) -> Vec<u32> {
-    let words = match rng.chance(30) {
-        true => small(rng, gen::program),
-        false => last_environment(rng),
+    let words = match rng.below(10) {
+        0 => small(rng, gen::program),
+        which => through_a_variable(rng, which < 3),
     };
     let mut words = gen::lengthened(&words, PROGRAM_WORDS - rng.below(2));
     let last = words.len() - 1;
@@ -457,21 +457,24 @@ fn full_length(rng: &mut Rng) -> Vec<u32> {
     words
 }
 
-/// The query's parameter is a variable of its own, with which the last relation is called. This one has one variable itself, which
-/// is the path's last, or one before or behind.
-fn last_environment(rng: &mut Rng) -> Vec<u32> {
+/// The query's parameter is another variable of the query, of which the last goal is: the query's own, or that of the last relation,
+/// which has one variable itself, the path's last, or one before or behind.
+fn through_a_variable(rng: &mut Rng, alone: bool) -> Vec<u32> {
     let constraint = rng.pick(&["", "", "6:2 0:0 1:9", "7:1 0:0", "9:2 1:9 0:0"]);
-    let calls = "(12:1 2:1)*7 12:1 2:2 12:2 2:3 0:1";
-    let goals = ["5:2 0:0 0:1", constraint, calls]
-        .map(table::words)
-        .concat();
+    let last = rng.pick(&["5:2 0:1 1:9", "5:4 0:1 4:1 3:0 1:9", "6:2 0:1 1:9"]);
+    let goals = |last: &str| {
+        let goals = ["5:2 0:0 0:1", constraint, last].map(table::words);
+        part(CONJUNCTION, goals.concat())
+    };
+    if alone {
+        return relation(1, 2, goals(last));
+    }
     let holds = table::words("5:2 3:0 3:0");
-    let last = rng.pick(&["5:2 0:0 1:9", "5:4 0:0 4:1 3:0 1:9", "6:2 0:0 1:9"]);
     let relations = [
-        relation(1, 255, part(CONJUNCTION, goals)),
+        relation(1, 255, goals("(12:1 2:1)*7 12:1 2:2 12:2 2:3 0:1")),
         relation(0, 255, holds.clone()),
         relation(0, near(rng, 7), holds),
-        relation(1, 1, table::words(last)),
+        relation(1, 1, table::words(&last.replace("0:1", "0:0"))),
     ];
     relations.concat()
 }

@@ -82,10 +82,8 @@ pub fn wanted() -> Vec<String> {
     }
     all.extend(TAG_FAULTS.map(String::from));
     for length in [PROGRAM_WORDS - 1, PROGRAM_WORDS] {
-        all.push(last_word(length));
-        for base in [VARIABLES - 2, VARIABLES - 1] {
-            all.push(format!("{}, {}", last_word(length), bound_from(base)));
-        }
+        all.push(last_word(length, "the query's own"));
+        all.extend([VARIABLES - 2, VARIABLES - 1].map(|base| last_word(length, &bound_from(base))));
     }
     all
 }
@@ -170,8 +168,8 @@ fn tag_refused(words: &[u32], refusal: &Refusal) -> Vec<String> {
     all
 }
 
-fn last_word(length: usize) -> String {
-    format!("last word of {length} found through a variable")
+fn last_word(length: usize, which: &str) -> String {
+    format!("last word of {length} found through a variable, {which}")
 }
 
 fn bound_from(base: usize) -> String {
@@ -182,15 +180,17 @@ fn bound_from(base: usize) -> String {
 fn last_word_found(words: &[u32], outcome: &Outcome) -> Vec<String> {
     let (last, others) = words.split_last().expect("a program has words");
     let long = words.len() + 1 >= PROGRAM_WORDS;
-    let followed = outcome.trace.events.contains(&Event::Followed(*last));
-    if !long || others.contains(last) || !followed {
+    let events = &outcome.trace.events;
+    if !long || others.contains(last) || !events.contains(&Event::Followed(*last)) {
         return Vec::new();
     }
-    let found = last_word(words.len());
-    let mut all = vec![found.clone()];
-    for event in &outcome.trace.events {
+    let mut all = Vec::new();
+    if payload(words[0]) as usize == others.len() {
+        all.push(last_word(words.len(), "the query's own"));
+    }
+    for event in events {
         if let Event::BoundFrom(base) = event {
-            all.push(format!("{found}, {}", bound_from(*base)));
+            all.push(last_word(words.len(), &bound_from(*base)));
         }
     }
     all

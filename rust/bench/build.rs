@@ -15,7 +15,8 @@ fn main() {
     println!("cargo:rerun-if-changed={}", library.display());
     let out = env::var_os("OUT_DIR").expect("cargo sets OUT_DIR");
     let object = PathBuf::from(out).join("before.o");
-    // Both libraries have the same names: of this one only the function that is called keeps one, which is new.
+    // Both libraries define the same names. In the earlier one the function that is called gets another, and then all others
+    // become local.
     run(Command::new("ld")
         .args(["-r", "--whole-archive", "-o"])
         .args([&object, &library]));

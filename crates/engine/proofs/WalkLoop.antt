@@ -11,7 +11,7 @@ use Rattle.engine.specs.Layout.{most-variables, positions, references}
 use Rattle.engine.specs.Reference.{at, refer, pos-of, base-of, Stands}
 use Rattle.engine.specs.Walk.{PartRead, Follows, WalkedTo}
 use Rattle.engine.specs.declared.terms.walk.Walked.{Walked}
-use Rattle.engine.proofs.ReferenceLaws.{pos-refer, base-refer, stands-inside}
+use Rattle.engine.proofs.ReferenceLaws.{base-refer, stands-inside}
 use Rattle.engine.proofs.WalkLaws.{hops, Hop, walk-node, walk-variable, walk-free, walk-hop}
 
 -- what is left to follow, at the position and base that are held, comes to the same term
@@ -23,6 +23,10 @@ pub record Walking (ws s : List ℕ) (term pos base : ℕ) : Type 0 where
 rejoined : (w : ℕ) → w ≡ refer (w % positions) (w / positions)
 rejoined w = omega arith
 
+-- the position alone, as a reference with base 0, is at the same word
+same-pos : (pos base : ℕ) → pos < positions → pos-of (refer pos base) ≡ pos-of pos
+same-pos pos base lt = omega arith
+
 pub walking-starts : (ws s : List ℕ) (term : ℕ) → Walking ws s term (term % positions) (term / positions)
 walking-starts ws s term = record { low = omega arith; left = λ bs t f. (t, subst (λ w. Follows ws s bs w t) (rejoined term) f, refl) }
 
@@ -31,18 +35,18 @@ module _ {ws s : List ℕ} {term pos base : ℕ} (h : Walking ws s term pos base
     follows-here : Follows ws s (pre .0) (refer pos base) (h .left (pre .0) (pre .1) (pre .2) .0)
     follows-here = h .left (pre .0) (pre .1) (pre .2) .1
 
-    pub walking-inside : pos < length ws
-    walking-inside = subst (λ p. p < length ws) (pos-refer pos base (h .low)) (stands-inside (follows-here .stands))
+    pub walking-inside : pos-of pos < length ws
+    walking-inside = subst (λ p. p < length ws) (same-pos pos base (h .low)) (stands-inside (follows-here .stands))
 
     pub walking-below : refer pos base < references
     walking-below = follows-here .stands .below
 
   -- The word at the position has been read.
-  module _ {bits k p : ℕ} (is-bits : bits ≡ at ws pos) (is-kind : k ≡ kind bits) (is-payload : p ≡ payload bits) where
-    here : PartRead ws (refer pos base) (at ws pos) k p
+  module _ {bits k p : ℕ} (part : PartRead ws pos bits k p) where
+    here : PartRead ws (refer pos base) bits k p
     here =
-        let e : at ws pos ≡ at ws (pos-of (refer pos base)) = ap (at ws) (sym (pos-refer pos base (h .low))) in
-        record { is-bits = e; is-kind = is-kind ∙ ap kind (is-bits ∙ e); is-payload = is-payload ∙ ap payload (is-bits ∙ e) }
+        let e : at ws (pos-of pos) ≡ at ws (pos-of (refer pos base)) = ap (at ws) (sym (same-pos pos base (h .low))) in
+        record { is-bits = part .is-bits ∙ e; is-kind = part .is-kind ∙ ap kind e; is-payload = part .is-payload ∙ ap payload e }
 
     is-variable : base + p ≡ base-of (refer pos base) + p
     is-variable = ap (λ b. b + p) (sym (base-refer pos base (h .low)))
@@ -50,10 +54,10 @@ module _ {ws s : List ℕ} {term pos base : ℕ} (h : Walking ws s term pos base
     pub walking-variable : ((bs : Substitution) × (t : Term) × Follows ws s bs term t) → k ≡ 0 → base + p < most-variables
     walking-variable pre e = subst (λ x. x < most-variables) (sym is-variable) (walk-variable (follows-here pre) here e)
 
-    pub walking-node : ¬ (k ≡ 0) → WalkedTo ws s term (record { at = refer pos base; bits = at ws pos; kind = k; payload = p })
+    pub walking-node : ¬ (k ≡ 0) → WalkedTo ws s term (record { at = refer pos base; bits = bits; kind = k; payload = p })
     walking-node n = record { node = here; stands = λ bs t f. let q = h .left bs t f in subst (Stands ws (refer pos base)) (sym (q .2)) (walk-node (q .1) here n) }
 
-    pub walking-open : k ≡ 0 → at s (base + p) ≡ 0 → WalkedTo ws s term (record { at = refer pos base; bits = at ws pos; kind = k; payload = p })
+    pub walking-open : k ≡ 0 → at s (base + p) ≡ 0 → WalkedTo ws s term (record { at = refer pos base; bits = bits; kind = k; payload = p })
     walking-open e z = record { node = here; stands = λ bs t f. let q = h .left bs t f in subst (Stands ws (refer pos base)) (sym (q .2)) (walk-free (q .1) here is-variable e z) }
 
     -- The variable is bound: the loop hops to what its word refers to.

@@ -457,8 +457,8 @@ fn full_length(rng: &mut Rng) -> Vec<u32> {
     words
 }
 
-/// The query's parameter is another variable of the query, of which the last goal is: the query's own, or that of the last relation,
-/// which has one variable itself, the path's last, or one before or behind.
+/// The query's parameter is bound to another of its variables, and the last goal is about that one. It is the query's own, or that
+/// of the last relation, whose one variable is the path's last, the one before, or one too many.
 fn through_a_variable(rng: &mut Rng, alone: bool) -> Vec<u32> {
     let constraint = rng.pick(&["", "", "6:2 0:0 1:9", "7:1 0:0", "9:2 1:9 0:0"]);
     let last = rng.pick(&["5:2 0:1 1:9", "5:4 0:1 4:1 3:0 1:9", "6:2 0:1 1:9"]);

@@ -3,9 +3,9 @@
 use crate::cases::{Case, MADE};
 use crate::listing;
 use crate::read::{read, Refusal, PROGRAM_WORDS};
-use crate::run::{End, Outcome, ROUND_LIMIT, SCRATCH_WORDS, VARIABLES};
+use crate::run::{End, Outcome, ROUND_LIMIT, SCRATCH_WORDS};
 use crate::syntax::{Goal, GoalId, Program, Term, TermId};
-use crate::trace::{Bounded, During, Event};
+use crate::trace::{Bounded, During, Event, LAST_BASES};
 use crate::word::*;
 use std::collections::BTreeSet;
 
@@ -83,7 +83,7 @@ pub fn wanted() -> Vec<String> {
     all.extend(TAG_FAULTS.map(String::from));
     for length in [PROGRAM_WORDS - 1, PROGRAM_WORDS] {
         all.push(last_word(length, "the query's own"));
-        all.extend([VARIABLES - 2, VARIABLES - 1].map(|base| last_word(length, &bound_from(base))));
+        all.extend(LAST_BASES.map(|base| last_word(length, &bound_from(base))));
     }
     all
 }
@@ -173,24 +173,27 @@ fn last_word(length: usize, which: &str) -> String {
 }
 
 fn bound_from(base: usize) -> String {
-    format!("bound from variable {base} on")
+    format!("bound from the environment with base {base}")
 }
 
-/// Of a run with a query term that is the program's last word, which stands nowhere else, and was found through a variable.
+/// Of a run with an answer whose query term is the program's last word, an atom that stands nowhere else, and was found through a
+/// variable.
 fn last_word_found(words: &[u32], outcome: &Outcome) -> Vec<String> {
     let (last, others) = words.split_last().expect("a program has words");
     let long = words.len() + 1 >= PROGRAM_WORDS;
+    let alone = kind(*last) != VARIABLE && !others.contains(last);
     let events = &outcome.trace.events;
-    if !long || others.contains(last) || !events.contains(&Event::Followed(*last)) {
+    let found = events.contains(&Event::Followed(*last)) && outcome.words.contains(last);
+    if !(long && alone && found) {
         return Vec::new();
     }
     let mut all = Vec::new();
     if payload(words[0]) as usize == others.len() {
         all.push(last_word(words.len(), "the query's own"));
     }
-    for event in events {
-        if let Event::BoundFrom(base) = event {
-            all.push(last_word(words.len(), &bound_from(*base)));
+    for base in LAST_BASES {
+        if events.contains(&Event::BoundFrom(base, *last)) {
+            all.push(last_word(words.len(), &bound_from(base)));
         }
     }
     all
@@ -303,7 +306,7 @@ fn stopped(during: During, steps: bool) -> String {
 fn events(outcome: &Outcome) -> impl Iterator<Item = String> + '_ {
     outcome.trace.events.iter().map(|event| match event {
         Event::OccursCheckFailed => "occurs check failed".to_string(),
-        Event::BoundFrom(base) => format!("variable {}", bound_from(*base)),
+        Event::BoundFrom(base, _) => format!("atom {}", bound_from(*base)),
         Event::Followed(_) => "query term found through a variable".to_string(),
         Event::FailedWhenTaken(kind) => format!("kind {kind} failed when taken"),
         Event::FailedLater(kind) => format!("kind {kind} failed after an equality"),

@@ -53,7 +53,7 @@ pub struct Walked {
     pub payload: u32,
 }
 
-// The term, followed through the bindings: up to an atom, a pair or an open variable. Position and base are held apart, and sixteen bits hold every position.
+// The term, followed through the bindings: up to an atom, a pair or an open variable. Position and base are held apart, as sixteen bits hold every position (document 02, Note 4).
 pub(crate) fn walk(program: &[u32], scratch: &[u32], term: u32) -> Walked
     requires { ⌜ ((bs : Substitution) × (t : Term) × Follows (now program) (now scratch) bs term t) ⌝ }
     ensures { λ r. ⌜ WalkedTo (now (program .entry)) (now (scratch .entry)) term r ⌝ }
@@ -61,18 +61,17 @@ pub(crate) fn walk(program: &[u32], scratch: &[u32], term: u32) -> Walked
     let mut position = (term % POSITIONS) as u16;
     let mut base = term / POSITIONS;
     loop {
-        let bits = program[position as usize];
-        let word = Word::from_bits(bits);
+        let part = part_at(program, position as u32);
         let here = Walked {
             at: position as u32 + POSITIONS * base,
-            bits,
-            kind: word.kind(),
-            payload: word.payload(),
+            bits: part.bits,
+            kind: part.kind,
+            payload: part.payload,
         };
-        if here.kind != Word::VARIABLE {
+        if part.kind != Word::VARIABLE {
             return here;
         }
-        let entry = scratch[(base + here.payload) as usize];
+        let entry = scratch[(base + part.payload) as usize];
         if entry == 0 {
             return here;
         }

@@ -18,50 +18,38 @@ cast-position c = omega arith
 loop-holds : tie.Need-loop-holds Inv-loop μ-loop
 loop-holds c = walking-starts _ _ _
 
-cast-bits : tie.Need-cast-bits Inv-loop μ-loop
-cast-bits c = omega (arith, c .loop .inv .low)
+cast-part-at : tie.Need-cast-part-at Inv-loop μ-loop
+cast-part-at c = omega (arith, c .loop .inv .low)
 
-mul-bits : tie.Need-mul-bits Inv-loop μ-loop
-mul-bits c = omega (arith, c .loop .inv .low)
-
-shared-slice-read-bits : tie.Need-shared-slice-read-bits Inv-loop μ-loop
-shared-slice-read-bits c = walking-inside (c .before .loop .inv) (c .before .before .before .before .pre)
-
-from-bits-requires : tie.Need-from-bits-requires Inv-loop μ-loop
-from-bits-requires c κs = tt
+part-at-requires : tie.Need-part-at-requires Inv-loop μ-loop
+part-at-requires c κs = walking-inside (c .loop .inv) (c .before .before .before .pre)
 
 cast-position-2 : tie.Need-cast-position-2 Inv-loop μ-loop
-cast-position-2 c = omega (arith, c .before .before .loop .inv .low)
+cast-position-2 c = omega (arith, c .before .loop .inv .low)
 
 mul-position : tie.Need-mul-position Inv-loop μ-loop
-mul-position c = omega (arith, walking-below (c .before .before .loop .inv) (c .before .before .before .before .before .pre))
+mul-position c = omega (arith, walking-below (c .before .loop .inv) (c .before .before .before .before .pre))
 
 add-position : tie.Need-add-position Inv-loop μ-loop
-add-position c = omega (arith, walking-below (c .before .before .loop .inv) (c .before .before .before .before .before .pre))
-
-kind-requires : tie.Need-kind-requires Inv-loop μ-loop
-kind-requires c κs = tt
-
-payload-requires : tie.Need-payload-requires Inv-loop μ-loop
-payload-requires c κs = tt
+add-position c = omega (arith, walking-below (c .before .loop .inv) (c .before .before .before .before .pre))
 
 returns : tie.Need-returns Inv-loop μ-loop
-returns c = walking-node (c .before .before .before .before .before .before .loop .inv) (c .before .before .before .before .from-bits .ensures) (c .before .before .before .kind .ensures) (c .before .before .payload .ensures) (c .if1 .taken)
+returns c = walking-node (c .before .before .before .loop .inv) (c .before .before .part-at .ensures) (c .if1 .taken)
 
 add-entry : tie.Need-add-entry Inv-loop μ-loop
-add-entry c = omega (arith, walking-variable (c .before .before .before .before .before .before .before .loop .inv) (c .before .before .before .before .before .from-bits .ensures) (c .before .before .before .before .kind .ensures) (c .before .before .before .payload .ensures) (c .before .before .before .before .before .before .before .before .before .before .pre) (c .before .if1 .left))
+add-entry c = omega (arith, walking-variable (c .before .before .before .before .loop .inv) (c .before .before .before .part-at .ensures) (c .before .before .before .before .before .before .before .pre) (c .before .if1 .left))
 
 cast-entry : tie.Need-cast-entry Inv-loop μ-loop
-cast-entry c = omega (arith, walking-variable (c .before .before .before .before .before .before .before .loop .inv) (c .before .before .before .before .before .from-bits .ensures) (c .before .before .before .before .kind .ensures) (c .before .before .before .payload .ensures) (c .before .before .before .before .before .before .before .before .before .before .pre) (c .before .if1 .left))
+cast-entry c = omega (arith, walking-variable (c .before .before .before .before .loop .inv) (c .before .before .before .part-at .ensures) (c .before .before .before .before .before .before .before .pre) (c .before .if1 .left))
 
 mul-entry : tie.Need-mul-entry Inv-loop μ-loop
-mul-entry c = omega (arith, walking-variable (c .before .before .before .before .before .before .before .loop .inv) (c .before .before .before .before .before .from-bits .ensures) (c .before .before .before .before .kind .ensures) (c .before .before .before .payload .ensures) (c .before .before .before .before .before .before .before .before .before .before .pre) (c .before .if1 .left))
+mul-entry c = omega (arith, walking-variable (c .before .before .before .before .loop .inv) (c .before .before .before .part-at .ensures) (c .before .before .before .before .before .before .before .pre) (c .before .if1 .left))
 
 shared-slice-read-entry : tie.Need-shared-slice-read-entry Inv-loop μ-loop
-shared-slice-read-entry c = omega (arith, walking-variable (c .before .before .before .before .before .before .before .before .loop .inv) (c .before .before .before .before .before .before .from-bits .ensures) (c .before .before .before .before .before .kind .ensures) (c .before .before .before .before .payload .ensures) (c .before .before .before .before .before .before .before .before .before .before .before .pre) (c .before .before .if1 .left), c .before .before .before .before .before .before .before .before .before .before .before .pre .2 .binds .long)
+shared-slice-read-entry c = omega (arith, walking-variable (c .before .before .before .before .before .loop .inv) (c .before .before .before .before .part-at .ensures) (c .before .before .before .before .before .before .before .before .pre) (c .before .before .if1 .left), c .before .before .before .before .before .before .before .before .pre .2 .binds .long)
 
 returns-2 : tie.Need-returns-2 Inv-loop μ-loop
-returns-2 c = walking-open (c .before .before .before .before .before .before .before .before .before .loop .inv) (c .before .before .before .before .before .before .before .from-bits .ensures) (c .before .before .before .before .before .before .kind .ensures) (c .before .before .before .before .before .payload .ensures) (c .before .before .before .if1 .left) (c .if2 .taken)
+returns-2 c = walking-open (c .before .before .before .before .before .before .loop .inv) (c .before .before .before .before .before .part-at .ensures) (c .before .before .before .if1 .left) (c .if2 .taken)
 
 sub-position : tie.Need-sub-position Inv-loop μ-loop
 sub-position c = omega (arith, c .if2 .left)
@@ -73,10 +61,10 @@ sub-base : tie.Need-sub-base Inv-loop μ-loop
 sub-base c = omega (arith, c .if2 .left)
 
 loop-less : tie.Need-loop-less Inv-loop μ-loop
-loop-less c = walking-falls (c .before .before .before .before .before .before .before .before .before .loop .inv) (c .before .before .before .before .before .before .before .from-bits .ensures) (c .before .before .before .before .before .before .kind .ensures) (c .before .before .before .before .before .payload .ensures) (c .before .before .before .if1 .left) (c .if2 .left) (c .before .before .before .before .before .before .before .before .before .before .before .before .pre)
+loop-less c = walking-falls (c .before .before .before .before .before .before .loop .inv) (c .before .before .before .before .before .part-at .ensures) (c .before .before .before .if1 .left) (c .if2 .left) (c .before .before .before .before .before .before .before .before .before .pre)
 
 loop-again : tie.Need-loop-again Inv-loop μ-loop
-loop-again c = walking-on (c .before .before .before .before .before .before .before .before .before .loop .inv) (c .before .before .before .before .before .before .before .from-bits .ensures) (c .before .before .before .before .before .before .kind .ensures) (c .before .before .before .before .before .payload .ensures) (c .before .before .before .if1 .left) (c .if2 .left)
+loop-again c = walking-on (c .before .before .before .before .before .before .loop .inv) (c .before .before .before .before .before .part-at .ensures) (c .before .before .before .if1 .left) (c .if2 .left)
 
 pub walk-spec : {M : Type 1} → statement M
 walk-spec =
@@ -86,15 +74,11 @@ walk-spec =
     μ-loop
     cast-position
     loop-holds
-    cast-bits
-    mul-bits
-    shared-slice-read-bits
-    from-bits-requires
+    cast-part-at
+    part-at-requires
     cast-position-2
     mul-position
     add-position
-    kind-requires
-    payload-requires
     returns
     add-entry
     cast-entry

@@ -24,8 +24,8 @@ rejoined : (w : ℕ) → w ≡ refer (w % positions) (w / positions)
 rejoined w = omega arith
 
 -- the position alone, as a reference with base 0, is at the same word
-same-pos : (pos base : ℕ) → pos < positions → pos-of (refer pos base) ≡ pos-of pos
-same-pos pos base lt = omega arith
+same-pos : (pos base : ℕ) → pos-of (refer pos base) ≡ pos-of pos
+same-pos pos base = omega arith
 
 pub walking-starts : (ws s : List ℕ) (term : ℕ) → Walking ws s term (term % positions) (term / positions)
 walking-starts ws s term = record { low = omega arith; left = λ bs t f. (t, subst (λ w. Follows ws s bs w t) (rejoined term) f, refl) }
@@ -36,7 +36,7 @@ module _ {ws s : List ℕ} {term pos base : ℕ} (h : Walking ws s term pos base
     follows-here = h .left (pre .0) (pre .1) (pre .2) .1
 
     pub walking-inside : pos-of pos < length ws
-    walking-inside = subst (λ p. p < length ws) (same-pos pos base (h .low)) (stands-inside (follows-here .stands))
+    walking-inside = subst (λ p. p < length ws) (same-pos pos base) (stands-inside (follows-here .stands))
 
     pub walking-below : refer pos base < references
     walking-below = follows-here .stands .below
@@ -45,7 +45,7 @@ module _ {ws s : List ℕ} {term pos base : ℕ} (h : Walking ws s term pos base
   module _ {bits k p : ℕ} (part : PartRead ws pos bits k p) where
     here : PartRead ws (refer pos base) bits k p
     here =
-        let e : at ws (pos-of pos) ≡ at ws (pos-of (refer pos base)) = ap (at ws) (sym (same-pos pos base (h .low))) in
+        let e : at ws (pos-of pos) ≡ at ws (pos-of (refer pos base)) = ap (at ws) (sym (same-pos pos base)) in
         record { is-bits = part .is-bits ∙ e; is-kind = part .is-kind ∙ ap kind e; is-payload = part .is-payload ∙ ap payload e }
 
     is-variable : base + p ≡ base-of (refer pos base) + p

@@ -46,7 +46,7 @@ macro_rules! engines {
 
 engines!(kindcanvas_run_before, kindcanvas_run);
 
-/// The step limit of programs that take more steps than any limit allows.
+/// Programs that take more than 10^9 steps are run up to this step limit.
 const LIMIT: u32 = 10_000_000;
 
 /// The programs of both tables: nanoseconds a step before and after, the best of all turns, and how many times as long a run takes,

@@ -53,7 +53,7 @@ pub struct Walked {
     pub payload: u32,
 }
 
-// The term, followed through the bindings: up to an atom, a pair or an open variable. Position and base are held apart, as sixteen bits hold every position (document 02, Note 4).
+// The term, followed through the bindings: up to an atom, a pair or an open variable. The position is held in sixteen bits (document 02, Note 4), apart from its base: the last of a program is 16,383.
 pub(crate) fn walk(program: &[u32], scratch: &[u32], term: u32) -> Walked
     requires { ⌜ ((bs : Substitution) × (t : Term) × Follows (now program) (now scratch) bs term t) ⌝ }
     ensures { λ r. ⌜ WalkedTo (now (program .entry)) (now (scratch .entry)) term r ⌝ }

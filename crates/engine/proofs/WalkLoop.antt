@@ -1,5 +1,5 @@
 -- The loop of `walk` holds position and base of a reference apart: what it knows before and after the word there is read.
-use Prim.Native.Nat.{ℕ, _+_, _-_, _/_, _%_, _<_}
+use Prim.Native.Nat.{ℕ, _+_, _-_, _<_}
 use mathlib.Core.Path.{_≡_, refl, sym, ap, subst, _∙_}
 use mathlib.Core.List.{List}
 use native.Mathlib.Omega.{arith}
@@ -19,19 +19,23 @@ pub record Walking (ws s : List ℕ) (term pos base : ℕ) : Type 0 where
   pub low : pos < positions
   pub left : (bs : Substitution) (t : Term) → Follows ws s bs term t → (u : Term) × Follows ws s bs (refer pos base) u × (walk bs t ≡ walk bs u)
 
+-- what `walk` asks for: there is something to follow
+abbrev Something : List ℕ → List ℕ → ℕ → Type 0
+Something ws s term = (bs : Substitution) × (t : Term) × Follows ws s bs term t
+
 -- a reference may be taken apart and joined again
-rejoined : (w : ℕ) → w ≡ refer (w % positions) (w / positions)
+rejoined : (w : ℕ) → w ≡ refer (pos-of w) (base-of w)
 rejoined w = omega arith
 
 -- the position alone, as a reference with base 0, is at the same word
 same-pos : (pos base : ℕ) → pos-of (refer pos base) ≡ pos-of pos
 same-pos pos base = omega arith
 
-pub walking-starts : (ws s : List ℕ) (term : ℕ) → Walking ws s term (term % positions) (term / positions)
+pub walking-starts : (ws s : List ℕ) (term : ℕ) → Walking ws s term (pos-of term) (base-of term)
 walking-starts ws s term = record { low = omega arith; left = λ bs t f. (t, subst (λ w. Follows ws s bs w t) (rejoined term) f, refl) }
 
 module _ {ws s : List ℕ} {term pos base : ℕ} (h : Walking ws s term pos base) where
-  module _ (pre : (bs : Substitution) × (t : Term) × Follows ws s bs term t) where
+  module _ (pre : Something ws s term) where
     follows-here : Follows ws s (pre .0) (refer pos base) (h .left (pre .0) (pre .1) (pre .2) .0)
     follows-here = h .left (pre .0) (pre .1) (pre .2) .1
 
@@ -51,22 +55,25 @@ module _ {ws s : List ℕ} {term pos base : ℕ} (h : Walking ws s term pos base
     is-variable : base + p ≡ base-of (refer pos base) + p
     is-variable = ap (λ b. b + p) (sym (base-refer pos base (h .low)))
 
-    pub walking-variable : ((bs : Substitution) × (t : Term) × Follows ws s bs term t) → k ≡ 0 → base + p < most-variables
+    pub walking-variable : Something ws s term → k ≡ 0 → base + p < most-variables
     walking-variable pre e = subst (λ x. x < most-variables) (sym is-variable) (walk-variable (follows-here pre) here e)
 
+    arrives : ((bs : Substitution) (u : Term) → Follows ws s bs (refer pos base) u → Stands ws (refer pos base) (walk bs u)) → WalkedTo ws s term (record { at = refer pos base; bits = bits; kind = k; payload = p })
+    arrives there = record { node = here; stands = λ bs t f. let q = h .left bs t f in subst (Stands ws (refer pos base)) (sym (q .2)) (there bs (q .0) (q .1)) }
+
     pub walking-node : ¬ (k ≡ 0) → WalkedTo ws s term (record { at = refer pos base; bits = bits; kind = k; payload = p })
-    walking-node n = record { node = here; stands = λ bs t f. let q = h .left bs t f in subst (Stands ws (refer pos base)) (sym (q .2)) (walk-node (q .1) here n) }
+    walking-node n = arrives (λ bs u f. walk-node f here n)
 
     pub walking-open : k ≡ 0 → at s (base + p) ≡ 0 → WalkedTo ws s term (record { at = refer pos base; bits = bits; kind = k; payload = p })
-    walking-open e z = record { node = here; stands = λ bs t f. let q = h .left bs t f in subst (Stands ws (refer pos base)) (sym (q .2)) (walk-free (q .1) here is-variable e z) }
+    walking-open e z = arrives (λ bs u f. walk-free f here is-variable e z)
 
     -- The variable is bound: the loop hops to what its word refers to.
     module _ (e : k ≡ 0) (z : ¬ (at s (base + p) ≡ 0)) where
-      hop : {bs : Substitution} {u : Term} → Follows ws s bs (refer pos base) u → Hop ws s bs (refer pos base) u (refer ((at s (base + p) - 1) % positions) ((at s (base + p) - 1) / positions))
+      hop : {bs : Substitution} {u : Term} → Follows ws s bs (refer pos base) u → Hop ws s bs (refer pos base) u (refer (pos-of (at s (base + p) - 1)) (base-of (at s (base + p) - 1)))
       hop {bs} {u} f = subst (Hop ws s bs (refer pos base) u) (rejoined (at s (base + p) - 1)) (walk-hop f here is-variable e z)
 
-      pub walking-on : Walking ws s term ((at s (base + p) - 1) % positions) ((at s (base + p) - 1) / positions)
+      pub walking-on : Walking ws s term (pos-of (at s (base + p) - 1)) (base-of (at s (base + p) - 1))
       walking-on = record { low = omega arith; left = λ bs t f. let q = h .left bs t f in let g = hop (q .1) in (g .next, g .follows, q .2 ∙ g .same-walk) }
 
-      pub walking-falls : ((bs : Substitution) × (t : Term) × Follows ws s bs term t) → hops 2048 ws s (refer ((at s (base + p) - 1) % positions) ((at s (base + p) - 1) / positions)) < hops 2048 ws s (refer pos base)
+      pub walking-falls : Something ws s term → hops 2048 ws s (refer (pos-of (at s (base + p) - 1)) (base-of (at s (base + p) - 1))) < hops 2048 ws s (refer pos base)
       walking-falls pre = hop (follows-here pre) .falls

@@ -1,6 +1,7 @@
 //! The proved engine of an earlier landing beside this one's, each in the benchmark that its own checkout builds.
 
-use crate::{best, count_and_seconds, median, nanoseconds, programs, rules, words, Bench, TURNS};
+use crate::programs::{self, Program};
+use crate::{best, count_and_seconds, median, nanoseconds, rules, words, Bench, TURNS};
 use std::env;
 use std::path::Path;
 use std::process::Command;
@@ -8,23 +9,17 @@ use std::process::Command;
 /// Programs that take more than 10^9 steps are run up to this step limit.
 const LIMIT: u32 = 10_000_000;
 
-/// `bench time NUMBER`: runs the program of this number, sees that the plain engine agrees, and prints the steps and the best
-/// seconds of a run.
-pub fn time(number: usize) {
-    let compared = programs::compared();
-    let (mut bench, report) = match compared.get(number) {
-        Some(program) => {
-            let words = words::words(&rules::parse(&program.text));
-            Bench::new(words, program.rounds)
-        }
-        None => {
-            let program = &programs::endless()[number - compared.len()];
-            let mut bench = Bench::limited(program, LIMIT);
-            let report = bench.proved();
-            assert_eq!(bench.plain(), report);
-            (bench, report)
-        }
+/// `bench time ROUNDS STEPS WORDS`: runs the program, sees that the plain engine agrees, and prints the steps and the best seconds of a
+/// run. Both engines are given the words, as an earlier landing may have timed other programs.
+pub fn time(numbers: &[&str]) {
+    let numbers: Vec<u32> = numbers
+        .iter()
+        .map(|number| number.parse().expect("a number of 32 bits"))
+        .collect();
+    let [rounds, steps, ref words @ ..] = numbers[..] else {
+        panic!("two limits, then words");
     };
+    let (mut bench, report) = Bench::new(words.to_vec(), rounds, steps);
     let seconds = best(|| assert_eq!(bench.proved(), report));
     println!("{} {seconds}", report.steps);
 }
@@ -37,14 +32,21 @@ pub fn table(earlier: &Path) -> String {
     let mut text = String::new();
     text += "| program | steps | before, ns a step | after | after / before |\n";
     text += "|---|--:|--:|--:|--:|\n";
-    let all = programs::compared().into_iter().chain(programs::endless());
-    for (number, program) in all.enumerate() {
-        text += &row(program.name, number, engines);
+    for (programs, limit) in [
+        (programs::compared(), u32::MAX),
+        (programs::endless(), LIMIT),
+    ] {
+        for program in programs {
+            text += &row(&program, limit, engines);
+        }
     }
     text
 }
 
-fn row(name: &str, number: usize, engines: [&Path; 2]) -> String {
+fn row(program: &Program, limit: u32, engines: [&Path; 2]) -> String {
+    let words = words::words(&rules::parse(&program.text));
+    let numbers = [vec![program.rounds, limit], words].concat();
+    let arguments: Vec<String> = numbers.iter().map(u32::to_string).collect();
     let mut steps = [0; 2];
     let mut best_of = [f64::INFINITY; 2];
     let mut ratios = Vec::new();
@@ -53,13 +55,13 @@ fn row(name: &str, number: usize, engines: [&Path; 2]) -> String {
         // Each goes first in every other turn.
         for engine in [turn % 2, 1 - turn % 2] {
             let mut command = Command::new(engines[engine]);
-            command.args(["time", &number.to_string()]);
+            command.arg("time").args(&arguments);
             (steps[engine], times[engine]) = count_and_seconds(&mut command);
             best_of[engine] = times[engine].min(best_of[engine]);
         }
         ratios.push(times[1] / times[0]);
     }
     let [before, after] = [0, 1].map(|engine| nanoseconds(best_of[engine], steps[engine]));
-    let (steps, ratio) = (steps[1], median(ratios));
+    let (name, steps, ratio) = (program.name, steps[1], median(ratios));
     format!("| {name} | {steps} | {before:.2} | {after:.2} | {ratio:.3} |\n")
 }

@@ -40,11 +40,11 @@ struct Bench {
 impl Bench {
     /// Runs both engines once and sees that they agree on everything. The output is cut to what is written, so that clearing its rest
     /// takes no time.
-    fn new(words: Vec<u32>, rounds: u32) -> (Bench, Report) {
+    fn new(words: Vec<u32>, rounds: u32, steps: u32) -> (Bench, Report) {
         let mut bench = Bench {
             words,
             rounds,
-            steps: u32::MAX,
+            steps,
             output: vec![1; 1 << 22],
             scratch: vec![1; SCRATCH_WORDS],
         };
@@ -58,17 +58,6 @@ impl Bench {
         bench.output.truncate(report.words);
         bench.output.shrink_to_fit();
         (bench, report)
-    }
-
-    /// A program that has no answer within so many steps.
-    fn limited(program: &Program, steps: u32) -> Bench {
-        Bench {
-            words: words::words(&rules::parse(&program.text)),
-            rounds: program.rounds,
-            steps,
-            output: Vec::new(),
-            scratch: vec![0; SCRATCH_WORDS],
-        }
     }
 
     fn proved(&mut self) -> Report {
@@ -126,7 +115,7 @@ struct Row {
 
 fn measure(program: &Program, swi: Option<&Path>) -> Row {
     let rules = rules::parse(&program.text);
-    let (mut bench, report) = Bench::new(words::words(&rules), program.rounds);
+    let (mut bench, report) = Bench::new(words::words(&rules), program.rounds, u32::MAX);
     assert!(
         matches!(report.end, Ending::Finished | Ending::Rounds),
         "{}: {report:?}",
@@ -181,7 +170,8 @@ fn count_and_seconds(command: &mut Command) -> (u32, f64) {
         }
     }
     panic!(
-        "{command:?} says {said}{}",
+        "{:?} says {said}{}",
+        command.get_program(),
         String::from_utf8_lossy(&run.stderr)
     )
 }
@@ -189,7 +179,13 @@ fn count_and_seconds(command: &mut Command) -> (u32, f64) {
 /// Nanoseconds a step of the proved engine and of the plain one, with a step limit: the mean over as many runs as `STEPS` needs, in
 /// turn. The best of many short runs would not compare with one of 10^9 steps.
 fn at_steps(program: &Program, steps: u32) -> [f64; 2] {
-    let mut bench = Bench::limited(program, steps);
+    let mut bench = Bench {
+        words: words::words(&rules::parse(&program.text)),
+        rounds: program.rounds,
+        steps,
+        output: Vec::new(),
+        scratch: vec![0; SCRATCH_WORDS],
+    };
     let runs = STEPS.div_ceil(steps);
     let mut sums = [0.0; 2];
     for _ in 0..runs {
@@ -307,7 +303,7 @@ fn main() {
     let arguments: Vec<String> = std::env::args().skip(1).collect();
     let arguments: Vec<&str> = arguments.iter().map(String::as_str).collect();
     match arguments[..] {
-        ["time", number] => before::time(number.parse().expect("a program's number")),
+        ["time", ref numbers @ ..] => before::time(numbers),
         ["beside", earlier] => print!("{}", before::table(Path::new(earlier))),
         [date, file] => tables(date, file),
         _ => {

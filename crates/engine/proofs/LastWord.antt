@@ -1,20 +1,19 @@
 -- Document 02, Note 4: what `walk` promises of a value whose only word is the last of a full-length program.
 use Prim.Native.Nat.{ℕ, _+_, _-_, _<_}
 use mathlib.Core.Path.{_≡_, refl, sym, ap, subst, _∙_}
-use mathlib.Core.Option.{Option, none, some}
 use mathlib.Core.List.{List}
 use native.Mathlib.Omega.{arith}
 use lib.ListN.{length}
 use Rattle.rules.specs.Settings.{most-words}
 use Rattle.rules.specs.Syntax.{Atom, Term, var, atom}
-use Rattle.semantics.specs.Substitution.{Substitution, lookup, walk}
+use Rattle.semantics.specs.Substitution.{Substitution, walk}
 use Rattle.semantics.proofs.SubstitutionLaws.{followed-follow, walk-some}
 use Rattle.engine.specs.Layout.{most-variables, positions}
-use Rattle.engine.specs.Memory.{BoundTo, Entry}
 use Rattle.engine.specs.Reference.{at, AtomIs, refer, pos-of, base-of, Stands}
 use Rattle.engine.specs.Walk.{Follows, WalkedTo}
 use Rattle.engine.specs.declared.terms.walk.Walked.{Walked}
 use Rattle.engine.proofs.ReferenceLaws.{pos-refer, term-one, atom-word-is}
+use Rattle.engine.proofs.WalkLaws.{Binding, binding-at}
 
 -- how `walk` comes to a reference v: it is given v, or the term that it is given is, or leads to, a variable whose word refers to v
 pub data ComesTo (s : List ℕ) (bs : Substitution) (w : ℕ) (t : Term) (v : ℕ) : Type 0 where
@@ -24,14 +23,10 @@ pub data ComesTo (s : List ℕ) (bs : Substitution) (w : ℕ) (t : Term) (v : �
 module _ {ws s : List ℕ} {bs : Substitution} {w : ℕ} {t : Term} {r : Walked} (f : Follows ws s bs w t) (found : WalkedTo ws s w r) where
   stands-there : (v : ℕ) → ComesTo s bs w t v → (u : Term) × Stands ws v u × (walk bs t ≡ walk bs u)
   stands-there v (given e) = (t, subst (λ y. Stands ws y t) e (f .stands), refl)
-  stands-there v (bound x lt leads e) = go (lookup bs x) refl (f .binds .bindings-in .words x lt)
-    where
-      go : (o : Option Term) → lookup bs x ≡ o → Entry ws (at s x) (lookup bs x) → (u : Term) × Stands ws v u × (walk bs t ≡ walk bs u)
-      go none q i = let z : at s x ≡ 0 = subst (λ o. Entry ws (at s x) o) q i in absurd (omega arith)
-      go (some u) q i =
-          let b : BoundTo ws (at s x) u = subst (λ o. Entry ws (at s x) o) q i in
-          let d : at s x - 1 ≡ v = omega arith in
-          (u, subst (λ y. Stands ws y u) d (b .stands), leads ∙ walk-some bs (f .binds .good) x u q)
+  stands-there v (bound x lt leads e) =
+      let b : Binding ws s bs x = binding-at x (f .binds .bindings-in) lt (λ z. omega (arith, z, e)) in
+      let d : at s x - 1 ≡ v = omega arith in
+      (b .term, subst (λ y. Stands ws y (b .term)) d (b .stands), leads ∙ walk-some bs (f .binds .good) x (b .term) (b .is))
 
   -- If an atom's word is there, `walk` gives that word, whatever its position and the base of its environment.
   pub word-found : (pos base : ℕ) (a : Atom) → pos < positions → ComesTo s bs w t (refer pos base) → AtomIs (at ws pos) a → r .bits ≡ at ws pos

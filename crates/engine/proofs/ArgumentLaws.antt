@@ -1,7 +1,7 @@
 -- The arguments of a call: past a term, to the last variable on an argument's way, and parameters bound one after the other.
 use Prim.Native.Nat.{ℕ, suc, _+_, _-_, _≤_, _<_}
 use mathlib.Core.Path.{_≡_, refl, sym, ap, subst, _∙_}
-use mathlib.Core.Option.{Option, Option·some-injective, none, some}
+use mathlib.Core.Option.{Option·some-injective, some}
 use mathlib.Core.List.{List, [], _∷_}
 use native.Mathlib.Omega.{arith}
 use lib.ListN.{length}
@@ -23,6 +23,7 @@ use Rattle.engine.specs.Trail.{Apart}
 use Rattle.rules.specs.Settings.{most-words}
 use Rattle.engine.proofs.ReferenceLaws.{stands-at, term-longer, terms-longer, atom-low}
 use Rattle.engine.proofs.GoalLaws.{term-shift}
+use Rattle.engine.proofs.WalkLaws.{Binding, binding-at}
 use Rattle.engine.proofs.TrailLaws.{fresh-room, bind-in, apart-trans, bound-apart}
 
 -- The last variable.
@@ -39,19 +40,6 @@ pub last-other : (ws : List ℕ) (bs : Substitution) (w b k p : ℕ) (t : Term) 
 last-other ws bs w b k p (var x) h i n = absurd (n (i .is-kind ∙ h .reads .0))
 last-other ws bs w b k p (atom a) h i n = h
 last-other ws bs w b k p (pair u v) h i n = h
-
--- a variable's word refers to what it is bound to
-pub record Hop (ws s : List ℕ) (bs : Substitution) (x : ℕ) : Type 0 where
-  pub next : Term
-  pub is-bound : lookup bs x ≡ some next
-  pub stands : Stands ws (at s x - 1) next
-
-pub hop-at : (ws s : List ℕ) (bs : Substitution) (x : ℕ) → x < 2048 → BindingsIn ws s bs → (at s x ≡ 0 → ⊥) → Hop ws s bs x
-hop-at ws s bs x lt b n = go (lookup bs x) refl (b .words x lt)
-  where
-    go : (o : Option Term) → lookup bs x ≡ o → Entry ws (at s x) (lookup bs x) → Hop ws s bs x
-    go none e i = absurd (n (subst (λ o. Entry ws (at s x) o) e i))
-    go (some t) e i = record { next = t; is-bound = e; stands = subst (λ o. Entry ws (at s x) o) e i .stands }
 
 -- .. at an open variable ..
 pub last-open : (ws s : List ℕ) (bs : Substitution) (w b k p x : ℕ) (t : Term) → Follows ws s bs w t → PartRead ws w b k p → k ≡ 0 → x ≡ base-of w + p → at s x ≡ 0 → Stands ws w (argument bs t)
@@ -78,8 +66,8 @@ last-stop ws s bs w b k p x c l q (var y) f i e is-x n j m = subst (Stands ws w)
 
     go : (u : ℕ) → lookup bs y ≡ some (var u) → ⊥
     go u lk =
-        let h : Hop ws s bs x = hop-at ws s bs x (omega (arith, same-x, f .stands .in-range)) (f .binds .bindings-in) n in
-        let same-u : h .next ≡ var u = Option·some-injective _ _ (sym (h .is-bound) ∙ ap (lookup bs) same-x ∙ lk) in
+        let h : Binding ws s bs x = binding-at x (f .binds .bindings-in) (omega (arith, same-x, f .stands .in-range)) n in
+        let same-u : h .term ≡ var u = Option·some-injective _ _ (sym (h .is) ∙ ap (lookup bs) same-x ∙ lk) in
         let st : Stands ws (at s x - 1) (var u) = subst (Stands ws (at s x - 1)) same-u (h .stands) in
         m (j .is-kind ∙ st .reads .0)
 last-stop ws s bs w b k p x c l q (atom a) f i e is-x n j m = f .stands
@@ -95,13 +83,13 @@ pub last-onward : (ws s : List ℕ) (bs : Substitution) (w b k p x c l q : ℕ) 
     → PartRead ws (at s x - 1) c l q → l ≡ 0 → Onward ws s bs (at s x - 1) t
 last-onward ws s bs w b k p x c l q (atom a) f i e is-x n j m = absurd (omega (arith, atom-low (at ws (pos-of w)) a (f .stands .reads .0) .0, i .is-kind))
 last-onward ws s bs w b k p x c l q (pair u v) f i e is-x n j m = absurd (omega (arith, f .stands .reads .0, i .is-kind))
-last-onward ws s bs w b k p x c l q (var y) f i e is-x n j m = go (h .next) (h .is-bound) (h .stands)
+last-onward ws s bs w b k p x c l q (var y) f i e is-x n j m = go (h .term) (h .is) (h .stands)
   where
     same-x : x ≡ y
     same-x = omega (arith, is-x, f .stands .reads .1, i .is-payload)
 
-    h : Hop ws s bs x
-    h = hop-at ws s bs x (omega (arith, same-x, f .stands .in-range)) (f .binds .bindings-in) n
+    h : Binding ws s bs x
+    h = binding-at x (f .binds .bindings-in) (omega (arith, same-x, f .stands .in-range)) n
 
     go : (u : Term) → lookup bs x ≡ some u → Stands ws (at s x - 1) u → Onward ws s bs (at s x - 1) (var y)
     go (var z) lk st = record {

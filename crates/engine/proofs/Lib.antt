@@ -1,6 +1,8 @@
 pub mod ReferenceLaws
 pub mod TrailLaws
 pub mod WalkLaws
+pub mod WalkLoop
+pub mod LastWord
 pub mod SizeLaws
 pub mod ScanSteps
 pub mod UnifySteps

@@ -15,10 +15,24 @@ use Rattle.semantics.specs.Substitution.{Substitution, lookup, walk-for, walk}
 use Rattle.semantics.specs.Invariant.{Open, Good}
 use Rattle.semantics.proofs.Basics.{clash}
 use Rattle.semantics.proofs.SubstitutionLaws.{Followed, walk-for-open, walk-for-some, followed-follow, walk-for-enough, walk-followed, walk-some}
+use Rattle.engine.specs.Layout.{most-variables}
 use Rattle.engine.specs.Reference.{at, AtomIs, pos-of, base-of, Stands}
 use Rattle.engine.specs.Memory.{BoundTo, Entry, BindingsIn}
 use Rattle.engine.specs.Walk.{PartRead, Follows}
 use Rattle.engine.proofs.TrailLaws.{fresh-few}
+
+-- what a variable is bound to: its word, which is not 0, refers to it
+pub record Binding (ws s : List ℕ) (bs : Substitution) (x : ℕ) : Type 0 where
+  pub term : Term
+  pub is : lookup bs x ≡ some term
+  pub stands : Stands ws (at s x - 1) term
+
+pub binding-at : {ws s : List ℕ} {bs : Substitution} (x : ℕ) → BindingsIn ws s bs → x < most-variables → ¬ (at s x ≡ 0) → Binding ws s bs x
+binding-at {ws} {s} {bs} x h l n = go (lookup bs x) refl (h .words x l)
+  where
+    go : (o : Option Term) → lookup bs x ≡ o → Entry ws (at s x) (lookup bs x) → Binding ws s bs x
+    go none q e = absurd (n (subst (Entry ws (at s x)) q e))
+    go (some t) q e = record { term = t; is = q; stands = subst (Entry ws (at s x)) q e .stands }
 
 -- the variable that a reference to a variable's word stands for
 abbrev pub var-of : List ℕ → ℕ → ℕ

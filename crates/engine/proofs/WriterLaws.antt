@@ -20,7 +20,7 @@ use Rattle.semantics.specs.Answer.{member, index, appear, reify, vars-in, Line,
 use Rattle.semantics.specs.Invariant.{Good}
 use Rattle.semantics.proofs.Basics.{one-of}
 use Rattle.semantics.proofs.SubstitutionLaws.{walk-some, walk-open, resolve-lookup, resolve-open}
-use Rattle.engine.specs.Reference.{at, Stands}
+use Rattle.engine.specs.Reference.{at}
 use Rattle.engine.specs.Memory.{Entry, BindingsIn}
 use Rattle.engine.specs.Walk.{Binds, Follows, Resolves}
 use Rattle.engine.specs.Names.{Named}
@@ -32,6 +32,7 @@ use Rattle.engine.specs.declared.writer.look.LookedThrough.the-variants 
 use Rattle.engine.specs.Line.{Equations}
 use Rattle.engine.specs.Trial.{EquationsKept}
 use Rattle.engine.specs.Lines.{add-line, add-lines, occurrences}
+use Rattle.engine.proofs.WalkLaws.{Binding, binding-at}
 use Rattle.engine.proofs.AddLineLaws.{same-self, any-snoc}
 use Rattle.engine.proofs.LinesLaws.{lacks-append, add-append}
 
@@ -129,18 +130,6 @@ parameter-open {ws} {s} {bs} x h l z = go (lookup bs x) (h .words x l)
     go none e = refl
     go (some t) e = absurd (omega (arith, e .some-word))
 
-pub record ParameterBound (ws s : List ℕ) (bs : Substitution) (x : ℕ) : Type 0 where
-  pub term : Term
-  pub is : lookup bs x ≡ some term
-  pub stands : Stands ws (at s x - 1) term
-
-pub parameter-bound : {ws s : List ℕ} {bs : Substitution} (x : ℕ) → BindingsIn ws s bs → x < 2048 → ¬ (at s x ≡ 0) → ParameterBound ws s bs x
-parameter-bound {ws} {s} {bs} x h l n = go (lookup bs x) refl (h .words x l)
-  where
-    go : (o : Option Term) → lookup bs x ≡ o → Entry ws (at s x) (lookup bs x) → ParameterBound ws s bs x
-    go none q e = absurd (n (subst (Entry ws (at s x)) q e))
-    go (some t) q e = record { term = t; is = q; stands = subst (Entry ws (at s x)) q e .stands }
-
 pub scan-bound : (test : Term → Bool) (bs : Substitution) → Good bs → (vs : List Term) (x : ℕ) (t : Term) (left : ℕ) → lookup bs x ≡ some t → scan test bs vs (var x) left ≡ scan test bs vs t left
 scan-bound test bs good vs x t zero e = refl
 scan-bound test bs good vs x t (suc left) e = ap (λ f. scan-node test f vs left (λ us u. scan test bs us u left)) (walk-some bs good x t e)
@@ -148,16 +137,16 @@ scan-bound test bs good vs x t (suc left) e = ap (λ f. scan-node test f vs left
 pub scan-open : (bs : Substitution) (x left : ℕ) → lookup bs x ≡ none → scan never bs [] (var x) (suc left) ≡ done false left
 scan-open bs x left e = ap (λ f. scan-node never f [] left (λ us u. scan never bs us u left)) (walk-open bs x e)
 
-pub resolves-bound : {ws s : List ℕ} {bs : Substitution} (x : ℕ) → Binds ws s bs → (h : ParameterBound ws s bs x) → Resolves ws s (at s x - 1) (resolve bs (var x))
+pub resolves-bound : {ws s : List ℕ} {bs : Substitution} (x : ℕ) → Binds ws s bs → (h : Binding ws s bs x) → Resolves ws s (at s x - 1) (resolve bs (var x))
 resolves-bound {bs = bs} x b h = record { bindings = bs; term = h .term; follows = record { binds = b; stands = h .stands }; is = sym (resolve-lookup bs (b .good) x (h .term) (h .is)) }
 
 -- the functions over query terms, in the shape of their tests
 module _ {ws s : List ℕ} {bs : Substitution} (x : ℕ) (b : Binds ws s bs) (low : x < 2048) where
-  pub parameter-follows : (n : ¬ (at s x ≡ 0)) → Follows ws s bs (at s x - 1) (parameter-bound x (b .bindings-in) low n .term)
-  parameter-follows n = record { binds = b; stands = parameter-bound x (b .bindings-in) low n .stands }
+  pub parameter-follows : (n : ¬ (at s x ≡ 0)) → Follows ws s bs (at s x - 1) (binding-at x (b .bindings-in) low n .term)
+  parameter-follows n = record { binds = b; stands = binding-at x (b .bindings-in) low n .stands }
 
   pub parameter-resolves : ¬ (at s x ≡ 0) → Resolves ws s (at s x - 1) (resolve bs (var x))
-  parameter-resolves n = resolves-bound x b (parameter-bound x (b .bindings-in) low n)
+  parameter-resolves n = resolves-bound x b (binding-at x (b .bindings-in) low n)
 
   parameter-itself : at s x ≡ 0 → resolve bs (var x) ≡ var x
   parameter-itself z = resolve-open bs x (parameter-open x (b .bindings-in) low z)
@@ -181,6 +170,6 @@ module _ {ws s : List ℕ} {bs : Substitution} (x : ℕ) (b : Binds ws s bs) (lo
   parameter-step zero z n = absurd (n refl)
   parameter-step (suc m) z n = let k : suc m - 1 ≡ m = omega arith in scan-open bs x m (parameter-open x (b .bindings-in) low z) ∙ ap (λ l. done false l) (sym k)
 
-  pub parameter-looked : (steps : ℕ) (r : LookedThrough) (n : ¬ (at s x ≡ 0)) → LookedThroughAs bs (parameter-bound x (b .bindings-in) low n .term) steps r → LookedThroughAs bs (var x) steps r
+  pub parameter-looked : (steps : ℕ) (r : LookedThrough) (n : ¬ (at s x ≡ 0)) → LookedThroughAs bs (binding-at x (b .bindings-in) low n .term) steps r → LookedThroughAs bs (var x) steps r
   unfolding LookedThroughAs
-  parameter-looked steps r n h = let p = parameter-bound x (b .bindings-in) low n in scan-bound never bs (b .good) [] x (p .term) steps (p .is) ∙ h
+  parameter-looked steps r n h = let p = binding-at x (b .bindings-in) low n in scan-bound never bs (b .good) [] x (p .term) steps (p .is) ∙ h

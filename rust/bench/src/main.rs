@@ -1,6 +1,7 @@
 //! `bench DATE FILE`: times the proved engine beside the same engine in plain Rust and beside SWI-Prolog, prints the tables and
-//! writes them to FILE.
+//! writes them to FILE. `bench beside EARLIER` times it beside the engine of an earlier landing, and prints a table.
 
+mod before;
 mod plain;
 mod programs;
 mod prolog;
@@ -39,11 +40,11 @@ struct Bench {
 impl Bench {
     /// Runs both engines once and sees that they agree on everything. The output is cut to what is written, so that clearing its rest
     /// takes no time.
-    fn new(words: Vec<u32>, rounds: u32) -> (Bench, Report) {
+    fn new(words: Vec<u32>, rounds: u32, steps: u32) -> (Bench, Report) {
         let mut bench = Bench {
             words,
             rounds,
-            steps: u32::MAX,
+            steps,
             output: vec![1; 1 << 22],
             scratch: vec![1; SCRATCH_WORDS],
         };
@@ -114,7 +115,7 @@ struct Row {
 
 fn measure(program: &Program, swi: Option<&Path>) -> Row {
     let rules = rules::parse(&program.text);
-    let (mut bench, report) = Bench::new(words::words(&rules), program.rounds);
+    let (mut bench, report) = Bench::new(words::words(&rules), program.rounds, u32::MAX);
     assert!(
         matches!(report.end, Ending::Finished | Ending::Rounds),
         "{}: {report:?}",
@@ -153,19 +154,26 @@ fn median(mut values: Vec<f64>) -> f64 {
 fn run_prolog(folder: &Path, text: &str, answers: u32) -> f64 {
     let file = folder.join("program.pl");
     fs::write(&file, text).expect("the temporary folder can be written");
-    let run = Command::new("swipl")
-        .arg(&file)
-        .output()
-        .expect("swipl can be run");
+    let (counted, seconds) = count_and_seconds(Command::new("swipl").arg(&file));
+    assert_eq!(counted, answers, "the answers of SWI-Prolog");
+    seconds
+}
+
+/// A count and the seconds that something took, which the command prints.
+fn count_and_seconds(command: &mut Command) -> (u32, f64) {
+    let run = command.output().expect("the command can be run");
     let said = String::from_utf8_lossy(&run.stdout);
     let numbers: Vec<&str> = said.split_whitespace().collect();
-    match numbers[..] {
-        [counted, seconds] if counted.parse() == Ok(answers) => seconds.parse().expect("seconds"),
-        _ => panic!(
-            "SWI-Prolog does not give {answers} answers: {said}{}",
-            String::from_utf8_lossy(&run.stderr)
-        ),
+    if let [count, seconds] = numbers[..] {
+        if let (Ok(count), Ok(seconds)) = (count.parse(), seconds.parse()) {
+            return (count, seconds);
+        }
     }
+    panic!(
+        "{:?} says {said}{}",
+        command.get_program(),
+        String::from_utf8_lossy(&run.stderr)
+    )
 }
 
 /// Nanoseconds a step of the proved engine and of the plain one, with a step limit: the mean over as many runs as `STEPS` needs, in
@@ -293,10 +301,19 @@ fn find_swi() -> Option<(PathBuf, String)> {
 
 fn main() {
     let arguments: Vec<String> = std::env::args().skip(1).collect();
-    let [date, file] = &arguments[..] else {
-        eprintln!("usage: bench DATE FILE");
-        exit(2);
-    };
+    let arguments: Vec<&str> = arguments.iter().map(String::as_str).collect();
+    match arguments[..] {
+        ["time", ref numbers @ ..] => before::time(numbers),
+        ["beside", earlier] => print!("{}", before::table(Path::new(earlier))),
+        [date, file] => tables(date, file),
+        _ => {
+            eprintln!("usage: bench DATE FILE, or bench beside EARLIER");
+            exit(2);
+        }
+    }
+}
+
+fn tables(date: &str, file: &str) {
     let swi = find_swi();
     let folder = swi.as_ref().map(|swi| swi.0.as_path());
     let rows: Vec<Row> = programs::compared()

@@ -1,6 +1,7 @@
 //! Programs with limits, on and around the places where a run's end changes.
 
 use crate::gen::{self, pair, part, relation, Rng};
+use crate::read::PROGRAM_WORDS;
 use crate::run::{run, Outcome, ROUND_LIMIT, SCRATCH_WORDS};
 use crate::table;
 use crate::word::*;
@@ -64,7 +65,7 @@ const SMALL: usize = 120;
 const STEPS: u32 = 2_000;
 
 /// How programs are made.
-pub const MADE: [&str; 18] = [
+pub const MADE: [&str; 19] = [
     "program",
     "constraints",
     "damaged",
@@ -82,6 +83,7 @@ pub const MADE: [&str; 18] = [
     "larger damaged",
     "walk of a long list",
     "very long lists",
+    "full length",
     "many rounds",
 ];
 
@@ -123,7 +125,7 @@ fn near_a_bound(rng: &mut Rng, which: usize) -> Case {
 
 /// A case of any size.
 pub fn larger(rng: &mut Rng) -> Case {
-    let (made, words) = match rng.below(20) {
+    let (made, words) = match rng.below(22) {
         0..=5 => ("larger program", gen::accepted(rng)),
         6..=11 => ("program", gen::program(rng)),
         12..=14 => ("larger damaged", gen::damaged(rng)),
@@ -135,6 +137,7 @@ pub fn larger(rng: &mut Rng) -> Case {
             let length = rng.between(1_000, 4_000);
             ("very long lists", lists(rng, length))
         }
+        19..=20 => ("full length", full_length(rng)),
         _ => {
             let case = Case::new("many rounds", many_rounds(rng));
             let rounds = rng.pick(&[ROUND_LIMIT - 1, ROUND_LIMIT, ROUND_LIMIT]);
@@ -437,6 +440,43 @@ fn lists(rng: &mut Rng, length: usize) -> Vec<u32> {
         "5:2 3:0 3:0",
     ])));
     relation(3, 4, part(CONJUNCTION, goals))
+}
+
+/// A program as long as may be, or one word less, that mostly ends in an atom of which there is no other word.
+fn full_length(rng: &mut Rng) -> Vec<u32> {
+    let words = match rng.below(10) {
+        0 => small(rng, gen::program),
+        which => through_a_variable(rng, which < 3),
+    };
+    let mut words = gen::lengthened(&words, PROGRAM_WORDS - rng.below(2));
+    let last = words.len() - 1;
+    let called = words[last - 1] == word(CALL, 1);
+    if !called && rng.chance(80) {
+        words[last] = word(rng.pick(&[SYMBOL, NUMBER]), 9);
+    }
+    words
+}
+
+/// The query's parameter is bound to another of its variables, and the last goal is about that one. It is the query's own, or that
+/// of the last relation, whose one variable is the path's last, the one before, or one too many.
+fn through_a_variable(rng: &mut Rng, alone: bool) -> Vec<u32> {
+    let constraint = rng.pick(&["", "", "6:2 0:0 1:9", "7:1 0:0", "9:2 1:9 0:0"]);
+    let last = rng.pick(&["5:2 0:1 1:9", "5:4 0:1 4:1 3:0 1:9", "6:2 0:1 1:9"]);
+    let goals = |last: &str| {
+        let goals = ["5:2 0:0 0:1", constraint, last].map(table::words);
+        part(CONJUNCTION, goals.concat())
+    };
+    if alone {
+        return relation(1, 2, goals(last));
+    }
+    let holds = table::words("5:2 3:0 3:0");
+    let relations = [
+        relation(1, 255, goals("(12:1 2:1)*7 12:1 2:2 12:2 2:3 0:1")),
+        relation(0, 255, holds.clone()),
+        relation(0, near(rng, 7), holds),
+        relation(1, 1, table::words(&last.replace("0:1", "0:0"))),
+    ];
+    relations.concat()
 }
 
 /// Calls one after the other, as many as the highest round limit, or one more or less.

@@ -2,10 +2,10 @@
 
 use crate::cases::{Case, MADE};
 use crate::listing;
-use crate::read::{read, Refusal};
+use crate::read::{read, Refusal, PROGRAM_WORDS};
 use crate::run::{End, Outcome, ROUND_LIMIT, SCRATCH_WORDS};
 use crate::syntax::{Goal, GoalId, Program, Term, TermId};
-use crate::trace::{Bounded, During, Event};
+use crate::trace::{Bounded, During, Event, LAST_BASES};
 use crate::word::*;
 use std::collections::BTreeSet;
 
@@ -81,6 +81,10 @@ pub fn wanted() -> Vec<String> {
         }
     }
     all.extend(TAG_FAULTS.map(String::from));
+    for length in [PROGRAM_WORDS - 1, PROGRAM_WORDS] {
+        all.push(last_word(length, "the query's own"));
+        all.extend(LAST_BASES.map(|base| last_word(length, &bound_from(base))));
+    }
     all
 }
 
@@ -120,6 +124,7 @@ pub fn covered(case: &Case, result: &Result<Outcome, Refusal>) -> BTreeSet<Strin
             all.extend(bounds(outcome));
             all.extend(events(outcome));
             all.extend(answers(outcome));
+            all.extend(last_word_found(&case.words, outcome));
             let program = read(&case.words).expect("it was run");
             all.extend(syntax(&program));
         }
@@ -160,6 +165,37 @@ fn tag_refused(words: &[u32], refusal: &Refusal) -> Vec<String> {
         _ => return all,
     };
     all.push(fault.to_string());
+    all
+}
+
+fn last_word(length: usize, which: &str) -> String {
+    format!("last word of {length} found through a variable, {which}")
+}
+
+fn bound_from(base: usize) -> String {
+    format!("bound from the environment with base {base}")
+}
+
+/// Of a run with an answer whose query term is the program's last word, an atom that stands nowhere else, and was found through a
+/// variable.
+fn last_word_found(words: &[u32], outcome: &Outcome) -> Vec<String> {
+    let (last, others) = words.split_last().expect("a program has words");
+    let long = words.len() + 1 >= PROGRAM_WORDS;
+    let alone = kind(*last) != VARIABLE && !others.contains(last);
+    let events = &outcome.trace.events;
+    let found = events.contains(&Event::Followed(*last)) && outcome.words.contains(last);
+    if !(long && alone && found) {
+        return Vec::new();
+    }
+    let mut all = Vec::new();
+    if payload(words[0]) as usize == others.len() {
+        all.push(last_word(words.len(), "the query's own"));
+    }
+    for base in LAST_BASES {
+        if events.contains(&Event::BoundFrom(base, *last)) {
+            all.push(last_word(words.len(), &bound_from(base)));
+        }
+    }
     all
 }
 
@@ -270,6 +306,8 @@ fn stopped(during: During, steps: bool) -> String {
 fn events(outcome: &Outcome) -> impl Iterator<Item = String> + '_ {
     outcome.trace.events.iter().map(|event| match event {
         Event::OccursCheckFailed => "occurs check failed".to_string(),
+        Event::BoundFrom(base, _) => format!("atom {}", bound_from(*base)),
+        Event::Followed(_) => "query term found through a variable".to_string(),
         Event::FailedWhenTaken(kind) => format!("kind {kind} failed when taken"),
         Event::FailedLater(kind) => format!("kind {kind} failed after an equality"),
         Event::TypesMet => "types met".to_string(),

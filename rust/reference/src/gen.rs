@@ -81,10 +81,39 @@ pub fn first_parts(depth: u32) -> Vec<u32> {
 
 /// A list of so many symbols.
 pub fn list(length: usize) -> Vec<u32> {
-    let mut goal = vec![word(7, 2 * length as u32 + 1)];
-    goal.extend([word(4, 1), word(1, 7)].repeat(length));
-    goal.push(word(3, 0));
-    relation(0, 0, goal)
+    relation(0, 0, part(SYMBOLO, list_term(length)))
+}
+
+fn list_term(length: usize) -> Vec<u32> {
+    let mut term = [word(PAIR, 1), word(SYMBOL, 7)].repeat(length);
+    term.push(word(EMPTY, 0));
+    term
+}
+
+/// The well-formed program brought to so many words, the last of them its own: its last relation's goal comes behind an
+/// alternative that fails at once.
+pub fn lengthened(words: &[u32], length: usize) -> Vec<u32> {
+    let behind = |at: usize| at + 1 + payload(words[at]) as usize;
+    let mut last = 0;
+    while behind(last) < words.len() {
+        last = behind(last);
+    }
+    let (before, goal) = (&words[..last], &words[last + 3..]);
+    let fails = failing_goal(length - words.len() - 1);
+    let [parameters, variables] = [1, 2].map(|at| payload(words[last + at]) as usize);
+    let goal = part(DISJUNCTION, [&fails, goal].concat());
+    [before, &relation(parameters, variables, goal)].concat()
+}
+
+/// A goal of so many words, four or more: a list is no symbol, and not the empty list.
+fn failing_goal(length: usize) -> Vec<u32> {
+    // A term has an odd number of words.
+    let (kind, mut terms) = match length % 2 {
+        0 => (SYMBOLO, Vec::new()),
+        _ => (EQUAL, vec![word(EMPTY, 0)]),
+    };
+    terms.extend(list_term((length - 2 - terms.len()) / 2));
+    part(kind, terms)
 }
 
 /// A small well-formed program: several relations, recursion, all kinds of goals.

@@ -131,6 +131,17 @@ enum Value {
     },
 }
 
+impl Value {
+    fn atom_word(self) -> Option<u32> {
+        match self {
+            Value::Symbol(payload) => Some(word(SYMBOL, payload)),
+            Value::Number(payload) => Some(word(NUMBER, payload)),
+            Value::Empty => Some(word(EMPTY, 0)),
+            Value::Variable(_) | Value::Pair { .. } => None,
+        }
+    }
+}
+
 /// What each variable of a path is bound to.
 #[derive(Clone)]
 struct Substitution(Vec<Option<Value>>);
@@ -321,7 +332,11 @@ impl Search<'_> {
                     None => return Ok(Taken::Failed),
                     Some(bound) if bound.is_empty() => (),
                     Some(_) if self.has(Fault::TestedOnlyWhenTaken) => (),
-                    Some(_) => {
+                    Some(bound) => {
+                        let values = bound.iter().map(|&variable| path.substitution.0[variable]);
+                        for atom in values.flatten().filter_map(Value::atom_word) {
+                            self.trace.bound(base, atom);
+                        }
                         for &constraint in &path.constraints {
                             if !self.review(constraint, &path)? {
                                 let kind = self.program[constraint.goal].kind();
@@ -584,6 +599,9 @@ impl Search<'_> {
                 names.give(node);
             }
             let words = names.words(&nodes).expect("all have names");
+            if let Some(Value::Variable(_)) = path.substitution.0[parameter] {
+                self.trace.note(Event::Followed(words[0]));
+            }
             inside.extend(words);
         }
         // With this fault a disequality may name what no query term has.
@@ -734,10 +752,8 @@ impl Names {
         for (node, first_size) in nodes.iter().zip(first_sizes) {
             words.push(match *node {
                 Value::Variable(variable) => word(VARIABLE, self.0[variable]?),
-                Value::Symbol(payload) => word(SYMBOL, payload),
-                Value::Number(payload) => word(NUMBER, payload),
-                Value::Empty => word(EMPTY, 0),
                 Value::Pair { .. } => word(PAIR, first_size),
+                atom => atom.atom_word()?,
             });
         }
         Some(words)

@@ -3,10 +3,17 @@
 use crate::run::{CONSTRAINTS, DISJUNCTIONS, GOALS, VARIABLES, WAITING};
 use std::collections::BTreeSet;
 
+/// The bases of the last two environments in which a variable can be bound.
+pub const LAST_BASES: [usize; 2] = [VARIABLES - 2, VARIABLES - 1];
+
 #[derive(Clone, Copy, Debug, PartialEq, Eq, PartialOrd, Ord)]
 pub enum Event {
     /// In an equality or a trial.
     OccursCheckFailed,
+    /// An equality in the environment with this base, one of the last two, bound a variable to this atom.
+    BoundFrom(usize, u32),
+    /// A query term that begins with this word was found through a variable that its parameter is bound to.
+    Followed(u32),
     /// A constraint of this kind failed when it was taken.
     FailedWhenTaken(u32),
     /// A constraint of this kind failed after a later equality.
@@ -87,6 +94,13 @@ pub struct Trace {
 impl Trace {
     pub fn note(&mut self, event: Event) {
         self.events.insert(event);
+    }
+
+    /// An equality in an environment bound a variable to an atom.
+    pub fn bound(&mut self, base: usize, atom: u32) {
+        if LAST_BASES.contains(&base) {
+            self.note(Event::BoundFrom(base, atom));
+        }
     }
 
     pub fn reach(&mut self, what: Bounded, count: usize) {

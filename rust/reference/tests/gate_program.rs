@@ -95,9 +95,16 @@ impl Runs {
 #[test]
 fn runs_input_and_output_are_those_of_the_tables() {
     let mut made = Runs::default();
+    let mut last_words = 0;
     for row in runs() {
         made.add(&row.case, &row.expected);
+        let (last, others) = row.case.words.split_last().unwrap_or((&0, &[]));
+        last_words += usize::from(others.len() == 16_383 && !others.contains(last));
     }
+    assert_eq!(
+        last_words, 2,
+        "rows of 16,384 words with a last one that stands nowhere else"
+    );
     for decision in decisions() {
         made.add(&decision.case, &listing(&decision.case.run()));
     }

@@ -53,16 +53,17 @@ pub struct Walked {
     pub payload: u32,
 }
 
-// The term, followed through the bindings: up to an atom, a pair or an open variable.
+// The term, followed through the bindings: up to an atom, a pair or an open variable. The position is held in sixteen bits (document 02, Note 4), apart from its base: the last of a program is 16,383.
 pub(crate) fn walk(program: &[u32], scratch: &[u32], term: u32) -> Walked
     requires { ⌜ ((bs : Substitution) × (t : Term) × Follows (now program) (now scratch) bs term t) ⌝ }
     ensures { λ r. ⌜ WalkedTo (now (program .entry)) (now (scratch .entry)) term r ⌝ }
 {
-    let mut at = term;
+    let mut position = (term % POSITIONS) as u16;
+    let mut base = term / POSITIONS;
     loop {
-        let part = part_at(program, at);
+        let part = part_at(program, position as u32);
         let here = Walked {
-            at,
+            at: position as u32 + POSITIONS * base,
             bits: part.bits,
             kind: part.kind,
             payload: part.payload,
@@ -70,11 +71,12 @@ pub(crate) fn walk(program: &[u32], scratch: &[u32], term: u32) -> Walked
         if part.kind != Word::VARIABLE {
             return here;
         }
-        let entry = scratch[variable_at(at, part.payload) as usize];
+        let entry = scratch[(base + part.payload) as usize];
         if entry == 0 {
             return here;
         }
-        at = entry - 1;
+        position = ((entry - 1) % POSITIONS) as u16;
+        base = (entry - 1) / POSITIONS;
     }
 }
 

@@ -1,53 +1,70 @@
 -- `walk` follows a reference as the definition does: the invariant is that what is left to follow comes to the same term.
-use mathlib.Core.Path.{_≡_, refl, _∙_, subst, sym}
 use native.Mathlib.Omega.{arith}
-use Rattle.rules.specs.Syntax.{Term}
-use Rattle.semantics.specs.Substitution.{Substitution, walk}
-use Rattle.engine.specs.Reference.{Stands}
-use Rattle.engine.specs.Walk.{Follows}
-use Rattle.engine.proofs.ReferenceLaws.{stands-inside}
-use Rattle.engine.proofs.WalkLaws.{hops, walk-node, walk-variable, walk-free, walk-hop}
+use Rattle.engine.specs.Reference.{refer}
+use Rattle.engine.proofs.WalkLaws.{hops}
+use Rattle.engine.proofs.WalkLoop.{Walking, walking-starts, walking-inside, walking-below, walking-variable, walking-node, walking-open, walking-on, walking-falls}
 use Rattle.engine.proofs.terms.walk.walk.Statement.{statement}
 use Rattle.engine.proofs.terms.walk.walk.Tie as tie
 
 abbrev Inv-loop : tie.InvT-loop
-Inv-loop program scratch term at₀ at = (bs : Substitution) (t : Term) → Follows program scratch bs term t → (u : Term) × Follows program scratch bs at u × (walk bs t ≡ walk bs u)
+Inv-loop program scratch term position₀ base₀ position base = Walking program scratch term position base
 
 abbrev μ-loop : tie.MeasureT-loop
-μ-loop program scratch term at₀ at = hops 2048 program scratch at
+μ-loop program scratch term position₀ base₀ position base = hops 2048 program scratch (refer position base)
+
+cast-position : tie.Need-cast-position Inv-loop μ-loop
+cast-position c = omega arith
 
 loop-holds : tie.Need-loop-holds Inv-loop μ-loop
-loop-holds c = λ bs t f. (t, f, refl)
+loop-holds c = walking-starts _ _ _
+
+cast-part-at : tie.Need-cast-part-at Inv-loop μ-loop
+cast-part-at c = omega (arith, c .loop .inv .low)
 
 part-at-requires : tie.Need-part-at-requires Inv-loop μ-loop
-part-at-requires c κs = stands-inside (c .loop .inv (c .before .before .before .pre .0) (c .before .before .before .pre .1) (c .before .before .before .pre .2) .1 .stands)
+part-at-requires c κs = walking-inside (c .loop .inv) (c .before .before .before .pre)
+
+cast-position-2 : tie.Need-cast-position-2 Inv-loop μ-loop
+cast-position-2 c = omega (arith, c .before .loop .inv .low)
+
+mul-position : tie.Need-mul-position Inv-loop μ-loop
+mul-position c = omega (arith, walking-below (c .before .loop .inv) (c .before .before .before .before .pre))
+
+add-position : tie.Need-add-position Inv-loop μ-loop
+add-position c = omega (arith, walking-below (c .before .loop .inv) (c .before .before .before .before .pre))
 
 returns : tie.Need-returns Inv-loop μ-loop
-returns c = record { node = c .before .before .part-at .ensures; stands = λ bs t f. let q = c .before .before .before .loop .inv bs t f in subst (Stands _ _) (sym (q .2)) (walk-node (q .1) (c .before .before .part-at .ensures) (c .if1 .taken)) }
+returns c = walking-node (c .before .before .before .loop .inv) (c .before .before .part-at .ensures) (c .if1 .taken)
 
-variable-at-requires : tie.Need-variable-at-requires Inv-loop μ-loop
-variable-at-requires c κs = omega (arith, walk-variable (c .before .before .before .loop .inv (c .before .before .before .before .before .before .pre .0) (c .before .before .before .before .before .before .pre .1) (c .before .before .before .before .before .before .pre .2) .1) (c .before .before .part-at .ensures) (c .if1 .left))
+add-entry : tie.Need-add-entry Inv-loop μ-loop
+add-entry c = omega (arith, walking-variable (c .before .before .before .before .loop .inv) (c .before .before .before .part-at .ensures) (c .before .before .before .before .before .before .before .pre) (c .before .if1 .left))
 
 cast-entry : tie.Need-cast-entry Inv-loop μ-loop
-cast-entry c = omega (arith, c .variable-at .ensures, walk-variable (c .before .before .before .before .loop .inv (c .before .before .before .before .before .before .before .pre .0) (c .before .before .before .before .before .before .before .pre .1) (c .before .before .before .before .before .before .before .pre .2) .1) (c .before .before .before .part-at .ensures) (c .before .if1 .left))
+cast-entry c = omega (arith, walking-variable (c .before .before .before .before .loop .inv) (c .before .before .before .part-at .ensures) (c .before .before .before .before .before .before .before .pre) (c .before .if1 .left))
 
 mul-entry : tie.Need-mul-entry Inv-loop μ-loop
-mul-entry c = omega (arith, c .variable-at .ensures, walk-variable (c .before .before .before .before .loop .inv (c .before .before .before .before .before .before .before .pre .0) (c .before .before .before .before .before .before .before .pre .1) (c .before .before .before .before .before .before .before .pre .2) .1) (c .before .before .before .part-at .ensures) (c .before .if1 .left))
+mul-entry c = omega (arith, walking-variable (c .before .before .before .before .loop .inv) (c .before .before .before .part-at .ensures) (c .before .before .before .before .before .before .before .pre) (c .before .if1 .left))
 
 shared-slice-read-entry : tie.Need-shared-slice-read-entry Inv-loop μ-loop
-shared-slice-read-entry c = let f = c .before .before .before .before .before .loop .inv (c .before .before .before .before .before .before .before .before .pre .0) (c .before .before .before .before .before .before .before .before .pre .1) (c .before .before .before .before .before .before .before .before .pre .2) .1 in omega (arith, c .before .variable-at .ensures, walk-variable f (c .before .before .before .before .part-at .ensures) (c .before .before .if1 .left), f .binds .long)
+shared-slice-read-entry c = omega (arith, walking-variable (c .before .before .before .before .before .loop .inv) (c .before .before .before .before .part-at .ensures) (c .before .before .before .before .before .before .before .before .pre) (c .before .before .if1 .left), c .before .before .before .before .before .before .before .before .pre .2 .binds .long)
 
 returns-2 : tie.Need-returns-2 Inv-loop μ-loop
-returns-2 c = record { node = c .before .before .before .before .before .part-at .ensures; stands = λ bs t f. let q = c .before .before .before .before .before .before .loop .inv bs t f in subst (Stands _ _) (sym (q .2)) (walk-free (q .1) (c .before .before .before .before .before .part-at .ensures) (c .before .before .variable-at .ensures) (c .before .before .before .if1 .left) (c .if2 .taken)) }
+returns-2 c = walking-open (c .before .before .before .before .before .before .loop .inv) (c .before .before .before .before .before .part-at .ensures) (c .before .before .before .if1 .left) (c .if2 .taken)
 
-sub-at : tie.Need-sub-at Inv-loop μ-loop
-sub-at c = omega (arith, c .if2 .left)
+sub-position : tie.Need-sub-position Inv-loop μ-loop
+sub-position c = omega (arith, c .if2 .left)
+
+cast-position-3 : tie.Need-cast-position-3 Inv-loop μ-loop
+cast-position-3 c = omega arith
+
+sub-base : tie.Need-sub-base Inv-loop μ-loop
+sub-base c = omega (arith, c .if2 .left)
 
 loop-less : tie.Need-loop-less Inv-loop μ-loop
-loop-less c = walk-hop (c .before .before .before .before .before .before .loop .inv (c .before .before .before .before .before .before .before .before .before .pre .0) (c .before .before .before .before .before .before .before .before .before .pre .1) (c .before .before .before .before .before .before .before .before .before .pre .2) .1) (c .before .before .before .before .before .part-at .ensures) (c .before .before .variable-at .ensures) (c .before .before .before .if1 .left) (c .if2 .left) .falls
+loop-less c = walking-falls (c .before .before .before .before .before .before .loop .inv) (c .before .before .before .before .before .part-at .ensures) (c .before .before .before .if1 .left) (c .if2 .left) (c .before .before .before .before .before .before .before .before .before .pre)
 
 loop-again : tie.Need-loop-again Inv-loop μ-loop
-loop-again c = λ bs t f. let q = c .before .before .before .before .before .before .loop .inv bs t f in let h = walk-hop (q .1) (c .before .before .before .before .before .part-at .ensures) (c .before .before .variable-at .ensures) (c .before .before .before .if1 .left) (c .if2 .left) in (h .next, h .follows, q .2 ∙ h .same-walk)
+loop-again c = walking-on (c .before .before .before .before .before .before .loop .inv) (c .before .before .before .before .before .part-at .ensures) (c .before .before .before .if1 .left) (c .if2 .left)
 
 pub walk-spec : {M : Type 1} → statement M
 walk-spec =
@@ -55,14 +72,21 @@ walk-spec =
     (tie.spec
     Inv-loop
     μ-loop
+    cast-position
     loop-holds
+    cast-part-at
     part-at-requires
+    cast-position-2
+    mul-position
+    add-position
     returns
-    variable-at-requires
+    add-entry
     cast-entry
     mul-entry
     shared-slice-read-entry
     returns-2
-    sub-at
+    sub-position
+    cast-position-3
+    sub-base
     loop-less
     loop-again)

@@ -10,17 +10,26 @@ use Rattle.rules.specs.Syntax.{Program, Relation}
 use Rattle.rules.specs.WellFormed.{WrittenForm}
 use Rattle.semantics.specs.Demand.{Demand1, Demand2, Demand3}
 use Rattle.semantics.specs.Path.{Passing, as-written}
-use Rattle.semantics.specs.Round.{Answer, End, Result}
+use Rattle.semantics.specs.Round.{Answer, End, Result, finished, rounds-used}
 use Rattle.semantics.specs.Run.{Report, answers-on, page, ran, refusal, usable}
-use Rattle.semantics.specs.Situation.{Situation}
+use Rattle.semantics.specs.Situation.{LastCut, RoundCut, Situation}
 
--- A result is that of the last round that the run came to: it names the end in whose situation the run is there, with the answers, steps and words as counted there.
+-- A result is that of the last round that the run came to: it names the end in whose situation the run is there, with the answers, steps and words as counted there, and tells how many
+-- branches the last completed round cut.
 pub record EndRight (pass : Passing) (P : Program) (R : Relation) (limit round-limit total : ℕ) (r : Result) : Type 0 where
   pub situation : Situation pass P R limit round-limit total (r .end)
   pub round-is : r .round ≡ situation .round
   pub answers-are : r .answers ≡ situation .tally .written
   pub steps-are : r .steps + situation .tally .left ≡ limit
   pub words-are : length (page (r .answers)) + situation .tally .room ≡ total
+  pub cut-is : LastCut pass P R limit round-limit total (r .cut)
+
+-- Document 02, Note 7: "Finished then means a completed round and 0." The two ends that a completed round has, told of that round and its number alone.
+pub record CutTells (pass : Passing) (P : Program) (R : Relation) (limit round-limit total : ℕ) (r : Result) : Type 0 where
+  -- finished: the last round of the run was completed and cut no branch
+  pub finished-means : (r .end ≡ finished) ↔ (RoundCut pass P R limit round-limit total (r .round) (r .cut) × (r .cut ≡ 0))
+  -- rounds used up: the round of the limit was completed and cut some
+  pub rounds-used-means : (r .end ≡ rounds-used) ↔ (RoundCut pass P R limit round-limit total round-limit (r .cut) × (0 < r .cut))
 
 -- the output after a run: the answers on it are those of the result, and it keeps its length
 pub record OnPage (output after : List ℕ) (r : Result) : Type 0 where
@@ -40,6 +49,7 @@ pub record Promised (words : List ℕ) (round-limit step-limit : ℕ) (output af
   pub ends : EndRight as-written program query step-limit round-limit (usable (length output)) r
   -- "Each is reported in just that situation."
   pub just : (e : End) → (r .end ≡ e) ↔ Situation as-written program query step-limit round-limit (usable (length output)) e
+  pub cut-tells : CutTells as-written program query step-limit round-limit (usable (length output)) r
   pub on-output : OnPage output after r
 
 -- What becomes of the lent words. Refused: "output and scratch stay as lent". Else "scratch is all 0 and output beyond the last whole answer is 0 to its end", but

@@ -85,7 +85,7 @@ fn meaning(limits: Limits, report: Report) -> String {
         }
         Ending::Rounds => (
             format!(
-                "some branches take more than {}, the round limit",
+                "the round limit, {}, was used up",
                 counted(round, "call")
             ),
             raise("--rounds", limits.rounds.into(), u8::MAX.into()),
@@ -116,15 +116,24 @@ fn meaning(limits: Limits, report: Report) -> String {
                 .to_string()
         }
         (Some(round), 0) => format!(
-            "The rules give nothing with at most {}; what takes more may be missing.",
-            counted(round, "call")
+            "The rules give nothing with at most {}; what takes more may be missing: {}.",
+            counted(round, "call"),
+            left_open(report.cut)
         ),
         (Some(round), _) => format!(
-            "Every answer is right, and all that the rules give with at most {} is shown; what takes more may be missing.",
-            counted(round, "call")
+            "Every answer is right, and all that the rules give with at most {} is shown; what takes more may be missing: {}.",
+            counted(round, "call"),
+            left_open(report.cut)
         ),
     };
     format!("The list may be incomplete: {reason}.\n{known}\n{advice}")
+}
+
+fn left_open(branches: u32) -> String {
+    match branches {
+        1 => "1 branch was left open".to_string(),
+        _ => format!("{branches} branches were left open"),
+    }
 }
 
 fn raise(option: &str, limit: usize, most: usize) -> String {

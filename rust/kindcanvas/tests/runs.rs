@@ -70,6 +70,7 @@ fn report(outcome: &Outcome) -> Report {
         steps: outcome.steps,
         answers: outcome.answers as u32,
         words: outcome.words.len(),
+        cut: outcome.cut,
     }
 }
 
@@ -222,6 +223,22 @@ fn differences_are_found_and_made_small() {
         }
         result
     };
+    // The cuts of the last round begun, be it completed or broken off.
+    let cuts_when_broken = |case: &Case| {
+        let mut result = case.run();
+        if let Ok(outcome) = &mut result {
+            outcome.cut = *outcome.trace.cuts.last().expect("a round was begun");
+        }
+        result
+    };
+    // The cuts of all completed rounds.
+    let cuts_added_up = |case: &Case| {
+        let mut result = case.run();
+        if let Ok(outcome) = &mut result {
+            outcome.cut = outcome.completed_cuts().iter().sum();
+        }
+        result
+    };
     // Condition 3 at the next word.
     let misplaced = |case: &Case| {
         case.run().map_err(|refusal| reference::Refusal {
@@ -233,6 +250,8 @@ fn differences_are_found_and_made_small() {
     // run that shows it only after a call stays longer. Of refused words any are cut.
     made_small("late absence", late_absence, 10, 30);
     made_small("no second answer", no_second_answer, 10, 20);
+    made_small("cuts when broken", cuts_when_broken, 5, 20);
+    made_small("cuts added up", cuts_added_up, 5, 20);
     made_small("misplaced", misplaced, 1, 1);
 }
 

@@ -84,10 +84,7 @@ fn meaning(limits: Limits, report: Report) -> String {
                 .to_string()
         }
         Ending::Rounds => (
-            format!(
-                "the round limit, {}, was used up",
-                counted(round, "call")
-            ),
+            format!("the round limit, {}, was used up", counted(round, "call")),
             raise("--rounds", limits.rounds.into(), u8::MAX.into()),
         ),
         Ending::Steps => (

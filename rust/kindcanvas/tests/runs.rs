@@ -251,7 +251,7 @@ fn differences_are_found_and_made_small() {
     made_small("late absence", late_absence, 10, 30);
     made_small("no second answer", no_second_answer, 10, 20);
     made_small("cuts when broken", cuts_when_broken, 5, 20);
-    made_small("cuts added up", cuts_added_up, 5, 20);
+    made_small("cuts added up", cuts_added_up, 11, 20);
     made_small("misplaced", misplaced, 1, 1);
 }
 

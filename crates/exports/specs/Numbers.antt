@@ -18,8 +18,7 @@ packed yes-said = 0
 packed (no-said c p) = c * 4294967296 + p
 
 -- A report is eight numbers: how the call ended (0 to 4 in the order of document 01, "How a run ends", 5 if refused), which bound of a path (1 to 5 as "Bounds" lists them) or the
--- refusal's number, the refusal's place, round, steps, answers, words, and the branches cut in the
--- last completed round. What does not apply is 0.
+-- refusal's number, the refusal's place, round, steps, answers, words, the branches cut in the last completed round. What does not apply is 0.
 abbrev pub end-numbers : Ended → List ℕ
 end-numbers (ran round.finished) = 0 ∷ 0 ∷ 0 ∷ []
 end-numbers (ran round.rounds-used) = 1 ∷ 0 ∷ 0 ∷ []

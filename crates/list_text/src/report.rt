@@ -10,7 +10,7 @@ ghost use Rattle.engine.specs.Report.{end-says, refused};
 ghost use Rattle.list_text.specs.Listing.{codes, counts-text, decimal, first-line};
 ghost use Rattle.list_text.specs.Writing.{Wrote};
 
-// A count behind its name. It takes at most 10 bytes.
+// A count, which takes at most 10 bytes, behind its name.
 fn put_count(name: &[u8], count: u32, at: usize, out: &mut [u8]) -> usize
     requires { ⌜ at + length (now name) + 10 ≤ 65536 ⌝ }
     ensures { λ r. ⌜ Wrote (now (name .entry) ++ decimal count) at (now (out .entry)) r (now (out .exit)) × (r ≤ at + length (now (name .entry)) + 10) ⌝ }

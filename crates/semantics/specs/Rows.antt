@@ -107,7 +107,11 @@ one-call = part 13 (word 2 1 ∷ word 2 1 ∷ word 12 2 ∷ word 2 1 ∷ word 0 
 abbrev pub doubling : List ℕ
 doubling = query (word 12 1 ∷ word 2 1 ∷ []) ++ part 13 (word 2 0 ∷ word 2 0 ∷ part 11 (word 12 1 ∷ word 2 1 ∷ word 12 1 ∷ word 2 1 ∷ []))
 
--- the same with a third alternative, in which its parameter is 5
+-- the same with 255 variables: in round 9 the ninth call has no room for them
+abbrev pub doubling-variables : List ℕ
+doubling-variables = query (word 12 1 ∷ word 2 1 ∷ []) ++ part 13 (word 2 0 ∷ word 2 255 ∷ part 11 (word 12 1 ∷ word 2 1 ∷ word 12 1 ∷ word 2 1 ∷ []))
+
+-- `doubling` with a third alternative, in which the relation's parameter is 5
 abbrev pub doubling-five : List ℕ
 doubling-five =
     part 13 (word 2 1 ∷ word 2 1 ∷ word 12 2 ∷ word 2 1 ∷ word 0 0 ∷ [])
@@ -225,6 +229,7 @@ rows =
     ∷ row one-call 16 1000000 4096 finished 1 6 ((1, seven) ∷ []) 0
     ∷ row doubling 3 1000000 4096 rounds-used 3 37 [] 8
     ∷ row doubling 16 25 4096 steps-used 3 25 [] 4
+    ∷ row doubling-variables 16 1000000 4096 (path-limit bound.variables) 9 1531 [] 256
     ∷ row doubling-five 16 1000000 5 output-full 2 27 ((1, five) ∷ (2, five) ∷ []) 2
     ∷ row P 16 1000000 4096 (path-limit bound.variables) 8 43 [] 1
     ∷ row (Q 8) 16 1000000 4096 (path-limit bound.variables) 9 53 [] 1

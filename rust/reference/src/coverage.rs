@@ -82,6 +82,11 @@ pub fn wanted() -> Vec<String> {
     }
     all.extend(TAG_FAULTS.map(String::from));
     all.extend(CUTS.map(String::from));
+    all.extend(
+        ["steps", "output", "path"]
+            .into_iter()
+            .flat_map(broken_cuts),
+    );
     for length in [PROGRAM_WORDS - 1, PROGRAM_WORDS] {
         all.push(last_word(length, "the query's own"));
         all.extend(LAST_BASES.map(|base| last_word(length, &bound_from(base))));
@@ -125,7 +130,7 @@ pub fn covered(case: &Case, result: &Result<Outcome, Refusal>) -> BTreeSet<Strin
             all.extend(bounds(outcome));
             all.extend(events(outcome));
             all.extend(answers(outcome));
-            all.extend(cuts(outcome).map(String::from));
+            all.extend(cuts(outcome));
             all.extend(last_word_found(&case.words, outcome));
             let program = read(&case.words).expect("it was run");
             all.extend(syntax(&program));
@@ -275,26 +280,30 @@ fn limits(case: &Case, outcome: &Outcome) -> Vec<&'static str> {
     holding.map(|(_, name)| name).collect()
 }
 
-/// What the number of branches cut has to be told of.
-const CUTS: [&str; 11] = [
+/// The cases of the number of branches cut, but for those of a run that broke off.
+const CUTS: [&str; 6] = [
     "cut: 0, finished in round 0",
     "cut: 0, finished after a round that cut some",
     "cut: 1, rounds used up",
     "cut: several, rounds used up",
     "cut: fewer than in the round before it",
-    "cut: 0, broken off in round 0, which had cut some",
-    "cut: that of the round before, end steps",
-    "cut: that of the round before, end output",
-    "cut: that of the round before, end path",
-    "cut: that of the round before, and the broken one had cut others",
     "cut: not that of all completed rounds together",
 ];
 
-fn cuts(outcome: &Outcome) -> impl Iterator<Item = &'static str> {
+/// Those of a run that broke off, by the first word of its end.
+fn broken_cuts(end: &str) -> [String; 4] {
+    [
+        "0, broken off in round 0, which had cut some",
+        "1, that of the round before",
+        "several, those of the round before",
+        "not that of the broken round, which had cut some",
+    ]
+    .map(|what| format!("cut: {what}, end {end}"))
+}
+
+fn cuts(outcome: &Outcome) -> Vec<String> {
     let (end, cut) = (outcome.end, outcome.cut);
     let (last, earlier) = outcome.trace.cuts.split_last().expect("a round was begun");
-    let broken = outcome.broken();
-    let before = broken && outcome.round > 0;
     let together: u32 = outcome.completed_cuts().iter().sum();
     let facts = [
         end == End::Finished && outcome.round == 0,
@@ -302,15 +311,26 @@ fn cuts(outcome: &Outcome) -> impl Iterator<Item = &'static str> {
         end == End::Rounds && cut == 1,
         end == End::Rounds && cut > 1,
         end == End::Rounds && earlier.last().is_some_and(|&earlier| cut < earlier),
-        broken && !before && *last > 0,
-        before && end == End::Steps,
-        before && end == End::Output,
-        before && matches!(end, End::Path(_)),
-        before && *last > 0 && *last != cut,
         cut != together,
     ];
     let named = facts.into_iter().zip(CUTS);
-    named.filter(|(holds, _)| *holds).map(|(_, name)| name)
+    let mut all: Vec<String> = named
+        .filter(|(holds, _)| *holds)
+        .map(|(_, name)| name.to_string())
+        .collect();
+    if outcome.broken() {
+        let facts = [
+            outcome.round == 0 && *last > 0,
+            cut == 1,
+            cut > 1,
+            outcome.round > 0 && *last > 0 && *last != cut,
+        ];
+        let end = listing::end(end);
+        let names = broken_cuts(end.split(' ').next().unwrap_or(&end));
+        let named = facts.into_iter().zip(names);
+        all.extend(named.filter(|(holds, _)| *holds).map(|(_, name)| name));
+    }
+    all
 }
 
 /// How near the run came to each bound on a path.

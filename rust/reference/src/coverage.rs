@@ -139,15 +139,18 @@ pub fn covered(case: &Case, result: &Result<Outcome, Refusal>) -> BTreeSet<Strin
     all
 }
 
+/// The names of those facts that hold.
+fn holding<T>(facts: impl IntoIterator<Item = (bool, T)>) -> impl Iterator<Item = T> {
+    let holding = facts.into_iter().filter(|(holds, _)| *holds);
+    holding.map(|(_, name)| name)
+}
+
 /// Of a case refused by 9.
 fn settings(case: &Case) -> impl Iterator<Item = &'static str> {
-    let all = [
+    holding([
         (case.rounds == ROUND_LIMIT + 1, "round limit: 256"),
         (case.scratch == SCRATCH_WORDS - 1, "scratch: one word short"),
-    ];
-    all.into_iter()
-        .filter(|(holds, _)| *holds)
-        .map(|(_, name)| name)
+    ])
 }
 
 /// Of a case refused by 2 at a tag's place. What stands before a fault has been read, so a word of kind 9 there is an absento's.
@@ -276,8 +279,7 @@ fn limits(case: &Case, outcome: &Outcome) -> Vec<&'static str> {
             "round limit: one too low",
         ),
     ];
-    let holding = facts.into_iter().filter(|(holds, _)| *holds);
-    holding.map(|(_, name)| name).collect()
+    holding(facts).collect()
 }
 
 /// The cases of the number of branches cut, but for those of a run that broke off.
@@ -314,10 +316,7 @@ fn cuts(outcome: &Outcome) -> Vec<String> {
         cut != together,
     ];
     let named = facts.into_iter().zip(CUTS);
-    let mut all: Vec<String> = named
-        .filter(|(holds, _)| *holds)
-        .map(|(_, name)| name.to_string())
-        .collect();
+    let mut all: Vec<String> = holding(named).map(String::from).collect();
     if outcome.broken() {
         let facts = [
             outcome.round == 0 && *last > 0,
@@ -327,8 +326,7 @@ fn cuts(outcome: &Outcome) -> Vec<String> {
         ];
         let end = listing::end(end);
         let names = broken_cuts(end.split(' ').next().unwrap_or(&end));
-        let named = facts.into_iter().zip(names);
-        all.extend(named.filter(|(holds, _)| *holds).map(|(_, name)| name));
+        all.extend(holding(facts.into_iter().zip(names)));
     }
     all
 }

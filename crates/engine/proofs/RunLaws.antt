@@ -58,7 +58,7 @@ module _ (words : List ℕ) (round-limit step-limit : ℕ) (output scratch : Lis
   unfolding comes-to
   kept-refusal c p r t e =
       let z : run words round-limit step-limit output scratch ≡ leave (refusal c p) output scratch = ap (λ x. leave x output scratch) e in
-      kept-said r output scratch (rw z (record { is-end = ap end-says (t .is-end); is-round = t .is-round; is-steps = t .is-steps; is-answers = t .is-answers; is-words = t .is-words; is-output = refl; is-scratch = refl }))
+      kept-said r output scratch (rw z (record { is-end = ap end-says (t .is-end); is-round = t .is-round; is-steps = t .is-steps; is-answers = t .is-answers; is-words = t .is-words; is-cut = t .is-cut; is-output = refl; is-scratch = refl }))
 
   pub settings-refused : (r : code.Report) → RefusalReport 9 0 r → settings-good round-limit (length scratch) ≡ false → RunPromise words round-limit step-limit output scratch r output scratch
   unfolding comes-to
@@ -85,6 +85,7 @@ module _ (words : List ℕ) (round-limit step-limit : ℕ) (output scratch : Lis
         is-steps = t .is-steps;
         is-answers = t .is-answers;
         is-words = t .is-words;
+        is-cut = t .is-cut;
         is-output = t .is-output;
         is-scratch = ap (λ s. s ++ drop scratch-words scratch) (t .is-scratch);
       }))
@@ -97,12 +98,12 @@ module _ (words : List ℕ) (round-limit step-limit : ℕ) (output scratch : Lis
     is-query : getElem? (a .program) 0 ≡ some query-of
     is-query = ap (λ (P : Program). getElem? P 0) (accepted-query words (a .program) (a .is-read) .2)
 
-    comes-to-run : comes-to ≡ ran (rounds step-limit (a .program) query-of round-limit 0 (usable (length output)) step-limit [])
+    comes-to-run : comes-to ≡ ran (rounds step-limit (a .program) query-of round-limit 0 (usable (length output)) step-limit 0 [])
     unfolding comes-to
     comes-to-run =
         let q = accepted-query words (a .program) (a .is-read) in
         rw (within-good round-limit (length scratch) (a .few-rounds) (omega (arith, a .length-is)), a .is-read)
-        (subst (λ (P : Program). report-program P round-limit step-limit (length output) ≡ ran (rounds step-limit P (q .0) round-limit 0 (usable (length output)) step-limit [])) (sym (q .2)) refl)
+        (subst (λ (P : Program). report-program P round-limit step-limit (length output) ≡ ran (rounds step-limit P (q .0) round-limit 0 (usable (length output)) step-limit 0 [])) (sym (q .2)) refl)
 
     pub filling : (s : List ℕ) → s ≡ cleared scratch 0 (length scratch) → (P : Program) × RelationsAt words 0 P × (length P ≤ 256) × (scratch-words ≤ length s)
     filling s e =
@@ -125,11 +126,11 @@ module _ (words : List ℕ) (round-limit step-limit : ℕ) (output scratch : Lis
         }
 
     pub kept-run : (s′ output′ : List ℕ) (r : code.Report) → length s′ ≡ length scratch → length output′ ≡ length output
-        → ResultAs output′ (rounds step-limit (a .program) query-of round-limit 0 (usable (length output)) step-limit []) r
+        → ResultAs output′ (rounds step-limit (a .program) query-of round-limit 0 (usable (length output)) step-limit 0 []) r
         → RunPromise words round-limit step-limit output scratch r (cleared output′ (r .words) (length output′)) (cleared s′ 0 (length scratch))
     unfolding comes-to
     kept-run s′ output′ r f g h =
-        let x : Result = rounds step-limit (a .program) query-of round-limit 0 (usable (length output)) step-limit [] in
+        let x : Result = rounds step-limit (a .program) query-of round-limit 0 (usable (length output)) step-limit 0 [] in
         let z : run words round-limit step-limit output scratch ≡ leave (ran x) output scratch = ap (λ y. leave y output scratch) comes-to-run in
         let o : cleared output′ (r .words) (length output′) ≡ page (x .answers) ++ replicate (length output - length (page (x .answers))) 0 =
         cleared-rest output′ (r .words) ∙ ap (λ p. p ++ replicate (length output′ - r .words) 0) (h .page-is) ∙ ap (λ m. page (x .answers) ++ replicate m 0) (ap (λ m. m - r .words) g ∙ ap (λ m. length output - m) (h .is-words)) in
@@ -141,6 +142,7 @@ module _ (words : List ℕ) (round-limit step-limit : ℕ) (output scratch : Lis
           is-steps = h .is-steps;
           is-answers = h .is-answers;
           is-words = h .is-words;
+          is-cut = h .is-cut;
           is-output = o;
           is-scratch = y;
         }))

@@ -45,6 +45,7 @@ pub record RunAs (x : run.Run) (r : Report) (output-after scratch-after : List �
   pub is-steps : r .steps ≡ run.counts (x .report) .steps
   pub is-answers : r .answers ≡ run.counts (x .report) .answers
   pub is-words : r .words ≡ run.counts (x .report) .words
+  pub is-cut : r .cut ≡ run.counts (x .report) .cut
   pub is-output : output-after ≡ x .output
   pub is-scratch : scratch-after ≡ x .scratch
 

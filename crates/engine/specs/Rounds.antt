@@ -100,12 +100,14 @@ pub record ResultAs (output′ : List ℕ) (x : definition.Result) (r : Report) 
   pub is-steps : r .steps ≡ x .steps
   pub is-answers : r .answers ≡ length (x .answers)
   pub is-words : r .words ≡ length (page (x .answers))
+  pub is-cut : r .cut ≡ x .cut
   pub page-is : take (r .words) output′ ≡ page (x .answers)
 
--- what `report` makes of an end and a tally
-pub record Reported (end : End) (round steps : ℕ) (t : Tally) (r : Report) : Type 0 where
+-- what `report` makes of an end, a tally and the cuts of the last completed round
+pub record Reported (end : End) (round steps : ℕ) (t : Tally) (cut : ℕ) (r : Report) : Type 0 where
   pub is-end : r .end ≡ end
   pub is-round : r .round ≡ round
   pub is-steps : r .steps ≡ steps - t .left
   pub is-answers : r .answers ≡ t .answers
   pub is-words : r .words ≡ t .used
+  pub is-cut : r .cut ≡ cut

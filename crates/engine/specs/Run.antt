@@ -21,6 +21,7 @@ pub record RefusalReport (number place : ℕ) (r : Report) : Type 0 where
   pub is-steps : r .steps ≡ 0
   pub is-answers : r .answers ≡ 0
   pub is-words : r .words ≡ 0
+  pub is-cut : r .cut ≡ 0
 
 -- an accepted program, with settings in their bounds, and just the scratch that a run uses
 pub record Admitted (words : List ℕ) (round-limit : ℕ) (scratch : List ℕ) : Type 0 where

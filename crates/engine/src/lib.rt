@@ -29,6 +29,7 @@ fn refuse(number: u32, place: usize) -> Report
         steps: 0,
         answers: 0,
         words: 0,
+        cut: 0,
     }
 }
 

@@ -43,4 +43,6 @@ pub struct Report {
     pub steps: u32,
     pub answers: u32,
     pub words: u32,
+    // The branches cut in the last completed round, 0 if none was completed.
+    pub cut: u32,
 }

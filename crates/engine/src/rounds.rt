@@ -12,10 +12,10 @@ ghost use Rattle.semantics.specs.Round as definition;
 ghost use Rattle.semantics.specs.Run.{usable};
 ghost use Rattle.engine.specs.Rounds.{RunReady, Reported, ResultAs};
 
-// The report of a run with this step limit.
-fn report(end: End, round: u32, steps: u32, tally: Tally) -> Report
+// The report of a run with this step limit, whose last completed round cut so many branches.
+fn report(end: End, round: u32, steps: u32, tally: Tally, cut: u32) -> Report
     requires { ⌜ tally .left ≤ steps ⌝ }
-    ensures { λ r. ⌜ Reported end round steps tally r ⌝ }
+    ensures { λ r. ⌜ Reported end round steps tally cut r ⌝ }
 {
     Report {
         end,
@@ -23,6 +23,7 @@ fn report(end: End, round: u32, steps: u32, tally: Tally) -> Report
         steps: steps - tally.left,
         answers: tally.answers,
         words: tally.used,
+        cut,
     }
 }
 
@@ -37,9 +38,10 @@ pub(crate) fn rounds(
 ) -> Report
     requires { ⌜ ((P : Program) × (R : Relation) × RunReady (now program) (now scratch) P query R limit) ⌝ }
     ensures { λ r. ⌜ ((P : Program) (R : Relation) → RunReady (now (program .entry)) (now (scratch .entry)) P query R limit
-        → ResultAs (now (output .exit)) (definition.rounds steps P R limit 0 (usable (length (now (output .entry)))) steps []) r) ⌝ }
+        → ResultAs (now (output .exit)) (definition.rounds steps P R limit 0 (usable (length (now (output .entry)))) steps 0 []) r) ⌝ }
 {
     let mut number = 0;
+    let mut cut = 0;
     let mut tally = Tally {
         left: steps,
         used: 0,
@@ -48,16 +50,17 @@ pub(crate) fn rounds(
     loop {
         match round(program, scratch, output, query, number, tally) {
             Rounded::Broken(end, last) => {
-                return report(end, number, steps, last);
+                return report(end, number, steps, last, cut);
             }
             Rounded::Completed(last, cuts) => {
                 if cuts == 0 {
-                    return report(End::Finished, number, steps, last);
+                    return report(End::Finished, number, steps, last, cuts);
                 }
                 if limit <= number {
-                    return report(End::Rounds, number, steps, last);
+                    return report(End::Rounds, number, steps, last, cuts);
                 }
                 tally = last;
+                cut = cuts;
                 number += 1;
             }
         }

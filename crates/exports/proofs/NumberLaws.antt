@@ -1,4 +1,4 @@
--- A report as seven numbers, written at the start of a lent slice.
+-- A report as eight numbers, written at the start of a lent slice.
 use Prim.Native.Nat.{ℕ, _≤_, _<_}
 use mathlib.Core.Path.{_≡_, refl, sym, ap, _∙_}
 use mathlib.Core.Bool.{Bool, true, false}
@@ -48,7 +48,7 @@ refusal-place words round-limit step-limit output scratch c p e = settled (setti
     settled true h = of-words (read words) refl h
 
 -- of a result there is none
-no-place : (e : round.End) → getD (end-numbers (report-ended (ran (record { end = e; round = 0; steps = 0; answers = [] })))) 2 0 ≡ 0
+no-place : (e : round.End) → getD (end-numbers (report-ended (ran (record { end = e; round = 0; steps = 0; answers = []; cut = 0 })))) 2 0 ≡ 0
 no-place round.finished = refl
 no-place round.rounds-used = refl
 no-place round.steps-used = refl
@@ -67,33 +67,34 @@ module _ (words : List ℕ) (round-limit step-limit : ℕ) (output scratch lent 
       omega (arith, z, place-of (returns-by as-written words round-limit step-limit (length output) (length scratch)) refl)
 
   -- too few words are lent
-  pub called-short : length lent < 7 → CallPromise words round-limit step-limit output scratch lent 0 output scratch lent
-  called-short h = record { is-call = simp (lt-leb 7 (length lent) h); demands = λ e. absurd (omega arith) }
+  pub called-short : length lent < 8 → CallPromise words round-limit step-limit output scratch lent 0 output scratch lent
+  called-short h = record { is-call = simp (lt-leb 8 (length lent) h); demands = λ e. absurd (omega arith) }
 
-  pub called-run : (r : Report) (output′ scratch′ : List ℕ) (n : EndNumbers) → 7 ≤ length lent → RunPromise words round-limit step-limit output scratch r output′ scratch′
+  pub called-run : (r : Report) (output′ scratch′ : List ℕ) (n : EndNumbers) → 8 ≤ length lent → RunPromise words round-limit step-limit output scratch r output′ scratch′
       → end-numbers (end-says (r .end)) ≡ n .end ∷ n .which ∷ n .place ∷ []
-      → CallPromise words round-limit step-limit output scratch lent 7 output′ scratch′ (set (set (set (set (set (set (set lent 0 (n .end)) 1 (n .which)) 2 (n .place)) 3 (r .round)) 4 (r .steps)) 5 (r .answers)) 6 (r .words))
+      → CallPromise words round-limit step-limit output scratch lent 8 output′ scratch′ (set (set (set (set (set (set (set (set lent 0 (n .end)) 1 (n .which)) 2 (n .place)) 3 (r .round)) 4 (r .steps)) 5 (r .answers)) 6 (r .words)) 7 (r .cut))
   called-run r output′ scratch′ n h k e =
       record {
-        is-call = answered (run-as-written words round-limit step-limit output scratch) output′ scratch′ _ (k .says .is-output) (k .says .is-scratch) (seven lent (n .end) (n .which) (n .place) (r .round) (r .steps) (r .answers) (r .words) h ∙ told);
+        is-call = answered (run-as-written words round-limit step-limit output scratch) output′ scratch′ _ (k .says .is-output) (k .says .is-scratch) (eight lent (n .end) (n .which) (n .place) (r .round) (r .steps) (r .answers) (r .words) (r .cut) h ∙ told);
         demands = λ z. k .demands;
       }
     where
-      seven : (lent : List ℕ) (a b c d e f g : ℕ) → 7 ≤ length lent → set (set (set (set (set (set (set lent 0 a) 1 b) 2 c) 3 d) 4 e) 5 f) 6 g ≡ a ∷ b ∷ c ∷ d ∷ e ∷ f ∷ g ∷ drop 7 lent
-      seven [] a b c d e f g l = absurd (omega arith)
-      seven (x ∷ []) a b c d e f g l = absurd (omega arith)
-      seven (x ∷ y ∷ []) a b c d e f g l = absurd (omega arith)
-      seven (x ∷ y ∷ z ∷ []) a b c d e f g l = absurd (omega arith)
-      seven (x ∷ y ∷ z ∷ u ∷ []) a b c d e f g l = absurd (omega arith)
-      seven (x ∷ y ∷ z ∷ u ∷ v ∷ []) a b c d e f g l = absurd (omega arith)
-      seven (x ∷ y ∷ z ∷ u ∷ v ∷ w ∷ []) a b c d e f g l = absurd (omega arith)
-      seven (x ∷ y ∷ z ∷ u ∷ v ∷ w ∷ t ∷ later) a b c d e f g l = refl
+      eight : (lent : List ℕ) (a b c d e f g i : ℕ) → 8 ≤ length lent → set (set (set (set (set (set (set (set lent 0 a) 1 b) 2 c) 3 d) 4 e) 5 f) 6 g) 7 i ≡ a ∷ b ∷ c ∷ d ∷ e ∷ f ∷ g ∷ i ∷ drop 8 lent
+      eight [] a b c d e f g i l = absurd (omega arith)
+      eight (x ∷ []) a b c d e f g i l = absurd (omega arith)
+      eight (x ∷ y ∷ []) a b c d e f g i l = absurd (omega arith)
+      eight (x ∷ y ∷ z ∷ []) a b c d e f g i l = absurd (omega arith)
+      eight (x ∷ y ∷ z ∷ u ∷ []) a b c d e f g i l = absurd (omega arith)
+      eight (x ∷ y ∷ z ∷ u ∷ v ∷ []) a b c d e f g i l = absurd (omega arith)
+      eight (x ∷ y ∷ z ∷ u ∷ v ∷ w ∷ []) a b c d e f g i l = absurd (omega arith)
+      eight (x ∷ y ∷ z ∷ u ∷ v ∷ w ∷ t ∷ []) a b c d e f g i l = absurd (omega arith)
+      eight (x ∷ y ∷ z ∷ u ∷ v ∷ w ∷ t ∷ s ∷ later) a b c d e f g i l = refl
 
-      told : n .end ∷ n .which ∷ n .place ∷ r .round ∷ r .steps ∷ r .answers ∷ r .words ∷ drop 7 lent ≡ numbers (run-as-written words round-limit step-limit output scratch .report) ++ drop 7 lent
+      told : n .end ∷ n .which ∷ n .place ∷ r .round ∷ r .steps ∷ r .answers ∷ r .words ∷ r .cut ∷ drop 8 lent ≡ numbers (run-as-written words round-limit step-limit output scratch .report) ++ drop 8 lent
       told =
           let x : definition.Report = run-as-written words round-limit step-limit output scratch .report in
           let q : n .end ∷ n .which ∷ n .place ∷ [] ≡ end-numbers (report-ended x) = sym e ∙ ap end-numbers (k .says .is-end) in
-          rw (k .says .is-round, k .says .is-steps, k .says .is-answers, k .says .is-words) (ap (λ (ns : List ℕ). (ns ++ (counts x .round ∷ counts x .steps ∷ counts x .answers ∷ counts x .words ∷ [])) ++ drop 7 lent) q)
+          rw (k .says .is-round, k .says .is-steps, k .says .is-answers, k .says .is-words, k .says .is-cut) (ap (λ (ns : List ℕ). (ns ++ (counts x .round ∷ counts x .steps ∷ counts x .answers ∷ counts x .words ∷ counts x .cut ∷ [])) ++ drop 8 lent) q)
 
-      answered : (x : Run) (o s l : List ℕ) → o ≡ x .output → s ≡ x .scratch → l ≡ numbers (x .report) ++ drop 7 lent → call x output scratch lent ≡ record { result = 7; output = o; scratch = s; numbers = l }
-      answered x o s l p q u = rw (p, q, u) (simp (le-leb 7 (length lent) h))
+      answered : (x : Run) (o s l : List ℕ) → o ≡ x .output → s ≡ x .scratch → l ≡ numbers (x .report) ++ drop 8 lent → call x output scratch lent ≡ record { result = 8; output = o; scratch = s; numbers = l }
+      answered x o s l p q u = rw (p, q, u) (simp (le-leb 8 (length lent) h))

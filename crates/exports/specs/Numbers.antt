@@ -17,8 +17,8 @@ abbrev pub packed : Said → ℕ
 packed yes-said = 0
 packed (no-said c p) = c * 4294967296 + p
 
--- A report is seven numbers: how the call ended (0 to 4 in the order of document 01, "How a run ends", 5 if refused), which bound of a path (1 to 5 as "Bounds" lists them) or the
--- refusal's number, the refusal's place, round, steps, answers, words. What does not apply is 0.
+-- A report is eight numbers: how the call ended (0 to 4 in the order of document 01, "How a run ends", 5 if refused), which bound of a path (1 to 5 as "Bounds" lists them) or the
+-- refusal's number, the refusal's place, round, steps, answers, words, the branches cut in the last completed round. What does not apply is 0.
 abbrev pub end-numbers : Ended → List ℕ
 end-numbers (ran round.finished) = 0 ∷ 0 ∷ 0 ∷ []
 end-numbers (ran round.rounds-used) = 1 ∷ 0 ∷ 0 ∷ []
@@ -28,7 +28,7 @@ end-numbers (ran (round.path-limit b)) = 4 ∷ steps.bound-number b ∷ 0 ∷ []
 end-numbers (refused number place) = 5 ∷ number ∷ place ∷ []
 
 abbrev pub numbers : run.Report → List ℕ
-numbers x = end-numbers (report-ended x) ++ (run.counts x .round ∷ run.counts x .steps ∷ run.counts x .answers ∷ run.counts x .words ∷ [])
+numbers x = end-numbers (report-ended x) ++ (run.counts x .round ∷ run.counts x .steps ∷ run.counts x .answers ∷ run.counts x .words ∷ run.counts x .cut ∷ [])
 
 -- what such a call returns and leaves
 pub record Call : Type 0 where
@@ -37,13 +37,13 @@ pub record Call : Type 0 where
   pub scratch : List ℕ
   pub numbers : List ℕ
 
--- How many numbers it wrote: 7, those of the run, at the start of the words lent for them; or 0 if these are fewer, and nothing is run.
+-- How many numbers it wrote: 8, those of the run, at the start of the words lent for them; or 0 if these are fewer, and nothing is run.
 abbrev pub call : run.Run → List ℕ → List ℕ → List ℕ → Call
 call x output scratch lent =
-    choose (leb 7 (length lent)) (λ _. record { result = 7; output = x .output; scratch = x .scratch; numbers = numbers (x .report) ++ drop 7 lent })
+    choose (leb 8 (length lent)) (λ _. record { result = 8; output = x .output; scratch = x .scratch; numbers = numbers (x .report) ++ drop 8 lent })
     (λ _. record { result = 0; output = output; scratch = scratch; numbers = lent })
 
 -- The promise of `kindcanvas_run`, with the demands of what was run.
 pub record CallPromise (words : List ℕ) (round-limit step-limit : ℕ) (output scratch lent : List ℕ) (result : ℕ) (output-after scratch-after lent-after : List ℕ) : Type 0 where
   pub is-call : call (run.run-as-written words round-limit step-limit output scratch) output scratch lent ≡ record { result = result; output = output-after; scratch = scratch-after; numbers = lent-after }
-  pub demands : result ≡ 7 → Demands words round-limit step-limit output scratch output-after scratch-after (run.run-as-written words round-limit step-limit output scratch .report)
+  pub demands : result ≡ 8 → Demands words round-limit step-limit output scratch output-after scratch-after (run.run-as-written words round-limit step-limit output scratch .report)

@@ -45,7 +45,7 @@ fn by_number(end: u32, which: u32, place: usize) -> EndNumbers
     EndNumbers { end, which, place }
 }
 
-// `run`, with its result as seven numbers at the start of `numbers`. Returns how many it wrote there: 7, or 0 if `numbers` is too short; then nothing is run.
+// `run`, with its result as eight numbers at the start of `numbers`. Returns how many it wrote there: 8, or 0 if `numbers` is too short; then nothing is run.
 #[no_mangle]
 pub extern "C" fn kindcanvas_run(
     program: &[u32],
@@ -57,7 +57,7 @@ pub extern "C" fn kindcanvas_run(
 ) -> u32
     ensures { λ r. ⌜ CallPromise (now (program .entry)) rounds steps (now (output .entry)) (now (scratch .entry)) (now (numbers .entry)) r (now (output .exit)) (now (scratch .exit)) (now (numbers .exit)) ⌝ }
 {
-    if numbers.len() < 7 {
+    if numbers.len() < 8 {
         return 0;
     }
     let report = engine::run(program, rounds, steps, output, scratch);
@@ -70,5 +70,6 @@ pub extern "C" fn kindcanvas_run(
     numbers[4] = report.steps;
     numbers[5] = report.answers;
     numbers[6] = report.words;
-    7
+    numbers[7] = report.cut;
+    8
 }

@@ -27,17 +27,17 @@ page-answers x (run.refusal number place) output scratch e z h = rw (e, z) (none
 page-answers x (run.ran r) output scratch e z h = h r (ap (λ (w : run.Run). w .report) e) ∙ ap (λ (w : run.Run). report-answers (w .report)) (sym e)
 
 listed : {words : List ℕ} {rounds steps : ℕ} {output scratch : List ℕ} {r : Report} {output-after scratch-after : List ℕ} → output ≡ replicate (length output) 0 → RunPromise words rounds steps output scratch r output-after scratch-after →
-    first-line (end-says (r .end)) (r .round) (r .steps) (r .answers) ++ joined (map line (run.answers-on output-after)) ≡ report-text (run.run-as-written words rounds steps output scratch .report)
+    first-line (end-says (r .end)) (r .round) (r .steps) (r .answers) (r .cut) ++ joined (map line (run.answers-on output-after)) ≡ report-text (run.run-as-written words rounds steps output scratch .report)
 listed {words} {rounds} {steps} {output} {scratch} {r} {output-after} z kept =
     let x = run.run-as-written words rounds steps output scratch in
     let s = kept .says in
     let a : run.answers-on (x .output) ≡ report-answers (x .report) = page-answers x (run.returns-by as-written words rounds steps (length output) (length scratch)) output scratch refl z (λ w e. rw (s .is-output) at (kept .demands .runs w e .on-output .page-is)) in
-    rw (s .is-end, s .is-round, s .is-steps, s .is-answers, s .is-output, a)
+    rw (s .is-end, s .is-round, s .is-steps, s .is-answers, s .is-cut, s .is-output, a)
 
 -- first line and answers behind it
 pub list-text : {words : List ℕ} {rounds steps : ℕ} {output scratch : List ℕ} {r : Report} {output-after scratch-after : List ℕ} {out mid after : List ℕ} {m next : ℕ} →
     output ≡ replicate (length output) 0 → RunPromise words rounds steps output scratch r output-after scratch-after →
-    Wrote (first-line (end-says (r .end)) (r .round) (r .steps) (r .answers)) 0 out m mid → Wrote (joined (map line (run.answers-on output-after))) m mid next after →
+    Wrote (first-line (end-says (r .end)) (r .round) (r .steps) (r .answers) (r .cut)) 0 out m mid → Wrote (joined (map line (run.answers-on output-after))) m mid next after →
     Wrote (report-text (run.run-as-written words rounds steps output scratch .report)) 0 out next after
 list-text {out = out} {after = after} {next = next} z kept w v = subst (λ (t : List ℕ). Wrote t 0 out next after) (listed z kept) (behind w v)
 

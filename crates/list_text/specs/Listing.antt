@@ -66,14 +66,14 @@ end-name round.steps-used = codes "steps"
 end-name round.output-full = codes "output"
 end-name (round.path-limit b) = codes "path " ++ decimal (bound-number b)
 
--- what is behind an end's name
-abbrev pub counts-text : ℕ → ℕ → ℕ → List ℕ
-counts-text r s a = joined (codes " round " ∷ decimal r ∷ codes " steps " ∷ decimal s ∷ codes " answers " ∷ decimal a ∷ codes "\n" ∷ [])
+-- what is behind an end's name; document 02, Note 7: "The listing's first line gains ` cut N` at its end"
+abbrev pub counts-text : ℕ → ℕ → ℕ → ℕ → List ℕ
+counts-text r s a c = joined ((codes " round " ++ decimal r) ∷ (codes " steps " ++ decimal s) ∷ (codes " answers " ++ decimal a) ∷ (codes " cut " ++ decimal c) ∷ codes "\n" ∷ [])
 
--- the first line, with round, steps and how many answers; "a refusal prints `refused N at P` alone"
-abbrev pub first-line : Ended → ℕ → ℕ → ℕ → List ℕ
-first-line (ran e) r s a = codes "end " ++ (end-name e ++ counts-text r s a)
-first-line (refused number place) r s a = joined (codes "refused " ∷ decimal number ∷ codes " at " ∷ decimal place ∷ codes "\n" ∷ [])
+-- the first line, with round, steps, how many answers, and how many branches were cut; "a refusal prints `refused N at P` alone"
+abbrev pub first-line : Ended → ℕ → ℕ → ℕ → ℕ → List ℕ
+first-line (ran e) r s a c = codes "end " ++ (end-name e ++ counts-text r s a c)
+first-line (refused number place) r s a c = joined (codes "refused " ∷ decimal number ∷ codes " at " ∷ decimal place ∷ codes "\n" ∷ [])
 
 -- the answers of the result
 abbrev pub report-answers : run.Report → List (List ℕ)
@@ -82,7 +82,7 @@ report-answers (run.ran r) = map (λ a. a .1) (r .answers)
 
 -- the text of what a run returns
 abbrev pub report-text : run.Report → List ℕ
-report-text x = first-line (report-ended x) (run.counts x .round) (run.counts x .steps) (run.counts x .answers) ++ joined (map line (report-answers x))
+report-text x = first-line (report-ended x) (run.counts x .round) (run.counts x .steps) (run.counts x .answers) (run.counts x .cut) ++ joined (map line (report-answers x))
 
 -- the text of a file: of the run of its words with these limits, so many output words, but at most 4,096, and the shortest scratch that is taken
 abbrev pub listing-text : List ℕ → ℕ → ℕ → ℕ → List ℕ

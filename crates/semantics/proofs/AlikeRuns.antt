@@ -279,6 +279,6 @@ module _ (Waived : Bound → Type 0) (World : Type 0) (N : World → Renaming) (
           }))
 
       -- the law: rounds k to k + later in lockstep
-      pub run-like : (limit later k room left : ℕ) (written : List Answer) → ((j : ℕ) → j ≤ k + later → QueryLike j R S) → ResultLike Waived (rounds-by limit pass P R later k room left written) (rounds-by limit pass Q S later k room left written)
-      run-like limit later k room left written h =
-          rounds-like Waived pass pass P Q R S (λ room. Unit {0}) (λ j room left written t u e. tt) limit later k room left written tt (λ j room left written l u. round-like j room left written (h j l))
+      pub run-like : (limit later k room left last-cut : ℕ) (written : List Answer) → ((j : ℕ) → j ≤ k + later → QueryLike j R S) → ResultLike Waived (rounds-by limit pass P R later k room left last-cut written) (rounds-by limit pass Q S later k room left last-cut written)
+      run-like limit later k room left last-cut written h =
+          rounds-like Waived pass pass P Q R S (λ room. Unit {0}) (λ j room left written t u e. tt) limit later k room left last-cut written tt (λ j room left written l u. round-like j room left written (h j l))

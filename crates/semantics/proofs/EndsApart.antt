@@ -26,11 +26,11 @@ one-break pass P n k s e e′ l l′ b b′ =
 abbrev A : Relation
 A = record { params = 1; vars = 1; body = equal (var 0) (atom (symbol 7)) }
 
-finishes : rounds-by 4 as-written (A ∷ []) A 0 0 2 4 [] .end ≡ finished
+finishes : rounds-by 4 as-written (A ∷ []) A 0 0 2 4 0 [] .end ≡ finished
 unfolding term-words terms-words goal-words goals-words
 finishes = refl
 
-stops-early : rounds-by 3 as-written (A ∷ []) A 0 0 2 3 [] .end ≡ steps-used
+stops-early : rounds-by 3 as-written (A ∷ []) A 0 0 2 3 0 [] .end ≡ steps-used
 unfolding term-words terms-words goal-words goals-words
 stops-early = refl
 

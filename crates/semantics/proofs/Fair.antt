@@ -107,18 +107,18 @@ search-fuel pass P n k (suc fuel) (suc fuel′) s h i = go (turn-by pass P n k s
     go (over r) h ih = refl
 
 -- a run whose rounds have this fuel, for the steps left at their start
-unfoldable pub rounds-with : Passing → (ℕ → ℕ) → ℕ → Program → Relation → ℕ → ℕ → ℕ → ℕ → List Answer → Result
-rounds-with pass fuel limit P R zero k room left written =
-    after-round limit k (search-by pass P (R .params) k (fuel left) (start R (record { left = left; room = room; cuts = 0; written = written }))) (λ t. result limit rounds-used k t)
-rounds-with pass fuel limit P R (suc later) k room left written =
-    after-round limit k (search-by pass P (R .params) k (fuel left) (start R (record { left = left; room = room; cuts = 0; written = written }))) (λ t. rounds-with pass fuel limit P R later (suc k) (t .room) (t .left) (t .written))
+unfoldable pub rounds-with : Passing → (ℕ → ℕ) → ℕ → Program → Relation → ℕ → ℕ → ℕ → ℕ → ℕ → List Answer → Result
+rounds-with pass fuel limit P R zero k room left last-cut written =
+    after-round limit k last-cut (search-by pass P (R .params) k (fuel left) (start R (record { left = left; room = room; cuts = 0; written = written }))) (λ t. result limit rounds-used k (t .cuts) t)
+rounds-with pass fuel limit P R (suc later) k room left last-cut written =
+    after-round limit k last-cut (search-by pass P (R .params) k (fuel left) (start R (record { left = left; room = room; cuts = 0; written = written }))) (λ t. rounds-with pass fuel limit P R later (suc k) (t .room) (t .left) (t .cuts) (t .written))
 
 -- Fuel is never what ends a run: with any fuel that is more than the steps left, the run says the same.
-pub fuel-enough : (pass : Passing) (fuel : ℕ → ℕ) → ((left : ℕ) → left < fuel left) → (limit : ℕ) (P : Program) (R : Relation) (later k room left : ℕ) (written : List Answer) →
-    rounds-with pass fuel limit P R later k room left written ≡ rounds-by limit pass P R later k room left written
+pub fuel-enough : (pass : Passing) (fuel : ℕ → ℕ) → ((left : ℕ) → left < fuel left) → (limit : ℕ) (P : Program) (R : Relation) (later k room left last-cut : ℕ) (written : List Answer) →
+    rounds-with pass fuel limit P R later k room left last-cut written ≡ rounds-by limit pass P R later k room left last-cut written
 unfolding rounds-with
-fuel-enough pass fuel h limit P R zero k room left written =
-    ap (λ (r : Rounded). after-round limit k r (λ t. result limit rounds-used k t)) (search-fuel pass P (R .params) k (fuel left) (suc left) (start R (record { left = left; room = room; cuts = 0; written = written })) (h left) (omega arith))
-fuel-enough pass fuel h limit P R (suc later) k room left written =
-    ap (λ (r : Rounded). after-round limit k r (λ t. rounds-with pass fuel limit P R later (suc k) (t .room) (t .left) (t .written))) (search-fuel pass P (R .params) k (fuel left) (suc left) (start R (record { left = left; room = room; cuts = 0; written = written })) (h left) (omega arith))
-    ∙ ap (λ (go : Tally → Result). after-round limit k (one-round-by pass P R k room left written) go) (fun-ext (λ t. fuel-enough pass fuel h limit P R later (suc k) (t .room) (t .left) (t .written)))
+fuel-enough pass fuel h limit P R zero k room left last-cut written =
+    ap (λ (r : Rounded). after-round limit k last-cut r (λ t. result limit rounds-used k (t .cuts) t)) (search-fuel pass P (R .params) k (fuel left) (suc left) (start R (record { left = left; room = room; cuts = 0; written = written })) (h left) (omega arith))
+fuel-enough pass fuel h limit P R (suc later) k room left last-cut written =
+    ap (λ (r : Rounded). after-round limit k last-cut r (λ t. rounds-with pass fuel limit P R later (suc k) (t .room) (t .left) (t .cuts) (t .written))) (search-fuel pass P (R .params) k (fuel left) (suc left) (start R (record { left = left; room = room; cuts = 0; written = written })) (h left) (omega arith))
+    ∙ ap (λ (go : Tally → Result). after-round limit k last-cut (one-round-by pass P R k room left written) go) (fun-ext (λ t. fuel-enough pass fuel h limit P R later (suc k) (t .room) (t .left) (t .cuts) (t .written)))

@@ -26,15 +26,15 @@ module _ (Waived : Bound → Type 0) where
     waived-next : {b : Bound} {t : Tally} {x : Next} → Waived b → NextLike Related (over (broken (path-limit b) t)) x
 
   -- a round is over on both sides, and so go on what comes after it
-  after-round-like : (limit k : ℕ) {r r′ : Rounded} (go go′ : Tally → Result) → RoundedLike r r′ → ((t : Tally) → r ≡ completed t → ResultLike (go t) (go′ t)) → ResultLike (after-round limit k r go) (after-round limit k r′ go′)
-  after-round-like limit k go go′ (waived-rounded {b} h) f = waived-result {b = b} h refl
-  after-round-like limit k go go′ (same-rounded {r}) f = same r f
+  after-round-like : (limit k last-cut : ℕ) {r r′ : Rounded} (go go′ : Tally → Result) → RoundedLike r r′ → ((t : Tally) → r ≡ completed t → ResultLike (go t) (go′ t)) → ResultLike (after-round limit k last-cut r go) (after-round limit k last-cut r′ go′)
+  after-round-like limit k last-cut go go′ (waived-rounded {b} h) f = waived-result {b = b} h refl
+  after-round-like limit k last-cut go go′ (same-rounded {r}) f = same r f
     where
       cuts : (c : ℕ) (t : Tally) → ResultLike (go t) (go′ t) → ResultLike (after-cuts limit c k t go) (after-cuts limit c k t go′)
       cuts zero t h = same-result
       cuts (suc c) t h = h
 
-      same : (r : Rounded) → ((t : Tally) → r ≡ completed t → ResultLike (go t) (go′ t)) → ResultLike (after-round limit k r go) (after-round limit k r go′)
+      same : (r : Rounded) → ((t : Tally) → r ≡ completed t → ResultLike (go t) (go′ t)) → ResultLike (after-round limit k last-cut r go) (after-round limit k last-cut r go′)
       same (broken e t) f = same-result
       same (completed t) f = cuts (t .cuts) t (f t refl)
 
@@ -53,12 +53,12 @@ module _ (Waived : Bound → Type 0) where
 
     -- Rounds k to k + later. They may ask something of the output words left, if every round that is completed keeps it.
     module _ (R S : Relation) (Room : ℕ → Type 0) (keeps : (j room left : ℕ) (written : List Answer) (t : Tally) → Room room → one-round-by pass P R j room left written ≡ completed t → Room (t .room)) where
-      pub rounds-like : (limit later k room left : ℕ) (written : List Answer) → Room room →
+      pub rounds-like : (limit later k room left last-cut : ℕ) (written : List Answer) → Room room →
           ((j room left : ℕ) (written : List Answer) → j ≤ k + later → Room room → RoundedLike (one-round-by pass P R j room left written) (one-round-by pass′ Q S j room left written)) →
-          ResultLike (rounds-by limit pass P R later k room left written) (rounds-by limit pass′ Q S later k room left written)
-      rounds-like limit zero k room left written h f = after-round-like limit k _ _ (f k room left written (omega arith) h) (λ t e. same-result)
-      rounds-like limit (suc later) k room left written h f = after-round-like limit k _ _ (f k room left written (omega arith) h)
-          (λ t e. rounds-like limit later (suc k) (t .room) (t .left) (t .written) (keeps k room left written t h e) (λ j room left written l. f j room left written (omega arith)))
+          ResultLike (rounds-by limit pass P R later k room left last-cut written) (rounds-by limit pass′ Q S later k room left last-cut written)
+      rounds-like limit zero k room left last-cut written h f = after-round-like limit k last-cut _ _ (f k room left written (omega arith) h) (λ t e. same-result)
+      rounds-like limit (suc later) k room left last-cut written h f = after-round-like limit k last-cut _ _ (f k room left written (omega arith) h)
+          (λ t e. rounds-like limit later (suc k) (t .room) (t .left) (t .cuts) (t .written) (keeps k room left written t h e) (λ j room left written l. f j room left written (omega arith)))
 
 -- where no bound is waived, related is the same
 pub rounded-same : {r r′ : Rounded} → RoundedLike none-waived r r′ → r ≡ r′

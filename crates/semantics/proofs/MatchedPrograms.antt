@@ -45,9 +45,9 @@ module _ (M : ℕ → ℕ → Type 0) where
 
     module _ (pass : Passing) (equivariant : Equivariant pass) where
       -- with query relations that match
-      pub matched-rounds : (R S : Relation) → RelationLike R S → (limit later k room left : ℕ) (written : List Answer) → rounds-by limit pass P R later k room left written ≡ rounds-by limit pass Q S later k room left written
-      matched-rounds R S h limit later k room left written =
-          rounds-same CallLike pass equivariant P Q matched R S limit later k room left written (λ j l. same-query CallLike j R S (h .same-params) (h .same-vars) (goal-weaken (λ x y e. ap (λ z. 0 + z) e) (λ r q a m. m) (h .bodies)))
+      pub matched-rounds : (R S : Relation) → RelationLike R S → (limit later k room left last-cut : ℕ) (written : List Answer) → rounds-by limit pass P R later k room left last-cut written ≡ rounds-by limit pass Q S later k room left last-cut written
+      matched-rounds R S h limit later k room left last-cut written =
+          rounds-same CallLike pass equivariant P Q matched R S limit later k room left last-cut written (λ j l. same-query CallLike j R S (h .same-params) (h .same-vars) (goal-weaken (λ x y e. ap (λ z. 0 + z) e) (λ r q a m. m) (h .bodies)))
 
   module _ (pass : Passing) (equivariant : Equivariant pass) where
     -- so what a run reports is the same, if the queries match
@@ -56,7 +56,7 @@ module _ (M : ℕ → ℕ → Type 0) where
       where
         go : (P Q : Program) → Matching P Q → OptionLike RelationLike (getElem? P 0) (getElem? Q 0) → report-program-by pass P round-limit step-limit output ≡ report-program-by pass Q round-limit step-limit output
         go [] [] f none-like = refl
-        go (R ∷ Rs) (S ∷ Ss) f (some-like h) = ap ran (matched-rounds (R ∷ Rs) (S ∷ Ss) f pass equivariant R S h step-limit round-limit 0 (usable output) step-limit [])
+        go (R ∷ Rs) (S ∷ Ss) f (some-like h) = ap ran (matched-rounds (R ∷ Rs) (S ∷ Ss) f pass equivariant R S h step-limit round-limit 0 (usable output) step-limit 0 [])
 
     -- and so is the whole run of words that are read as these programs
     pub matched-run : (P Q : Program) → Matching P Q → M 0 0 → (words words′ : List ℕ) (round-limit step-limit : ℕ) (output scratch : List ℕ) →
@@ -127,11 +127,11 @@ relations-exchanged pass equivariant = matched-report Exchanged pass equivariant
 abbrev pairs-up : ℕ → ℕ → Relation
 pairs-up x y = record { params = 1; vars = 3; body = conj (more (equal (var x) (atom (symbol 7))) (more (equal (var y) (atom (symbol 8))) (one (equal (var 0) (pair (var x) (var y)))))) }
 
-variables-exchanged : (pass : Passing) → Equivariant pass → (limit later k room left : ℕ) (written : List Answer) →
-    rounds-by limit pass (pairs-up 1 2 ∷ []) (pairs-up 1 2) later k room left written ≡ rounds-by limit pass (pairs-up 2 1 ∷ []) (pairs-up 2 1) later k room left written
-variables-exchanged pass equivariant limit later k room left written =
+variables-exchanged : (pass : Passing) → Equivariant pass → (limit later k room left last-cut : ℕ) (written : List Answer) →
+    rounds-by limit pass (pairs-up 1 2 ∷ []) (pairs-up 1 2) later k room left last-cut written ≡ rounds-by limit pass (pairs-up 2 1 ∷ []) (pairs-up 2 1) later k room left last-cut written
+variables-exchanged pass equivariant limit later k room left last-cut written =
     result-same (run-like none-waived (Unit {0}) (λ w. Exchanged) same-number (λ j r q a. ⊥) pass equivariant (pairs-up 1 2 ∷ []) (pairs-up 2 1 ∷ [])
-    (record { pairs = λ w. exchanged-pairs; fewer = λ j r q a m. m; enters = λ w j made made′ r q a e m. absurd m }) (pairs-up 1 2) (pairs-up 2 1) limit later k room left written (λ j l. query j))
+    (record { pairs = λ w. exchanged-pairs; fewer = λ j r q a m. m; enters = λ w j made made′ r q a e m. absurd m }) (pairs-up 1 2) (pairs-up 2 1) limit later k room left last-cut written (λ j l. query j))
   where
     query-pairs : (x : ℕ) → x < 1 → Exchanged x x
     query-pairs zero l = zero-stays

@@ -87,5 +87,5 @@ module _ (CallLike : ℕ → ℕ → ℕ → ℕ → Type 0) where
     pub round-same : (k room left : ℕ) (written : List Answer) → SameQuery k R S → one-round-by pass P R k room left written ≡ one-round-by pass Q S k room left written
     round-same k room left written h = rounded-same (round-like none-waived (Unit {0}) same-number same-number CallLike pass equivariant P Q L R S k room left written h)
 
-    pub rounds-same : (limit later k room left : ℕ) (written : List Answer) → ((j : ℕ) → j ≤ k + later → SameQuery j R S) → rounds-by limit pass P R later k room left written ≡ rounds-by limit pass Q S later k room left written
-    rounds-same limit later k room left written h = result-same (run-like none-waived (Unit {0}) same-number same-number CallLike pass equivariant P Q L R S limit later k room left written h)
+    pub rounds-same : (limit later k room left last-cut : ℕ) (written : List Answer) → ((j : ℕ) → j ≤ k + later → SameQuery j R S) → rounds-by limit pass P R later k room left last-cut written ≡ rounds-by limit pass Q S later k room left last-cut written
+    rounds-same limit later k room left last-cut written h = result-same (run-like none-waived (Unit {0}) same-number same-number CallLike pass equivariant P Q L R S limit later k room left last-cut written h)

@@ -134,8 +134,8 @@ module _ (limit : ℕ) (P : Program) where
       here tuple g = subst (Some (ShowsIn P k tuple)) (sym (d .wrote .is-new)) (some-right _ before (d .wrote .new) (some-both (ShowsIt P tuple) _ (ShowsIn P k tuple) (d .wrote .new) (λ a r x. (r .0, x)) (d .wrote .each-new) (d .exact tuple .1 g)))
 
   -- the completed rounds are those below l, up to which the history goes
-  demand : (e : End) (k l : ℕ) (t : Tally) → ((j : ℕ) → Completed e k j → j < l) → (e ≡ finished → (tuple : List Tree) (m : ℕ) → Gives P tuple m → m < l) → History l (t .written) → Demand3 P (result limit e k t)
-  demand e k l t below fin h = record {
+  demand : (e : End) (k l last-cut : ℕ) (t : Tally) → ((j : ℕ) → Completed e k j → j < l) → (e ≡ finished → (tuple : List Tree) (m : ℕ) → Gives P tuple m → m < l) → History l (t .written) → Demand3 P (result limit e k last-cut t)
+  demand e k l last-cut t below fin h = record {
     each-answer = h .each;
     round-exact = λ j c tuple. (some-each (ShowsIn P j tuple) _ (t .written) (λ a r x. subst (Gives P tuple) (x .0) (r .only tuple (x .1))) (h .each), h .reached tuple j (below j c));
     up-to-round = λ j c tuple. (some-each (ShowsUpTo P j tuple) _ (t .written) (λ a r x. (a .0, x .0, r .only tuple (x .1))) (h .each), λ (i, i-j, g). some-map (ShowsIn P i tuple) (ShowsUpTo P j tuple) (t .written) (λ a x. (omega arith, x .1)) (h .reached tuple i (omega (arith, below j c)) g));
@@ -143,24 +143,24 @@ module _ (limit : ℕ) (P : Program) where
     when-finished = λ q tuple. (some-each (ShowsIt P tuple) _ (t .written) (λ a r x. (a .0, r .only tuple x)) (h .each), λ (i, g). some-map (ShowsIn P i tuple) (ShowsIt P tuple) (t .written) (λ a x. x .1) (h .reached tuple i (fin q tuple i g) g));
   }
 
-  broken-demand : (e : End) (k : ℕ) (t : Tally) → Breaks e → History k (t .written) → Demand3 P (result limit e k t)
-  broken-demand e k t b = demand e k k t (completed-before e b k) (λ q. absurd (subst Breaks q b))
+  broken-demand : (e : End) (k last-cut : ℕ) (t : Tally) → Breaks e → History k (t .written) → Demand3 P (result limit e k last-cut t)
+  broken-demand e k last-cut t b = demand e k k last-cut t (completed-before e b k) (λ q. absurd (subst Breaks q b))
 
-  after-demand : (k : ℕ) (before : List Answer) (then-on : Tally → Result) → History k before → ((t : Tally) → t .room < 268435456 → History (suc k) (t .written) → Demand3 P (then-on t)) → (r : Rounded) → RoundClaim P k before r → Demand3 P (after-round limit k r then-on)
-  after-demand k before then-on h f (broken e t) (b, w) = broken-demand e k t b (history-grows h w)
-  after-demand k before then-on h f (completed t) (small, d) = go (t .cuts) refl
+  after-demand : (k last-cut : ℕ) (before : List Answer) (then-on : Tally → Result) → History k before → ((t : Tally) → t .room < 268435456 → History (suc k) (t .written) → Demand3 P (then-on t)) → (r : Rounded) → RoundClaim P k before r → Demand3 P (after-round limit k last-cut r then-on)
+  after-demand k last-cut before then-on h f (broken e t) (b, w) = broken-demand e k last-cut t b (history-grows h w)
+  after-demand k last-cut before then-on h f (completed t) (small, d) = go (t .cuts) refl
     where
       go : (c : ℕ) → t .cuts ≡ c → Demand3 P (after-cuts limit c k t then-on)
-      go zero z = demand finished k (suc k) t (λ j c. omega arith) (λ q tuple m g. omega (arith, d .no-cut z tuple m g)) (history-suc h d)
+      go zero z = demand finished k (suc k) (t .cuts) t (λ j c. omega arith) (λ q tuple m g. omega (arith, d .no-cut z tuple m g)) (history-suc h d)
       go (suc c) z = f t small (history-suc h d)
 
 module _ (R : Relation) (Rs : Program) (wf : ProgramIn (R ∷ Rs)) where
-  rounds-demand : (limit later k room left : ℕ) (before : List Answer) → room < 268435456 → History limit (R ∷ Rs) k before → Demand3 (R ∷ Rs) (rounds limit (R ∷ Rs) R later k room left before)
-  rounds-demand limit zero k room left before small h =
-      after-demand limit (R ∷ Rs) k before _ h (λ t small h. demand limit (R ∷ Rs) rounds-used k (suc k) t (λ j c. omega arith) (λ q. clash (cc)) h) (one-round (R ∷ Rs) R k room left before) (round-claim R Rs wf k before room left small)
-  rounds-demand limit (suc later) k room left before small h =
-      after-demand limit (R ∷ Rs) k before _ h (λ t small h. rounds-demand limit later (suc k) (t .room) (t .left) (t .written) small h) (one-round (R ∷ Rs) R k room left before) (round-claim R Rs wf k before room left small)
+  rounds-demand : (limit later k room left last-cut : ℕ) (before : List Answer) → room < 268435456 → History limit (R ∷ Rs) k before → Demand3 (R ∷ Rs) (rounds limit (R ∷ Rs) R later k room left last-cut before)
+  rounds-demand limit zero k room left last-cut before small h =
+      after-demand limit (R ∷ Rs) k last-cut before _ h (λ t small h. demand limit (R ∷ Rs) rounds-used k (suc k) (t .cuts) t (λ j c. omega arith) (λ q. clash (cc)) h) (one-round (R ∷ Rs) R k room left before) (round-claim R Rs wf k before room left small)
+  rounds-demand limit (suc later) k room left last-cut before small h =
+      after-demand limit (R ∷ Rs) k last-cut before _ h (λ t small h. rounds-demand limit later (suc k) (t .room) (t .left) (t .cuts) (t .written) small h) (one-round (R ∷ Rs) R k room left before) (round-claim R Rs wf k before room left small)
 
   -- Demand 3 of a program that is well formed and has a query
-  pub demand3 : (limit rounds-limit room : ℕ) → room < 268435456 → Demand3 (R ∷ Rs) (rounds limit (R ∷ Rs) R rounds-limit 0 room limit [])
-  demand3 limit rounds-limit room small = rounds-demand limit rounds-limit 0 room limit [] small (record { each = tt; reached = λ tuple j l g. absurd (omega arith) })
+  pub demand3 : (limit rounds-limit room : ℕ) → room < 268435456 → Demand3 (R ∷ Rs) (rounds limit (R ∷ Rs) R rounds-limit 0 room limit 0 [])
+  demand3 limit rounds-limit room small = rounds-demand limit rounds-limit 0 room limit 0 [] small (record { each = tt; reached = λ tuple j l g. absurd (omega arith) })

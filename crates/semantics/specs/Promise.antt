@@ -1,5 +1,5 @@
 -- What holds of every call: the demands, that the engine's promise cites.
-use Prim.Native.Nat.{_+_, _<_, _≤_, ℕ}
+use Prim.Native.Nat.{_+_, _<_, _≤_, suc, ℕ}
 use mathlib.Core.List.{List, map}
 use mathlib.Core.Logic.{_↔_}
 use mathlib.Core.Option.{some}
@@ -8,27 +8,41 @@ use lib.ListN.{drop, getD, getElem?, length}
 use Rattle.rules.specs.Settings.{scratch-words}
 use Rattle.rules.specs.Syntax.{Program, Relation}
 use Rattle.rules.specs.WellFormed.{WrittenForm}
-use Rattle.semantics.specs.Demand.{Demand1, Demand2, Demand3}
+use Rattle.semantics.specs.Demand.{Completed, Demand1, Demand2, Demand3}
 use Rattle.semantics.specs.Path.{Passing, as-written}
-use Rattle.semantics.specs.Round.{Answer, End, Result}
+use Rattle.semantics.specs.Published.{round-cuts}
+use Rattle.semantics.specs.Round.{Answer, End, Result, finished, rounds-used}
 use Rattle.semantics.specs.Run.{Report, answers-on, page, ran, refusal, usable}
-use Rattle.semantics.specs.Situation.{Situation}
+use Rattle.semantics.specs.Situation.{LastCut, RoundCut, Situation}
 
--- A result is that of the last round that the run came to: it names the end in whose situation the run is there, with the answers, steps and words as counted there.
+-- A result is that of the last round that the run came to: it names the end in whose situation the run is there, with the answers, steps and words as counted there, and tells how many
+-- branches the last completed round cut.
 pub record EndRight (pass : Passing) (P : Program) (R : Relation) (limit round-limit total : ℕ) (r : Result) : Type 0 where
   pub situation : Situation pass P R limit round-limit total (r .end)
   pub round-is : r .round ≡ situation .round
   pub answers-are : r .answers ≡ situation .tally .written
   pub steps-are : r .steps + situation .tally .left ≡ limit
   pub words-are : length (page (r .answers)) + situation .tally .room ≡ total
+  pub cut-is : LastCut pass P R limit round-limit total (r .cut)
+
+-- What the number of branches cut tells: document 02, Note 7.
+pub record CutTells (pass : Passing) (P : Program) (R : Relation) (limit round-limit total : ℕ) (r : Result) : Type 0 where
+  -- "the number of branches cut in the last completed round": as many as the published search cuts in it, for any bound on the depth of terms that is at least the step limit
+  pub told-last : (plenty : ℕ) → limit ≤ plenty → (k : ℕ) → Completed (r .end) (r .round) k → ¬ Completed (r .end) (r .round) (suc k) → r .cut ≡ round-cuts pass plenty P R k
+  -- "0 if none was completed"
+  pub told-none : ¬ Completed (r .end) (r .round) 0 → r .cut ≡ 0
+  -- "Finished then means a completed round and 0": the last round of the run was completed and cut no branch
+  pub finished-means : (r .end ≡ finished) ↔ (RoundCut pass P R limit round-limit total (r .round) (r .cut) × (r .cut ≡ 0))
+  -- and rounds used up means that the round of the limit was completed and cut some
+  pub rounds-used-means : (r .end ≡ rounds-used) ↔ (RoundCut pass P R limit round-limit total round-limit (r .cut) × (0 < r .cut))
 
 -- the output after a run: the answers on it are those of the result, and it keeps its length
 pub record OnPage (output after : List ℕ) (r : Result) : Type 0 where
   pub page-is : answers-on after ≡ map (λ (a : Answer). a .1) (r .answers)
   pub same-length : length after ≡ length output
 
--- The words are the written form of just one program, whose relation 0 is the query. Demands 2 and 3 hold of the result, its end, steps and words are as document 01 defines them, and its answers
--- are those on the output.
+-- The words are the written form of just one program, whose relation 0 is the query. Demands 2 and 3 hold of the result, its end, steps, words and cuts are as documents 01 and 02 define them, and
+-- its answers are those on the output.
 pub record Promised (words : List ℕ) (round-limit step-limit : ℕ) (output after : List ℕ) (r : Result) : Type 0 where
   pub program : Program
   pub is-written : WrittenForm words program
@@ -40,6 +54,7 @@ pub record Promised (words : List ℕ) (round-limit step-limit : ℕ) (output af
   pub ends : EndRight as-written program query step-limit round-limit (usable (length output)) r
   -- "Each is reported in just that situation."
   pub just : (e : End) → (r .end ≡ e) ↔ Situation as-written program query step-limit round-limit (usable (length output)) e
+  pub cut-tells : CutTells as-written program query step-limit round-limit (usable (length output)) r
   pub on-output : OnPage output after r
 
 -- What becomes of the lent words. Refused: "output and scratch stay as lent". Else "scratch is all 0 and output beyond the last whole answer is 0 to its end", but

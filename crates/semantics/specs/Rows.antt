@@ -1,5 +1,5 @@
--- The starred runs of document 01, "Runs to reproduce", its run with 255 variables, and small runs for "Errors this trade has made", for the order of answers and lines, and for
--- each bound of a path, as one list of rows.
+-- The starred runs of document 01, "Runs to reproduce", its run with 255 variables, and small runs for "Errors this trade has made", for the order of answers and lines, for the
+-- branches cut in the last completed round, and for each bound of a path, as one list of rows.
 use Prim.Native.Nat.{ℕ, zero, suc}
 use mathlib.Core.List.{List, [], _∷_, _++_}
 use lib.ListN.{length}
@@ -99,6 +99,24 @@ abbrev pub conjunctions : ℕ → List ℕ → List ℕ
 conjunctions zero goal = goal
 conjunctions (suc n) goal = part 10 (conjunctions n goal)
 
+-- relation 0 calls relation 1, which makes its parameter 1:7: round 0 cuts a branch, and round 1 none
+abbrev pub one-call : List ℕ
+one-call = part 13 (word 2 1 ∷ word 2 1 ∷ word 12 2 ∷ word 2 1 ∷ word 0 0 ∷ []) ++ part 13 (word 2 1 ∷ word 2 1 ∷ word 5 2 ∷ word 0 0 ∷ word 1 7 ∷ [])
+
+-- relation 1 calls itself in two alternatives: rounds 0, 1, 2 and 3 cut 1, 2, 4 and 8 branches
+abbrev pub doubling : List ℕ
+doubling = query (word 12 1 ∷ word 2 1 ∷ []) ++ part 13 (word 2 0 ∷ word 2 0 ∷ part 11 (word 12 1 ∷ word 2 1 ∷ word 12 1 ∷ word 2 1 ∷ []))
+
+-- the same with 255 variables: in round 9 the ninth call has no room for them
+abbrev pub doubling-variables : List ℕ
+doubling-variables = query (word 12 1 ∷ word 2 1 ∷ []) ++ part 13 (word 2 0 ∷ word 2 255 ∷ part 11 (word 12 1 ∷ word 2 1 ∷ word 12 1 ∷ word 2 1 ∷ []))
+
+-- `doubling` with a third alternative, in which the relation's parameter is 5
+abbrev pub doubling-five : List ℕ
+doubling-five =
+    part 13 (word 2 1 ∷ word 2 1 ∷ word 12 2 ∷ word 2 1 ∷ word 0 0 ∷ [])
+    ++ part 13 (word 2 1 ∷ word 2 1 ∷ part 11 (word 12 2 ∷ word 2 1 ∷ word 0 0 ∷ word 12 2 ∷ word 2 1 ∷ word 0 0 ∷ word 5 2 ∷ word 0 0 ∷ word 2 5 ∷ []))
+
 -- with each call 256 goals are put to wait, one at a step: the fourth call puts one too many
 abbrev pub R : List ℕ
 R = query (conjunctions 255 again)
@@ -169,49 +187,55 @@ abbrev pub five : List ℕ
 five = word 15 1 ∷ word 2 5 ∷ []
 
 -- a row in one line
-abbrev pub row : List ℕ → ℕ → ℕ → ℕ → End → ℕ → ℕ → List Answer → Row
-row words round-limit step-limit output end round steps answers =
-    record { words = words; round-limit = round-limit; step-limit = step-limit; output = output; expected = record { end = end; round = round; steps = steps; answers = answers } }
+abbrev pub row : List ℕ → ℕ → ℕ → ℕ → End → ℕ → ℕ → List Answer → ℕ → Row
+row words round-limit step-limit output end round steps answers cut =
+    record { words = words; round-limit = round-limit; step-limit = step-limit; output = output; expected = record { end = end; round = round; steps = steps; answers = answers; cut = cut } }
 
--- each with its round limit, step limit and output length: the listing program's, but for what the run says; then the end, the round, the steps and the answers
+-- each with its round limit, step limit and output length: the listing program's, but for what the run says; then the end, the round, the steps, the answers and the branches cut
 abbrev pub rows : List Row
 rows =
-    row A 16 1000000 4096 finished 0 4 ((0, seven) ∷ [])
-    ∷ row A 16 3 4096 steps-used 0 3 []
-    ∷ row A 16 1000000 1 output-full 0 4 []
-    ∷ row A 16 1000000 2 finished 0 4 ((0, seven) ∷ [])
-    ∷ row B 16 1000000 4096 finished 0 4 []
-    ∷ row C 2 1000000 4096 rounds-used 2 20 ((1, five) ∷ (2, five) ∷ [])
-    ∷ row C 0 1000000 4096 rounds-used 0 1 []
-    ∷ row D 16 1000000 4096 finished 0 8 ((0, word 15 4 ∷ word 0 0 ∷ word 6 2 ∷ word 0 0 ∷ word 2 5 ∷ []) ∷ [])
-    ∷ row E 16 1000000 4096 finished 0 5 []
-    ∷ row F 16 1000000 4096 finished 0 12 ((0, seven) ∷ [])
-    ∷ row G 16 1000000 4096 finished 0 16 ((0, word 15 9 ∷ word 0 0 ∷ word 0 1 ∷ word 11 6 ∷ word 6 2 ∷ word 0 0 ∷ word 2 1 ∷ word 6 2 ∷ word 0 1 ∷ word 2 2 ∷ []) ∷ [])
-    ∷ row (H (word 1 7) (word 1 7)) 16 1000000 4096 finished 0 12 []
-    ∷ row (H (word 2 7) (word 2 7)) 16 1000000 4096 finished 0 12 []
-    ∷ row (H (word 2 7) (word 2 8)) 16 1000000 4096 finished 0 19 ((0, word 15 3 ∷ word 4 1 ∷ word 2 8 ∷ word 3 0 ∷ []) ∷ [])
-    ∷ row (H (word 2 7) (word 1 7)) 16 1000000 4096 finished 0 19 ((0, word 15 3 ∷ word 4 1 ∷ word 1 7 ∷ word 3 0 ∷ []) ∷ [])
-    ∷ row (H (word 1 7) (word 2 7)) 16 1000000 4096 finished 0 19 ((0, word 15 3 ∷ word 4 1 ∷ word 2 7 ∷ word 3 0 ∷ []) ∷ [])
-    ∷ row I 16 1000000 4096 finished 0 14 []
-    ∷ row J 16 1000000 4096 finished 0 9 ((0, word 15 5 ∷ word 0 0 ∷ word 0 1 ∷ word 6 2 ∷ word 0 0 ∷ word 0 1 ∷ []) ∷ [])
-    ∷ row K 16 1000000 4096 finished 0 15 ((0, word 15 1 ∷ word 0 0 ∷ []) ∷ [])
-    ∷ row (L (word 1 7)) 16 1000000 4096 finished 0 9 ((0, word 15 4 ∷ word 0 0 ∷ word 9 2 ∷ word 1 7 ∷ word 0 0 ∷ []) ∷ [])
-    ∷ row (L (word 2 7)) 16 1000000 4096 finished 0 9 ((0, word 15 4 ∷ word 0 0 ∷ word 9 2 ∷ word 2 7 ∷ word 0 0 ∷ []) ∷ [])
-    ∷ row M 16 1000000 4096 finished 0 9 ((0, word 15 1 ∷ word 1 1 ∷ []) ∷ (0, word 15 1 ∷ word 1 2 ∷ []) ∷ [])
-    ∷ row M 16 1000000 3 output-full 0 9 ((0, word 15 1 ∷ word 1 1 ∷ []) ∷ [])
-    ∷ row M 16 8 4096 steps-used 0 8 ((0, word 15 1 ∷ word 1 1 ∷ []) ∷ [])
-    ∷ row N 16 1000000 4096 finished 0 17 ((0, word 15 9 ∷ word 0 0 ∷ word 0 1 ∷ word 8 1 ∷ word 0 1 ∷ word 6 2 ∷ word 0 0 ∷ word 2 5 ∷ word 8 1 ∷ word 0 0 ∷ []) ∷ [])
-    ∷ row O 16 1000000 4096 finished 0 23 ((0, word 15 6 ∷ word 0 0 ∷ word 8 1 ∷ word 0 0 ∷ word 6 2 ∷ word 0 0 ∷ word 2 5 ∷ []) ∷ [])
-    ∷ row atoms-typed 16 1000000 4096 finished 0 29 ((0, seven) ∷ (0, word 15 1 ∷ word 2 8 ∷ []) ∷ [])
-    ∷ row in-order 16 1000000 4096 finished 0 37 ((0, word 15 18 ∷ word 4 1 ∷ word 0 0 ∷ word 0 1 ∷ word 9 2 ∷ word 1 7 ∷ word 0 0 ∷ word 9 2 ∷ word 1 7 ∷ word 0 1 ∷ word 11 8 ∷ word 6 4 ∷ word 0 0 ∷ word 4 1 ∷ word 0 1 ∷ word 1 1 ∷ word 6 2 ∷ word 0 1 ∷ word 2 2 ∷ []) ∷ [])
-    ∷ row atoms-equal 16 1000000 4096 finished 0 2 []
-    ∷ row atoms-differ 16 1000000 4096 finished 0 4 ((0, word 15 0 ∷ []) ∷ [])
-    ∷ row bound-nothing 16 1000000 4096 finished 0 7 ((0, word 15 3 ∷ word 0 0 ∷ word 7 1 ∷ word 0 0 ∷ []) ∷ [])
-    ∷ row P 16 1000000 4096 (path-limit bound.variables) 8 43 []
-    ∷ row (Q 8) 16 1000000 4096 (path-limit bound.variables) 9 53 []
-    ∷ row (Q 9) 16 1000000 4096 (path-limit bound.variables) 8 43 []
-    ∷ row R 16 1000000 4096 (path-limit bound.goals) 4 3583 []
-    ∷ row S 16 1000000 4096 (path-limit bound.disjunctions) 4 2190 []
-    ∷ row T 16 1000000 4096 (path-limit bound.constraints) 4 3613 []
-    ∷ row W 16 1000000 4096 (path-limit bound.waiting) 6 8302 []
+    row A 16 1000000 4096 finished 0 4 ((0, seven) ∷ []) 0
+    ∷ row A 16 3 4096 steps-used 0 3 [] 0
+    ∷ row A 16 1000000 1 output-full 0 4 [] 0
+    ∷ row A 16 1000000 2 finished 0 4 ((0, seven) ∷ []) 0
+    ∷ row B 16 1000000 4096 finished 0 4 [] 0
+    ∷ row C 2 1000000 4096 rounds-used 2 20 ((1, five) ∷ (2, five) ∷ []) 1
+    ∷ row C 0 1000000 4096 rounds-used 0 1 [] 1
+    ∷ row D 16 1000000 4096 finished 0 8 ((0, word 15 4 ∷ word 0 0 ∷ word 6 2 ∷ word 0 0 ∷ word 2 5 ∷ []) ∷ []) 0
+    ∷ row E 16 1000000 4096 finished 0 5 [] 0
+    ∷ row F 16 1000000 4096 finished 0 12 ((0, seven) ∷ []) 0
+    ∷ row G 16 1000000 4096 finished 0 16 ((0, word 15 9 ∷ word 0 0 ∷ word 0 1 ∷ word 11 6 ∷ word 6 2 ∷ word 0 0 ∷ word 2 1 ∷ word 6 2 ∷ word 0 1 ∷ word 2 2 ∷ []) ∷ []) 0
+    ∷ row (H (word 1 7) (word 1 7)) 16 1000000 4096 finished 0 12 [] 0
+    ∷ row (H (word 2 7) (word 2 7)) 16 1000000 4096 finished 0 12 [] 0
+    ∷ row (H (word 2 7) (word 2 8)) 16 1000000 4096 finished 0 19 ((0, word 15 3 ∷ word 4 1 ∷ word 2 8 ∷ word 3 0 ∷ []) ∷ []) 0
+    ∷ row (H (word 2 7) (word 1 7)) 16 1000000 4096 finished 0 19 ((0, word 15 3 ∷ word 4 1 ∷ word 1 7 ∷ word 3 0 ∷ []) ∷ []) 0
+    ∷ row (H (word 1 7) (word 2 7)) 16 1000000 4096 finished 0 19 ((0, word 15 3 ∷ word 4 1 ∷ word 2 7 ∷ word 3 0 ∷ []) ∷ []) 0
+    ∷ row I 16 1000000 4096 finished 0 14 [] 0
+    ∷ row J 16 1000000 4096 finished 0 9 ((0, word 15 5 ∷ word 0 0 ∷ word 0 1 ∷ word 6 2 ∷ word 0 0 ∷ word 0 1 ∷ []) ∷ []) 0
+    ∷ row K 16 1000000 4096 finished 0 15 ((0, word 15 1 ∷ word 0 0 ∷ []) ∷ []) 0
+    ∷ row (L (word 1 7)) 16 1000000 4096 finished 0 9 ((0, word 15 4 ∷ word 0 0 ∷ word 9 2 ∷ word 1 7 ∷ word 0 0 ∷ []) ∷ []) 0
+    ∷ row (L (word 2 7)) 16 1000000 4096 finished 0 9 ((0, word 15 4 ∷ word 0 0 ∷ word 9 2 ∷ word 2 7 ∷ word 0 0 ∷ []) ∷ []) 0
+    ∷ row M 16 1000000 4096 finished 0 9 ((0, word 15 1 ∷ word 1 1 ∷ []) ∷ (0, word 15 1 ∷ word 1 2 ∷ []) ∷ []) 0
+    ∷ row M 16 1000000 3 output-full 0 9 ((0, word 15 1 ∷ word 1 1 ∷ []) ∷ []) 0
+    ∷ row M 16 8 4096 steps-used 0 8 ((0, word 15 1 ∷ word 1 1 ∷ []) ∷ []) 0
+    ∷ row N 16 1000000 4096 finished 0 17 ((0, word 15 9 ∷ word 0 0 ∷ word 0 1 ∷ word 8 1 ∷ word 0 1 ∷ word 6 2 ∷ word 0 0 ∷ word 2 5 ∷ word 8 1 ∷ word 0 0 ∷ []) ∷ []) 0
+    ∷ row O 16 1000000 4096 finished 0 23 ((0, word 15 6 ∷ word 0 0 ∷ word 8 1 ∷ word 0 0 ∷ word 6 2 ∷ word 0 0 ∷ word 2 5 ∷ []) ∷ []) 0
+    ∷ row atoms-typed 16 1000000 4096 finished 0 29 ((0, seven) ∷ (0, word 15 1 ∷ word 2 8 ∷ []) ∷ []) 0
+    ∷ row in-order 16 1000000 4096 finished 0 37 ((0, word 15 18 ∷ word 4 1 ∷ word 0 0 ∷ word 0 1 ∷ word 9 2 ∷ word 1 7 ∷ word 0 0 ∷ word 9 2 ∷ word 1 7 ∷ word 0 1 ∷ word 11 8 ∷ word 6 4 ∷ word 0 0 ∷ word 4 1 ∷ word 0 1 ∷ word 1 1 ∷ word 6 2 ∷ word 0 1 ∷ word 2 2 ∷ []) ∷ []) 0
+    ∷ row atoms-equal 16 1000000 4096 finished 0 2 [] 0
+    ∷ row atoms-differ 16 1000000 4096 finished 0 4 ((0, word 15 0 ∷ []) ∷ []) 0
+    ∷ row bound-nothing 16 1000000 4096 finished 0 7 ((0, word 15 3 ∷ word 0 0 ∷ word 7 1 ∷ word 0 0 ∷ []) ∷ []) 0
+    ∷ row (query again) 2 1 9 steps-used 1 1 [] 1
+    ∷ row one-call 16 1000000 4096 finished 1 6 ((1, seven) ∷ []) 0
+    ∷ row doubling 3 1000000 4096 rounds-used 3 37 [] 8
+    ∷ row doubling 16 25 4096 steps-used 3 25 [] 4
+    ∷ row doubling-variables 16 1000000 4096 (path-limit bound.variables) 9 1531 [] 256
+    ∷ row doubling-five 16 1000000 5 output-full 2 27 ((1, five) ∷ (2, five) ∷ []) 2
+    ∷ row P 16 1000000 4096 (path-limit bound.variables) 8 43 [] 1
+    ∷ row (Q 8) 16 1000000 4096 (path-limit bound.variables) 9 53 [] 1
+    ∷ row (Q 9) 16 1000000 4096 (path-limit bound.variables) 8 43 [] 1
+    ∷ row R 16 1000000 4096 (path-limit bound.goals) 4 3583 [] 1
+    ∷ row S 16 1000000 4096 (path-limit bound.disjunctions) 4 2190 [] 1
+    ∷ row T 16 1000000 4096 (path-limit bound.constraints) 4 3613 [] 1
+    ∷ row W 16 1000000 4096 (path-limit bound.waiting) 6 8302 [] 1
     ∷ []

@@ -110,15 +110,21 @@ pub unsafe fn run(
     };
     let mut left = steps;
     let mut number = 0;
+    let mut cut = 0;
     let end = loop {
         match round(memory, &mut writer, number, &mut left) {
             Err(Stop::Steps) => break Ending::Steps,
             Err(Stop::Output) => break Ending::Output,
             Err(Stop::Path(bound)) => break Ending::Path(bound),
-            Ok(0) => break Ending::Finished,
-            Ok(_) if limit <= number => break Ending::Rounds,
-            Ok(_) => number += 1,
+            Ok(cuts) => cut = cuts,
         }
+        if cut == 0 {
+            break Ending::Finished;
+        }
+        if limit <= number {
+            break Ending::Rounds;
+        }
+        number += 1;
     };
     let (used, answers) = (writer.used, writer.answers);
     scratch.fill(0);
@@ -129,6 +135,7 @@ pub unsafe fn run(
         steps: steps - left,
         answers,
         words: used,
+        cut,
     }
 }
 

@@ -8,8 +8,8 @@ extern "C" {
     /// Reads `len` words from `program` on and keeps nothing. 0: accepted, else number * 2^32 + place.
     fn kindcanvas_check(program: *const u32, len: usize) -> u64;
 
-    /// Reads the program, writes output, scratch and the first seven of the numbers, and keeps nothing. Says how many
-    /// numbers it wrote: 7, or 0, with nothing read or written, if fewer are lent.
+    /// Reads the program, writes output, scratch and the first eight of the numbers, and keeps nothing. Says how many
+    /// numbers it wrote: 8, or 0, with nothing read or written, if fewer are lent.
     fn kindcanvas_run(
         program: *const u32,
         program_len: usize,
@@ -77,6 +77,9 @@ pub struct Report {
     pub answers: u32,
     /// The output words used.
     pub words: usize,
+    /// How many branches were left open: those cut in the last completed round, because they ask for more calls than its
+    /// number. 0 if none was completed. It is 0 when a run is finished, and more than 0 when its rounds are used up.
+    pub cut: u32,
 }
 
 impl Bound {
@@ -191,10 +194,10 @@ pub fn run(
     output: &mut [u32],
     scratch: &mut [u32],
 ) -> Result<Report, Refusal> {
-    let mut numbers = [0; 7];
+    let mut numbers = [0; 8];
     let written = call(program, rounds, steps, output, scratch, &mut numbers);
-    assert_eq!(written, 7, "seven numbers are enough");
-    let [end, which, place, round, steps, answers, words] = numbers;
+    assert_eq!(written, 8, "eight numbers are enough");
+    let [end, which, place, round, steps, answers, words, cut] = numbers;
     let end = match end {
         0 => Ending::Finished,
         1 => Ending::Rounds,
@@ -214,6 +217,7 @@ pub fn run(
         steps,
         answers,
         words: words as usize,
+        cut,
     })
 }
 
@@ -253,7 +257,7 @@ mod tests {
     #[test]
     fn too_few_numbers() {
         let program = words::parse("13:5 2:1 2:1 5:2 0:0 1:7").unwrap();
-        let (mut output, mut scratch, mut numbers) = ([7; 10], vec![8; SCRATCH_WORDS], [9; 6]);
+        let (mut output, mut scratch, mut numbers) = ([7; 10], vec![8; SCRATCH_WORDS], [9; 7]);
         let written = call(
             &program,
             16,
@@ -263,7 +267,7 @@ mod tests {
             &mut numbers,
         );
         assert_eq!(written, 0);
-        assert_eq!((output, numbers), ([7; 10], [9; 6]));
+        assert_eq!((output, numbers), ([7; 10], [9; 7]));
         assert!(scratch.iter().all(|&word| word == 8));
     }
 

@@ -19,7 +19,7 @@
 //! ```
 //!
 //! A run that did not finish met a limit. Its answers are right, and complete for as many calls as
-//! [`Report::completed`] says:
+//! [`Report::completed`] says; [`Report::cut`] says how many branches were left open there:
 //!
 //! ```
 //! use kindcanvas::{Ending, Limits, Program};
@@ -29,6 +29,8 @@
 //! let outcome = program.run(Limits { rounds: 2, ..Limits::default() });
 //! assert_eq!(outcome.report().end, Ending::Rounds);
 //! assert_eq!(outcome.report().completed(), Some(2));
+//! // One branch was left open: it asks for a third call.
+//! assert_eq!(outcome.report().cut, 1);
 //! assert_eq!(outcome.answers().len(), 2);
 //! # Ok::<(), kindcanvas::ParseError>(())
 //! ```

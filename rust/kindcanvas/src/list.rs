@@ -24,8 +24,8 @@ pub fn print(
             "_0, _1 and so on stand for any value that meets the conditions of their answer."
         )?;
     }
-    let answers = counted(report.answers, "answer") + &repeats(outcome);
-    let steps = counted(report.steps, "step");
+    let answers = counted(report.answers, "answer", "answers") + &repeats(outcome);
+    let steps = counted(report.steps, "step", "steps");
     writeln!(out, "{answers} in {steps}.\n{}", meaning(limits, report))
 }
 
@@ -40,11 +40,9 @@ fn repeats(outcome: &Outcome) -> String {
     }
 }
 
-fn counted(count: u32, what: &str) -> String {
-    match count {
-        1 => format!("1 {what}"),
-        _ => format!("{count} {what}s"),
-    }
+fn counted(count: u32, one: &str, many: &str) -> String {
+    let what = if count == 1 { one } else { many };
+    format!("{count} {what}")
 }
 
 fn print_answer(
@@ -84,10 +82,7 @@ fn meaning(limits: Limits, report: Report) -> String {
                 .to_string()
         }
         Ending::Rounds => (
-            format!(
-                "some branches take more than {}, the round limit",
-                counted(round, "call")
-            ),
+            format!("the round limit was used up with round {round}"),
             raise("--rounds", limits.rounds.into(), u8::MAX.into()),
         ),
         Ending::Steps => (
@@ -115,14 +110,15 @@ fn meaning(limits: Limits, report: Report) -> String {
             "Every answer is right, but no round was completed, so anything else may be missing."
                 .to_string()
         }
-        (Some(round), 0) => format!(
-            "The rules give nothing with at most {}; what takes more may be missing.",
-            counted(round, "call")
-        ),
-        (Some(round), _) => format!(
-            "Every answer is right, and all that the rules give with at most {} is shown; what takes more may be missing.",
-            counted(round, "call")
-        ),
+        (Some(round), answers) => {
+            let calls = counted(round, "call", "calls");
+            let shown = match answers {
+                0 => format!("The rules give nothing with at most {calls}"),
+                _ => format!("Every answer is right, and all that the rules give with at most {calls} is shown"),
+            };
+            let branches = counted(report.cut, "branch", "branches");
+            format!("{shown}; what takes more may be missing: round {round} left {branches} open.")
+        }
     };
     format!("The list may be incomplete: {reason}.\n{known}\n{advice}")
 }

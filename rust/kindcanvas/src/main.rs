@@ -23,6 +23,7 @@ FILE is k:p text; - is standard input. A comment '# symbol 7 = B7' in it names s
 
 In the list 'B7 or '7 is a symbol, 7 a number, _0 an open variable, () the empty list,
 (a b) a list and (a b . c) one that ends in c. An answer is listed once for each way to it.
+A branch that a round left open asks for more calls than the round's number.
 
 status 0  the list is complete; for check, the file is a program
        1  the file is no program

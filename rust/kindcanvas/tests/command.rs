@@ -105,8 +105,8 @@ fn incomplete_lists() {
 2. 5
 
 2 answers, all the same, in 20 steps.
-The list may be incomplete: some branches take more than 2 calls, the round limit.
-Every answer is right, and all that the rules give with at most 2 calls is shown; what takes more may be missing.
+The list may be incomplete: the round limit was used up with round 2.
+Every answer is right, and all that the rules give with at most 2 calls is shown; what takes more may be missing: round 2 left 1 branch open.
 To search further, raise --rounds: it is 2, and may be 255.
 ",
         ),
@@ -115,7 +115,7 @@ To search further, raise --rounds: it is 2, and may be 255.
             C,
             "0 answers in 8 steps.
 The list may be incomplete: in round 1 an answer did not fit into what was left of 0 words.
-The rules give nothing with at most 0 calls; what takes more may be missing.
+The rules give nothing with at most 0 calls; what takes more may be missing: round 0 left 1 branch open.
 To search further, raise --output-words: it is 0, and may be 268435455.
 ",
         ),
@@ -126,7 +126,7 @@ To search further, raise --output-words: it is 0, and may be 268435455.
 
 1 answer in 10 steps.
 The list may be incomplete: the step limit was used up in round 2.
-Every answer is right, and all that the rules give with at most 1 call is shown; what takes more may be missing.
+Every answer is right, and all that the rules give with at most 1 call is shown; what takes more may be missing: round 1 left 1 branch open.
 To search further, raise --steps: it is 10, and may be 4294967295.
 ",
         ),
@@ -155,16 +155,25 @@ To search further, raise --output-words: it is 2, and may be 268435455.
             "13:4 2:0 2:255 12:1 2:0",
             "0 answers in 43 steps.
 The list may be incomplete: a path in round 8 needs more than 2048 variables.
-The rules give nothing with at most 7 calls; what takes more may be missing.
+The rules give nothing with at most 7 calls; what takes more may be missing: round 7 left 1 branch open.
 No option raises this bound; the rules must ask less of one path.
+",
+        ),
+        (
+            vec!["--steps", "25"],
+            "# Rounds 0, 1, 2 cut 1, 2, 4 branches\n13:4 2:0 2:0 12:1 2:1  13:7 2:0 2:0 11:4 12:1 2:1 12:1 2:1",
+            "0 answers in 25 steps.
+The list may be incomplete: the step limit was used up in round 3.
+The rules give nothing with at most 2 calls; what takes more may be missing: round 2 left 4 branches open.
+To search further, raise --steps: it is 25, and may be 4294967295.
 ",
         ),
         (
             vec!["--rounds", "255"],
             "# A relation that calls itself\n13:4 2:0 2:0 12:1 2:0",
             "0 answers in 32896 steps.
-The list may be incomplete: some branches take more than 255 calls, the round limit.
-The rules give nothing with at most 255 calls; what takes more may be missing.
+The list may be incomplete: the round limit was used up with round 255.
+The rules give nothing with at most 255 calls; what takes more may be missing: round 255 left 1 branch open.
 --rounds is 255 and cannot be raised.
 ",
         ),

@@ -70,6 +70,7 @@ fn report(outcome: &Outcome) -> Report {
         steps: outcome.steps,
         answers: outcome.answers as u32,
         words: outcome.words.len(),
+        cut: outcome.cut,
     }
 }
 
@@ -202,26 +203,38 @@ fn more_random_programs() {
     );
 }
 
+/// The reference with an error in what it says of a run.
+fn wrong(change: impl Fn(&mut Outcome)) -> impl Fn(&Case) -> Expected {
+    move |case| {
+        case.run().map(|mut outcome| {
+            change(&mut outcome);
+            outcome
+        })
+    }
+}
+
 /// References with an error, to see that it is found and made small.
 #[test]
 fn differences_are_found_and_made_small() {
     // A step too many where an absence fails after an equality.
-    let late_absence = |case: &Case| {
-        let mut result = case.run();
-        if let Ok(outcome) = &mut result {
-            let failed = Event::FailedLater(ABSENTO);
-            outcome.steps += outcome.trace.events.contains(&failed) as u32;
-        }
-        result
-    };
+    let late_absence = wrong(|outcome| {
+        let failed = Event::FailedLater(ABSENTO);
+        outcome.steps += outcome.trace.events.contains(&failed) as u32;
+    });
     // Only the first answer is counted.
-    let no_second_answer = |case: &Case| {
-        let mut result = case.run();
-        if let Ok(outcome) = &mut result {
-            outcome.answers = outcome.answers.min(1);
+    let no_second_answer = wrong(|outcome| outcome.answers = outcome.answers.min(1));
+    // The cuts of the last round begun, be it completed or broken off.
+    let cuts_when_broken = wrong(|outcome| {
+        outcome.cut = *outcome.trace.cuts.last().expect("a round was begun");
+    });
+    // The cuts of all completed rounds.
+    let cuts_added_up = wrong(|outcome| outcome.cut = outcome.completed_cuts().iter().sum());
+    // No cuts once the rounds are used up.
+    let no_cut_told = wrong(|outcome| {
+        if outcome.end == reference::End::Rounds {
+            outcome.cut = 0;
         }
-        result
-    };
+    });
     // Condition 3 at the next word.
     let misplaced = |case: &Case| {
         case.run().map_err(|refusal| reference::Refusal {
@@ -229,10 +242,14 @@ fn differences_are_found_and_made_small() {
             ..refusal
         })
     };
-    // Each with as many words as suffice for it to show, and the most that a case may keep: no change unfolds a call, so a
-    // run that shows it only after a call stays longer. Of refused words any are cut.
+    // Each with as many words as suffice for it to show, and the most that a case may keep: no change unfolds a call or takes
+    // a parameter away, so a run that shows it only after a call, or in a call with arguments, stays longer. Of refused words
+    // any are cut.
     made_small("late absence", late_absence, 10, 30);
     made_small("no second answer", no_second_answer, 10, 20);
+    made_small("cuts when broken", cuts_when_broken, 8, 20);
+    made_small("cuts added up", cuts_added_up, 8, 20);
+    made_small("no cut told", no_cut_told, 8, 20);
     made_small("misplaced", misplaced, 1, 1);
 }
 

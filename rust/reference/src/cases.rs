@@ -120,7 +120,27 @@ fn near_a_bound(rng: &mut Rng, which: usize) -> Case {
         93..=97 => ("terms that deepen", deep_terms(rng)),
         _ => ("deep first parts", deep_first_parts(rng)),
     };
+    let words = match rng.chance(15) {
+        true => calls_ahead(rng, words),
+        false => words,
+    };
     around(rng, Case::new(made, words), ROUND_LIMIT, STEPS)
+}
+
+/// The program with further alternatives ahead of the query's goal, calls of a relation that only calls itself: every round cuts
+/// them before it comes to the goal.
+fn calls_ahead(rng: &mut Rng, words: Vec<u32>) -> Vec<u32> {
+    let (query, others) = words.split_at(1 + payload(words[0]) as usize);
+    let relations = words.iter().filter(|&&word| kind(word) == RELATION).count();
+    let call = [word(CALL, 1), word(NUMBER, relations as u32)];
+    let alternatives = [&call.repeat(rng.between(1, 3)), &query[3..]].concat();
+    let [parameters, variables] = [query[1], query[2]].map(|word| payload(word) as usize);
+    [
+        relation(parameters, variables, part(DISJUNCTION, alternatives)),
+        others.to_vec(),
+        relation(0, 0, call.to_vec()),
+    ]
+    .concat()
 }
 
 /// A case of any size.

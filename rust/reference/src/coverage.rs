@@ -81,6 +81,12 @@ pub fn wanted() -> Vec<String> {
         }
     }
     all.extend(TAG_FAULTS.map(String::from));
+    all.extend(CUTS.map(String::from));
+    all.extend(
+        ["steps", "output", "path"]
+            .into_iter()
+            .flat_map(broken_cuts),
+    );
     for length in [PROGRAM_WORDS - 1, PROGRAM_WORDS] {
         all.push(last_word(length, "the query's own"));
         all.extend(LAST_BASES.map(|base| last_word(length, &bound_from(base))));
@@ -124,6 +130,7 @@ pub fn covered(case: &Case, result: &Result<Outcome, Refusal>) -> BTreeSet<Strin
             all.extend(bounds(outcome));
             all.extend(events(outcome));
             all.extend(answers(outcome));
+            all.extend(cuts(outcome));
             all.extend(last_word_found(&case.words, outcome));
             let program = read(&case.words).expect("it was run");
             all.extend(syntax(&program));
@@ -132,15 +139,18 @@ pub fn covered(case: &Case, result: &Result<Outcome, Refusal>) -> BTreeSet<Strin
     all
 }
 
+/// The names of those facts that hold.
+fn holding<T>(facts: impl IntoIterator<Item = (bool, T)>) -> impl Iterator<Item = T> {
+    let holding = facts.into_iter().filter(|(holds, _)| *holds);
+    holding.map(|(_, name)| name)
+}
+
 /// Of a case refused by 9.
 fn settings(case: &Case) -> impl Iterator<Item = &'static str> {
-    let all = [
+    holding([
         (case.rounds == ROUND_LIMIT + 1, "round limit: 256"),
         (case.scratch == SCRATCH_WORDS - 1, "scratch: one word short"),
-    ];
-    all.into_iter()
-        .filter(|(holds, _)| *holds)
-        .map(|(_, name)| name)
+    ])
 }
 
 /// Of a case refused by 2 at a tag's place. What stands before a fault has been read, so a word of kind 9 there is an absento's.
@@ -269,8 +279,56 @@ fn limits(case: &Case, outcome: &Outcome) -> Vec<&'static str> {
             "round limit: one too low",
         ),
     ];
-    let holding = facts.into_iter().filter(|(holds, _)| *holds);
-    holding.map(|(_, name)| name).collect()
+    holding(facts).collect()
+}
+
+/// The cases of the number of branches cut, but for those of a run that broke off.
+const CUTS: [&str; 6] = [
+    "cut: 0, finished in round 0",
+    "cut: 0, finished after a round that cut some",
+    "cut: 1, rounds used up",
+    "cut: several, rounds used up",
+    "cut: fewer than in the round before it",
+    "cut: not that of all completed rounds together",
+];
+
+/// Those of a run that broke off, by the first word of its end.
+fn broken_cuts(end: &str) -> [String; 4] {
+    [
+        "0, broken off in round 0, which had cut some",
+        "1, that of the round before",
+        "several, those of the round before",
+        "not that of the broken round, which had cut some",
+    ]
+    .map(|what| format!("cut: {what}, end {end}"))
+}
+
+fn cuts(outcome: &Outcome) -> Vec<String> {
+    let (end, cut) = (outcome.end, outcome.cut);
+    let (last, earlier) = outcome.trace.cuts.split_last().expect("a round was begun");
+    let together: u32 = outcome.completed_cuts().iter().sum();
+    let facts = [
+        end == End::Finished && outcome.round == 0,
+        end == End::Finished && outcome.round > 0,
+        end == End::Rounds && cut == 1,
+        end == End::Rounds && cut > 1,
+        end == End::Rounds && earlier.last().is_some_and(|&earlier| cut < earlier),
+        cut != together,
+    ];
+    let named = facts.into_iter().zip(CUTS);
+    let mut all: Vec<String> = holding(named).map(String::from).collect();
+    if outcome.broken() {
+        let facts = [
+            outcome.round == 0 && *last > 0,
+            cut == 1,
+            cut > 1,
+            outcome.round > 0 && *last > 0 && *last != cut,
+        ];
+        let end = listing::end(end);
+        let names = broken_cuts(end.split(' ').next().unwrap_or(&end));
+        all.extend(holding(facts.into_iter().zip(names)));
+    }
+    all
 }
 
 /// How near the run came to each bound on a path.

@@ -10,11 +10,12 @@ pub fn listing(result: &Result<Outcome, Refusal>) -> String {
         Ok(outcome) => outcome,
     };
     let mut text = format!(
-        "end {} round {} steps {} answers {}\n",
+        "end {} round {} steps {} answers {} cut {}\n",
         end(outcome.end),
         outcome.round,
         outcome.steps,
-        outcome.answers
+        outcome.answers,
+        outcome.cut
     );
     let mut rest = &outcome.words[..];
     while let Some((_, inside)) = rest.split_first() {

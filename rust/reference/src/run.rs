@@ -30,7 +30,21 @@ pub struct Outcome {
     pub answer_rounds: Vec<u32>,
     /// All answers, one after the other.
     pub words: Vec<u32>,
+    /// The branches cut in the last completed round, 0 if none was completed (document 02, Note 7).
+    pub cut: u32,
     pub trace: Trace,
+}
+
+impl Outcome {
+    /// The last round begun was broken off.
+    pub fn broken(&self) -> bool {
+        !matches!(self.end, End::Finished | End::Rounds)
+    }
+
+    /// The branches cut in each completed round.
+    pub fn completed_cuts(&self) -> &[u32] {
+        &self.trace.cuts[..self.trace.cuts.len() - self.broken() as usize]
+    }
 }
 
 pub const ROUND_LIMIT: u32 = 255;
@@ -85,16 +99,19 @@ pub fn run_with(
         trace: Trace::default(),
     };
     let mut round = 0;
+    let mut cut = 0;
     let end = loop {
         match search.round(round) {
             Err(end) => break end,
-            Ok(Cut(false)) => break End::Finished,
-            Ok(_) if search.has(Fault::FinishedWithoutAnswer) && !search.answered(round) => {
-                break End::Finished
-            }
-            Ok(Cut(true)) if round == rounds => break End::Rounds,
-            Ok(Cut(true)) => round += 1,
+            Ok(branches) => cut = branches,
         }
+        if cut == 0 || search.has(Fault::FinishedWithoutAnswer) && !search.answered(round) {
+            break End::Finished;
+        }
+        if round == rounds {
+            break End::Rounds;
+        }
+        round += 1;
     };
     Ok(Outcome {
         end,
@@ -103,6 +120,7 @@ pub fn run_with(
         answers: search.answer_rounds.len(),
         answer_rounds: search.answer_rounds,
         words: search.words,
+        cut,
         trace: search.trace,
     })
 }
@@ -111,9 +129,6 @@ pub fn run_with(
 pub fn leave_scratch(scratch: &mut [u32]) {
     scratch[..SCRATCH_WORDS].fill(0);
 }
-
-/// Whether a round cut some branch.
-struct Cut(bool);
 
 /// A term on a path, not followed further. A pair's parts are terms of the program in the variables that begin at
 /// `base`.
@@ -269,8 +284,8 @@ impl Search<'_> {
         }
     }
 
-    /// All paths of a round, depth first, alternatives left to right.
-    fn round(&mut self, round: u32) -> Result<Cut, End> {
+    /// All paths of a round, depth first, alternatives left to right; how many branches were cut.
+    fn round(&mut self, round: u32) -> Result<u32, End> {
         let query = &self.program.relations[0];
         let mut path = Path {
             substitution: Substitution(vec![None; query.variables]),
@@ -282,7 +297,8 @@ impl Search<'_> {
         path.put(&[query.goal], 0);
         self.trace.reach(Bounded::Variables, query.variables);
         let mut choices: Vec<Choice> = Vec::new();
-        let mut cut = Cut(false);
+        let mut cut = 0;
+        self.trace.cuts.push(cut);
         loop {
             // To the end of this path ...
             loop {
@@ -296,7 +312,8 @@ impl Search<'_> {
                     Taken::Goes(on) => path = on,
                     Taken::Failed => break,
                     Taken::Cut => {
-                        cut = Cut(true);
+                        cut += 1;
+                        self.trace.cuts[round as usize] = cut;
                         break;
                     }
                 }

@@ -30,7 +30,7 @@ pub fn refusals() -> Vec<Row> {
 pub struct Decision {
     pub number: u32,
     pub case: Case,
-    /// What is said, `end`, `round`, `steps` or `words`, with the value.
+    /// What is said, `end`, `round`, `steps`, `words` or `cut`, with the value.
     pub expected: Vec<(String, String)>,
 }
 
@@ -42,6 +42,7 @@ impl Decision {
             "round" => outcome.round.to_string(),
             "steps" => outcome.steps.to_string(),
             "words" => show(&outcome.words),
+            "cut" => outcome.cut.to_string(),
             _ => panic!("reading {}: {what}", self.number),
         }
     }

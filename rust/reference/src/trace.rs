@@ -88,6 +88,8 @@ impl Bounded {
 #[derive(Clone, Debug, Default, PartialEq, Eq)]
 pub struct Trace {
     pub events: BTreeSet<Event>,
+    /// The branches cut in each round, those of a broken round so far.
+    pub cuts: Vec<u32>,
     most: [usize; 6],
 }
 

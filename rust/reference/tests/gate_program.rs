@@ -118,7 +118,7 @@ fn runs_input_and_output_are_those_of_the_tables() {
     made.add_bytes(&case, &[&a[..], &[0]].concat(), "refused 1 at 0\n");
     case.words = nested_goals(16_378, [10, 10]);
     assert_eq!(case.words.len(), 16_384);
-    made.add(&case, "end path 2 round 0 steps 1023 answers 0\n");
+    made.add(&case, "end path 2 round 0 steps 1023 answers 0 cut 0\n");
     case.words.push(0);
     made.add(&case, "refused 1 at 0\n");
     let too_long = bytes(&case.words);

@@ -53,7 +53,19 @@ fn limits_break_off_where_they_must() {
             let short = run_with(&words, rounds, limit, OUTPUT);
             assert_eq!((short.end, short.steps), (End::Steps, limit), "{text}");
             assert!(short.round <= full.round, "{text}");
+            // It tells the branches cut by the round before, the last of a run that may go no further.
+            let cut = match short.round.checked_sub(1) {
+                None => 0,
+                Some(last) => run_with(&words, last, STEPS, OUTPUT).cut,
+            };
+            assert_eq!(short.cut, cut, "{text}");
             assert!(full.words.starts_with(&short.words), "{text}");
+        }
+
+        match full.end {
+            End::Finished => assert_eq!(full.cut, 0, "{text}"),
+            End::Rounds => assert!(full.cut > 0, "{text}"),
+            _ => assert_eq!(full.cut > 0, full.round > 0, "{text}"),
         }
 
         // Output just long enough, and one word short.

@@ -41,6 +41,9 @@ slice-write-numbers-6 c = simp length-set (omega (arith, c .before .before .befo
 slice-write-numbers-7 : tie.Need-slice-write-numbers-7
 slice-write-numbers-7 c = simp length-set (omega (arith, c .before .before .before .before .before .before .before .before .before .if1 .left))
 
+slice-write-numbers-8 : tie.Need-slice-write-numbers-8
+slice-write-numbers-8 c = simp length-set (omega (arith, c .before .before .before .before .before .before .before .before .before .if1 .left))
+
 same-length : tie.Need-same-length
 same-length c = search needs
 
@@ -68,6 +71,7 @@ kindcanvas-run-spec =
     slice-write-numbers-5
     slice-write-numbers-6
     slice-write-numbers-7
+    slice-write-numbers-8
     same-length
     same-length-2
     same-length-3

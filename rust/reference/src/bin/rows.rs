@@ -122,11 +122,12 @@ fn row(number: usize, case: &Case, result: &Result<Outcome, Refusal>, unfolding:
     let report = match result {
         Err(refusal) => format!("refusal {} {}", refusal.number, refusal.place),
         Ok(outcome) => format!(
-            "ran (record {{ end = {}; round = {}; steps = {}; answers = {} }})",
+            "ran (record {{ end = {}; round = {}; steps = {}; answers = {}; cut = {} }})",
             end(outcome.end),
             outcome.round,
             outcome.steps,
-            answers(outcome)
+            answers(outcome),
+            outcome.cut
         ),
     };
     format!(

@@ -9,11 +9,11 @@ use Rattle.engine.proofs.rounds.rounds.Statement.{statement}
 use Rattle.engine.proofs.rounds.rounds.Tie as tie
 
 abbrev Inv-loop : tie.InvT-loop
-Inv-loop program scratch₀ output₀ query limit steps number₀ tally₀ scratch output number tally =
-    (length scratch ≡ length scratch₀) × (length output ≡ length output₀) × Going program scratch₀ output₀ query limit steps scratch output number tally
+Inv-loop program scratch₀ output₀ query limit steps number₀ cut₀ tally₀ scratch output number cut tally =
+    (length scratch ≡ length scratch₀) × (length output ≡ length output₀) × Going program scratch₀ output₀ query limit steps scratch output number tally cut
 
 abbrev μ-loop : tie.MeasureT-loop
-μ-loop program scratch₀ output₀ query limit steps number₀ tally₀ scratch output number tally = limit - number
+μ-loop program scratch₀ output₀ query limit steps number₀ cut₀ tally₀ scratch output number cut tally = limit - number
 
 loop-holds : tie.Need-loop-holds Inv-loop μ-loop
 loop-holds c = (refl, refl, start-going _ _ _ _ _ _ _ refl refl refl (omega arith))

@@ -5,6 +5,8 @@ pub mod WalkLoop
 pub mod LastWord
 pub mod SizeLaws
 pub mod ScanSteps
+pub mod MarkLaws
+pub mod OccursSteps
 pub mod UnifySteps
 pub mod UnifyLoop
 pub mod ReviewSteps

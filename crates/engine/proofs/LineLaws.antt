@@ -9,7 +9,8 @@ use borrow.Author.Tests.{eq-eqb, ne-eqb}
 use Rattle.word.specs.Word.{word}
 use Rattle.rules.specs.Syntax.{Atom, Term, var, Sort, symbols, numbers}
 use Rattle.rules.specs.Written.{part, term-words, goal-words, goals-words, sort-kind, atom-word}
-use Rattle.semantics.specs.Answer.{member, index, reify, vars-in, reify-bindings, differ-goals, bindings-in, line-in, line-words, Line, is-sort, lacks, not-all}
+use Rattle.semantics.specs.Answer.{index, reify, vars-in, reify-bindings, differ-goals, bindings-in, line-in, line-words, Line, is-sort, lacks, not-all}
+use Rattle.semantics.specs.Unify.{member}
 use Rattle.semantics.proofs.Basics.{clash, and-true}
 use Rattle.engine.specs.Reference.{at}
 use Rattle.engine.specs.Names.{NamesGiven}

@@ -13,7 +13,8 @@ use Rattle.rules.specs.Reading.{choose}
 use Rattle.rules.specs.Syntax.{empty, var, atom}
 use Rattle.rules.specs.Settings.{scratch-words}
 use Rattle.semantics.specs.Substitution.{Substitution, lookup}
-use Rattle.semantics.specs.Answer.{member, index, appear}
+use Rattle.semantics.specs.Answer.{index, appear}
+use Rattle.semantics.specs.Unify.{member}
 use Rattle.semantics.proofs.Basics.{clash, compared, same, other, none-of, or-right, by-choose}
 use Rattle.semantics.proofs.SubstitutionLaws.{lookup-other}
 use Rattle.engine.specs.Reference.{at}

@@ -11,7 +11,8 @@ use Rattle.rules.specs.Inner.{Spells}
 use Rattle.rules.proofs.Spelled.{stands-at as spells-at, stands-append as spells-append, stands-split as spells-split, term-some}
 use Rattle.rules.specs.Syntax.{Term, var}
 use Rattle.rules.specs.Written.{part, term-words}
-use Rattle.semantics.specs.Answer.{member, index, reify, vars-in}
+use Rattle.semantics.specs.Answer.{index, reify, vars-in}
+use Rattle.semantics.specs.Unify.{member}
 use Rattle.semantics.proofs.Basics.{clash, and-true}
 use Rattle.semantics.proofs.Names.{index-less}
 use Rattle.engine.specs.Reference.{at}

@@ -13,9 +13,9 @@ use Rattle.rules.specs.Reading.{choose}
 use Rattle.rules.specs.Syntax.{Atom, Term, var, atom, pair}
 use Rattle.semantics.specs.Substitution.{Substitution, walk}
 use Rattle.semantics.specs.Steps.{waiting, no-steps, at-bound, done, stop}
-use Rattle.semantics.specs.Unify.{scan, is-var, bind, Looked, fails, agrees, binds, parts, look, Pairs, unify-pair, unify}
+use Rattle.semantics.specs.Unify.{occurs-check, bind, Looked, fails, agrees, binds, parts, look, Pairs, unify-pair, unify}
 use Rattle.semantics.specs.Invariant.{Fits}
-use Rattle.semantics.proofs.ScanLaws.{scan-spent}
+use Rattle.semantics.proofs.OccursLaws.{occurs-spent}
 use Rattle.semantics.proofs.SubstitutionLaws.{walk-followed}
 use Rattle.semantics.proofs.UnifyLaws.{LookRight, look-ok, bind-ok}
 use Rattle.semantics.proofs.UnifyLaws as laws
@@ -23,7 +23,8 @@ use Rattle.engine.specs.Layout.{references}
 use Rattle.engine.specs.Reference.{at, AtomIs, base-of, Stands}
 use Rattle.engine.specs.Memory.{trail-at, BindingsIn, bound}
 use Rattle.engine.specs.Walk.{PartRead, Binds, Follows}
-use Rattle.engine.specs.Scan.{ScanAs, scan-says}
+use Rattle.engine.specs.Occurs.{OccursAs}
+use Rattle.engine.specs.Scan.{scan-says}
 use Rattle.engine.specs.Unify.{BindsTo, PartsTo, LookedAs, TwoTerms, PairGoes, PairUnifiedAs}
 use Rattle.engine.specs.declared.terms.scan.Scanned.{Scanned}
 use Rattle.engine.specs.declared.terms.scan.Scanned.the-variants as scanned
@@ -32,7 +33,7 @@ use Rattle.engine.specs.declared.terms.unify.Looked.the-variants as look
 use Rattle.engine.specs.declared.terms.unify.PairUnified.the-variants as paired
 use Rattle.engine.proofs.ReferenceLaws.{atom-low, atom-test}
 use Rattle.engine.proofs.TrailLaws.{fresh-room, bind-in}
-use Rattle.engine.proofs.ScanSteps.{open-at, atom-at, pair-at, variable-sought}
+use Rattle.engine.proofs.ScanSteps.{open-at, atom-at, pair-at}
 
 -- Two followed terms, by the kinds of their words
 
@@ -174,35 +175,35 @@ module _ {ws s : List ℕ} {bs : Substitution} {a : ℕ} {u : Term} {b : ℕ} {v
       pub bound-room : (x < 2048) × (trail < 2048) × (w < references)
       bound-room = (bound-term .low, omega (arith, m .trail-is, fresh-room bs x (bound-term .term) (m .held .bindings-in .fresh) (bound-term .low) (told .opens)), bound-term .stands .below)
 
-      module _ (sr : Scanned) (check : (bs : Substitution) (t : Term) → Follows ws s bs w t → ScanAs x bs t 0 (steps - 1) sr) where
-        scan-is : scan (is-var x) bs [] (bound-term .term) (steps - 1) ≡ scan-says sr [] (λ us t l. scan (is-var x) bs us t l)
-        scan-is = check bs (bound-term .term) bound-follows (is-var x) [] (variable-sought x (bound-term .low)) refl
+      module _ (sr : Scanned) (check : (bs : Substitution) (t : Term) → Follows ws s bs w t → OccursAs x bs t 0 (steps - 1) sr) where
+        check-is : occurs-check x bs [] [] (bound-term .term) (steps - 1) ≡ scan-says sr [] (λ us u l. occurs-check x bs [] us u l)
+        check-is = check bs (bound-term .term) bound-follows [] refl
 
         pub pair-occurs : {rest : ℕ} → sr ≡ scanned.Found rest → PairUnifiedAs ws s s bs u v steps (paired.Fails rest)
         unfolding PairUnifiedAs scan-says
         pair-occurs {rest} y =
-            let e : scan (is-var x) bs [] (bound-term .term) (steps - 1) ≡ done true rest = rw y at scan-is in
+            let e : occurs-check x bs [] [] (bound-term .term) (steps - 1) ≡ done true rest = rw y at check-is in
             record { untouched = refl; same = λ fuel vs. look-gives (binds x (bound-term .term)) (bound-term .is) fuel vs ∙ rw e }
 
         pub pair-steps : sr ≡ scanned.StepsOut → PairUnifiedAs ws s s bs u v steps paired.StepsOut
         unfolding PairUnifiedAs scan-says
         pair-steps y =
-            let e : scan (is-var x) bs [] (bound-term .term) (steps - 1) ≡ stop no-steps 0 = rw y at scan-is in
+            let e : occurs-check x bs [] [] (bound-term .term) (steps - 1) ≡ stop no-steps 0 = rw y at check-is in
             record { untouched = refl; same = λ fuel vs. look-gives (binds x (bound-term .term)) (bound-term .is) fuel vs ∙ rw e }
 
         pub pair-path : {rest : ℕ} → sr ≡ scanned.WaitingOut rest → PairUnifiedAs ws s s bs u v steps (paired.WaitingOut rest)
         unfolding PairUnifiedAs scan-says
         pair-path {rest} y =
-            let e : scan (is-var x) bs [] (bound-term .term) (steps - 1) ≡ stop (at-bound waiting) rest = rw y at scan-is in
+            let e : occurs-check x bs [] [] (bound-term .term) (steps - 1) ≡ stop (at-bound waiting) rest = rw y at check-is in
             record { untouched = refl; same = λ fuel vs. look-gives (binds x (bound-term .term)) (bound-term .is) fuel vs ∙ rw e }
 
         pub pair-binds : {rest n : ℕ} {s′ : List ℕ} → sr ≡ scanned.Clear rest → n ≡ trail + 1 → s′ ≡ bound s x w trail → PairUnifiedAs ws s s′ bs u v steps (paired.Goes n rest)
         unfolding PairUnifiedAs scan-says
         pair-binds {rest} {n} {s′} y n-is s-is =
             let t : Term = bound-term .term in
-            let e : scan (is-var x) bs [] t (steps - 1) ≡ done false rest = rw y at scan-is in
+            let e : occurs-check x bs [] [] t (steps - 1) ≡ done false rest = rw y at check-is in
             let is : bind bs x t (steps - 1) ≡ done (some ((x, t) ∷ bs)) rest = rw e in
-            let spent : rest ≤ steps - 1 = rw e at (scan-spent (is-var x) bs (steps - 1) [] t) in
+            let spent : rest ≤ steps - 1 = rw e at (occurs-spent x bs (steps - 1) [] [] t) in
             let fits : Fits bs x t = bind-ok 0 bs (m .held .good) (walk bs u) (walk bs v) x t told (steps - 1) (some ((x, t) ∷ bs)) rest is .1 in
             let room : trail < 2048 = bound-room .1 in
             let lt : x < 2048 = bound-term .low in

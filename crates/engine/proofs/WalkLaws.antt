@@ -12,9 +12,10 @@ use Rattle.word.specs.Word.{kind, payload}
 use Rattle.rules.specs.Reading.{choose, kind-at}
 use Rattle.rules.specs.Syntax.{Atom, symbol, number, empty, Term, var, atom, pair}
 use Rattle.semantics.specs.Substitution.{Substitution, lookup, walk-for, walk}
+use Rattle.semantics.specs.Unify.{way-end}
 use Rattle.semantics.specs.Invariant.{Open, Good}
 use Rattle.semantics.proofs.Basics.{clash}
-use Rattle.semantics.proofs.SubstitutionLaws.{Followed, walk-for-open, walk-for-some, followed-follow, walk-for-enough, walk-followed, walk-some}
+use Rattle.semantics.proofs.SubstitutionLaws.{Followed, last-here, last-some, walk-for-open, walk-for-some, followed-follow, walk-for-enough, walk-followed, walk-some}
 use Rattle.engine.specs.Layout.{most-variables}
 use Rattle.engine.specs.Reference.{at, AtomIs, pos-of, base-of, Stands}
 use Rattle.engine.specs.Memory.{BoundTo, Entry, BindingsIn}
@@ -127,11 +128,23 @@ hops-fall n ws s bs w t u good b h v q st k z le =
     let here : hops (suc n) ws s w ≡ suc (hops n ws s (at s y - 1)) = rw (kb, zb, hops) refl in
     omega arith
 
+-- where the way leads on to a variable, that one's way is the rest of it; else x is its last variable
+abbrev pub onward : Substitution → ℕ → Term → Option ℕ
+onward bs x (var y) = way-end bs (var y)
+onward bs x (atom a) = some x
+onward bs x (pair a b) = some x
+
+way-hop : (bs : Substitution) → Good bs → (x : ℕ) (t : Term) → lookup bs x ≡ some t → way-end bs (var x) ≡ onward bs x t
+way-hop bs good x (var y) e = ap some (last-some bs good x y e)
+way-hop bs good x (atom a) e = ap some (last-here (length bs) bs x (λ y q. clash (cc)))
+way-hop bs good x (pair a b) e = ap some (last-here (length bs) bs x (λ y q. clash (cc)))
+
 -- All that a loop needs of one reference
 pub record Hopped (ws s : List ℕ) (bs : Substitution) (w : ℕ) (t : Term) : Type 0 where
   pub next : Term
   pub stands : Stands ws (at s (var-of ws w) - 1) next
   pub same-walk : walk bs t ≡ walk bs next
+  pub same-way : way-end bs t ≡ onward bs (var-of ws w) next
   pub falls : hops 2048 ws s (at s (var-of ws w) - 1) < hops 2048 ws s w
 
 pub hopped : (ws s : List ℕ) (bs : Substitution) (w : ℕ) (t : Term) → Good bs → BindingsIn ws s bs → Stands ws w t → kind-at ws (pos-of w) ≡ 0 → ¬ (at s (var-of ws w) ≡ 0) → Hopped ws s bs w t
@@ -144,6 +157,7 @@ hopped ws s bs w t good b h k z = go (meet ws s bs w t b h)
       next = u;
       stands = st;
       same-walk = subst (λ r. walk bs r ≡ walk bs u) (sym v) (walk-some bs good (var-of ws w) u q);
+      same-way = ap (way-end bs) v ∙ way-hop bs good (var-of ws w) u q;
       falls = hops-fall 2047 ws s bs w t u good b h v q st k z (omega (arith, fresh-few bs (b .fresh)));
     }
 
@@ -165,18 +179,22 @@ arrived-free ws s bs w t b h k z = go (meet ws s bs w t b h)
     go (free k′ kb zb z′ v f e) = (v, subst (λ r. Followed bs r) v f, e (length bs))
     go (hop u k′ kb zb z′ v q st) = absurd (z′ z)
 
--- one hop of the loop
-pub record Hop (ws s : List ℕ) (bs : Substitution) (w : ℕ) (t : Term) (w′ : ℕ) : Type 0 where
+-- one hop of the loop, from the bound variable x
+pub record Hop (ws s : List ℕ) (bs : Substitution) (w : ℕ) (t : Term) (x w′ : ℕ) : Type 0 where
   pub next : Term
   pub follows : Follows ws s bs w′ next
   pub same-walk : walk bs t ≡ walk bs next
+  pub same-way : way-end bs t ≡ onward bs x next
   pub falls : hops 2048 ws s w′ < hops 2048 ws s w
 
 -- What the loop knows, in the shape of its tests
 
 module _ {ws s : List ℕ} {bs : Substitution} {w : ℕ} {t : Term} {bits k p : ℕ} (f : Follows ws s bs w t) (here : PartRead ws w bits k p) where
+  pub walk-still : ¬ (k ≡ 0) → walk bs t ≡ t
+  walk-still n = arrived-node ws s bs w t (f .binds .bindings-in) (f .stands) (λ e. n (here .is-kind ∙ e))
+
   pub walk-node : ¬ (k ≡ 0) → Stands ws w (walk bs t)
-  walk-node n = subst (Stands ws w) (sym (arrived-node ws s bs w t (f .binds .bindings-in) (f .stands) (λ e. n (here .is-kind ∙ e)))) (f .stands)
+  walk-node n = subst (Stands ws w) (sym (walk-still n)) (f .stands)
 
   pub walk-variable : k ≡ 0 → base-of w + p < 2048
   walk-variable e = go (meet ws s bs w t (f .binds .bindings-in) (f .stands))
@@ -192,7 +210,7 @@ module _ {ws s : List ℕ} {bs : Substitution} {w : ℕ} {t : Term} {bits k p : 
   pub walk-free : {x : ℕ} → x ≡ base-of w + p → k ≡ 0 → at s x ≡ 0 → Stands ws w (walk bs t)
   walk-free i e z = subst (Stands ws w) (sym (arrived-free ws s bs w t (f .binds .bindings-in) (f .stands) (sym (here .is-kind) ∙ e) (subst (λ y. at s y ≡ 0) (i ∙ ap (λ y. base-of w + y) (here .is-payload)) z) .2)) (f .stands)
 
-  pub walk-hop : {x : ℕ} → x ≡ base-of w + p → k ≡ 0 → ¬ (at s x ≡ 0) → Hop ws s bs w t (at s x - 1)
+  pub walk-hop : {x : ℕ} → x ≡ base-of w + p → k ≡ 0 → ¬ (at s x ≡ 0) → Hop ws s bs w t x (at s x - 1)
   walk-hop i e z =
       let h = hopped ws s bs w t (f .binds .good) (f .binds .bindings-in) (f .stands) (sym (here .is-kind) ∙ e) (subst (λ y. ¬ (at s y ≡ 0)) (i ∙ ap (λ y. base-of w + y) (here .is-payload)) z) in
-      rw (i, here .is-payload) (record { next = h .next; follows = record { binds = f .binds; stands = h .stands }; same-walk = h .same-walk; falls = h .falls })
+      rw (i, here .is-payload) (record { next = h .next; follows = record { binds = f .binds; stands = h .stands }; same-walk = h .same-walk; same-way = h .same-way; falls = h .falls })

@@ -15,8 +15,8 @@ use Rattle.rules.specs.Syntax.{Atom, Term, var, atom, pair}
 use Rattle.rules.specs.Written.{term-words}
 use Rattle.semantics.specs.Substitution.{Substitution, lookup, resolve}
 use Rattle.semantics.specs.Steps.{done}
-use Rattle.semantics.specs.Unify.{scan, scan-node, never}
-use Rattle.semantics.specs.Answer.{member, index, appear, reify, vars-in, Line, lacks, line-in, line-words, any-same, same-words, lacks-each, stays, trial-bindings, resolve-right}
+use Rattle.semantics.specs.Unify.{scan, scan-node, never, member}
+use Rattle.semantics.specs.Answer.{index, appear, reify, vars-in, Line, lacks, line-in, line-words, any-same, same-words, lacks-each, stays, trial-bindings, resolve-right}
 use Rattle.semantics.specs.Invariant.{Good}
 use Rattle.semantics.proofs.Basics.{one-of}
 use Rattle.semantics.proofs.SubstitutionLaws.{walk-some, walk-open, resolve-lookup, resolve-open}

@@ -4,6 +4,7 @@ pub mod Memory
 pub mod Walk
 pub mod Trail
 pub mod Scan
+pub mod Occurs
 pub mod Unify
 pub mod Review
 pub mod Take

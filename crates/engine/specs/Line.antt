@@ -8,7 +8,8 @@ use lib.ListN.{length}
 use Rattle.rules.specs.Reading.{choose}
 use Rattle.rules.specs.Syntax.{Atom, Term, Sort}
 use Rattle.rules.specs.Written.{atom-word, sort-kind, goal-words}
-use Rattle.semantics.specs.Answer.{member, index, reify, vars-in, Line, is-sort, lacks, not-all, differ-goal}
+use Rattle.semantics.specs.Answer.{index, reify, vars-in, Line, is-sort, lacks, not-all, differ-goal}
+use Rattle.semantics.specs.Unify.{member}
 use Rattle.engine.specs.Layout.{most-variables, trail-area, pairs-area}
 use Rattle.engine.specs.Reference.{at}
 use Rattle.engine.specs.Walk.{Resolves}

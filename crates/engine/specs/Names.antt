@@ -7,7 +7,7 @@ use lib.Dec.{eqb}
 use lib.ListN.{length}
 use Rattle.rules.specs.Reading.{choose}
 use Rattle.rules.specs.Settings.{scratch-words}
-use Rattle.semantics.specs.Answer.{member}
+use Rattle.semantics.specs.Unify.{member}
 use Rattle.engine.specs.Layout.{most-variables, names-area, cells-area}
 use Rattle.engine.specs.Reference.{at}
 

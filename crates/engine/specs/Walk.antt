@@ -1,11 +1,13 @@
 -- What `part_at`, `walk` and `follow` promise.
-use Prim.Native.Nat.{ℕ, _≤_, _<_}
+use Prim.Native.Nat.{ℕ, suc, _≤_, _<_}
 use mathlib.Core.Path.{_≡_}
 use mathlib.Core.List.{List}
+use mathlib.Core.Option.{Option, none, some}
 use lib.ListN.{length}
 use Rattle.rules.specs.Reading.{kind-at, payload-at}
 use Rattle.rules.specs.Syntax.{Term, Atom, var, atom, pair}
 use Rattle.semantics.specs.Substitution.{Substitution, walk, resolve}
+use Rattle.semantics.specs.Unify.{way-end}
 use Rattle.semantics.specs.Invariant.{Good}
 use Rattle.engine.specs.Layout.{most-variables}
 use Rattle.engine.specs.Reference.{at, pos-of, Stands}
@@ -38,10 +40,16 @@ pub record Follows (ws s : List ℕ) (bs : Substitution) (w : ℕ) (t : Term) : 
   pub binds : Binds ws s bs
   pub stands : Stands ws w t
 
--- what `walk` gives: the word at a reference, which stands for the term that the definition walks to
+-- the last variable on a way, plus 1; 0 where it leads through none
+abbrev pub through-word : Option ℕ → ℕ
+through-word none = 0
+through-word (some x) = suc x
+
+-- what `walk` gives: the word at a reference, which stands for the term that the definition walks to; and of a way to a pair the last variable
 pub record WalkedTo (ws s : List ℕ) (w : ℕ) (r : Walked) : Type 0 where
   pub node : IsNode ws r
   pub stands : (bs : Substitution) (t : Term) → Follows ws s bs w t → Stands ws (r .at) (walk bs t)
+  pub led : (bs : Substitution) (t : Term) → Follows ws s bs w t → (a b : Term) → walk bs t ≡ pair a b → r .through ≡ through-word (way-end bs t)
 
 -- the reference, with bindings followed, is the term
 pub record Resolves (ws s : List ℕ) (w : ℕ) (r : Term) : Type 0 where

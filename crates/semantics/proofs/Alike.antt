@@ -12,7 +12,7 @@ use Rattle.semantics.specs.Path.{Passing, as-written, bind-params-by}
 use Rattle.semantics.specs.Review.{clashes, other-sort, reaches, review, review-all, reviewed, sort-fails, trial-fails}
 use Rattle.semantics.specs.Steps.{Bound, Outcome, most, waiting}
 use Rattle.semantics.specs.Substitution.{Substitution, argument, hop, hop-variable, last-variable, lookup, same-atom, shift, shift-constraint, walk, walk-for}
-use Rattle.semantics.specs.Unify.{Goes, Looked, Pairs, agrees, bind, binds, fails, is-atom, is-var, look, parts, scan, scan-next, scan-parts, unify, unify-bound, unify-next, unify-pair, unify-terms}
+use Rattle.semantics.specs.Unify.{Checks, Goes, Looked, Node, Pairs, agrees, below, bind, binds, enter, fails, is-atom, is-var, look, member, node-of, occurs-check, occurs-node, parts, passed, scan, scan-next, scan-parts, sought, unify, unify-bound, unify-next, unify-pair, unify-terms, was-entered, way-end}
 use Rattle.semantics.proofs.Liftings.{OptionLike, OutcomeLike, Pointwise, choose-like, cons-like, done-like, length-like, nil-like, none-like, pointwise-weaken, some-like, step-like, stop-like, then-like}
 
 -- `N x y`: variable x of the one is variable y of the other. Not all variables need be paired.
@@ -116,6 +116,35 @@ module _ (N : Renaming) (pairs : OneToOne N) where
   argument-like k atom-like = atom-like
   argument-like k (pair-like h i) = pair-like h i
 
+  -- variables among others
+  pub member-like : (x y : ℕ) {xs ys : List ℕ} → N x y → Pointwise N xs ys → member x xs ≡ member y ys
+  member-like x y h nil-like = refl
+  member-like x y h (cons-like {a = u} {b = v} k ks) = ap₂ (λ p q. p || q) (pairs x u y v h k) (member-like x y h ks)
+
+  -- nodes of an occurs check
+  way-like : {bs cs : Substitution} {s t : Term} → BindingsLike N bs cs → TermLike N s t → OptionLike N (way-end bs s) (way-end cs t)
+  way-like {bs} {cs} k (var-like {x} {y} h) = rw (length-like k) (some-like (last-like (length cs) x y k h))
+  way-like k atom-like = none-like
+  way-like k (pair-like h i) = none-like
+
+  was-entered-like : {o o′ : Option ℕ} {es ds : List ℕ} → OptionLike N o o′ → Pointwise N es ds → was-entered o es ≡ was-entered o′ ds
+  was-entered-like none-like k = refl
+  was-entered-like (some-like {a = x} {b = y} h) k = member-like x y h k
+
+  enter-like : {o o′ : Option ℕ} {es ds : List ℕ} → OptionLike N o o′ → Pointwise N es ds → Pointwise N (enter o es) (enter o′ ds)
+  enter-like none-like k = k
+  enter-like (some-like h) k = cons-like h k
+
+  data NodeLike : Node → Node → Type 0 where
+    sought-like : NodeLike sought sought
+    passed-like : NodeLike passed passed
+    below-like : {es ds : List ℕ} {s t u v : Term} → Pointwise N es ds → TermLike N s u → TermLike N t v → NodeLike (below es s t) (below ds u v)
+
+  node-of-like : {x y : ℕ} {es ds : List ℕ} {o o′ : Option ℕ} {s t : Term} → N x y → Pointwise N es ds → OptionLike N o o′ → TermLike N s t → NodeLike (node-of x es o s) (node-of y ds o′ t)
+  node-of-like {x} {y} n k w (var-like {x = u} {y = v} h) = choose-like NodeLike (eqb x u) (eqb y v) (λ _. sought) (λ _. passed) (λ _. sought) (λ _. passed) (pairs x u y v n h) sought-like passed-like
+  node-of-like n k w atom-like = passed-like
+  node-of-like {es = es} {ds} {o} {o′} n k w (pair-like h i) = choose-like NodeLike (was-entered o es) (was-entered o′ ds) _ _ _ _ (was-entered-like w k) passed-like (below-like (enter-like w k) h i)
+
   -- tests of nodes
   abbrev TestLike : (Term → Bool) → (Term → Bool) → Type 0
   TestLike f g = (s t : Term) → TermLike N s t → f s ≡ g t
@@ -192,12 +221,26 @@ module _ (N : Renaming) (pairs : OneToOne N) where
         choose-like ScanLike (f (walk bs s)) (g (walk cs t)) _ _ _ _ (e (walk bs s) (walk cs t) w) (done-like refl)
         (scan-parts-like left _ _ w ks (λ ws vs s t ks h. scan-like f g e k ws vs s t ks h left))
 
+    -- the occurs check
+    occurs-node-like : {n n′ : Node} {es ds : List ℕ} {ws vs : List Term} (left : ℕ) (go go′ : Checks) → NodeLike n n′ → Pointwise N es ds → TermsLike N ws vs →
+        ((es ds : List ℕ) (ws vs : List Term) (s t : Term) → Pointwise N es ds → TermsLike N ws vs → TermLike N s t → ScanLike (go es ws s) (go′ ds vs t)) → ScanLike (occurs-node n es ws left go) (occurs-node n′ ds vs left go′)
+    occurs-node-like left go go′ sought-like is ks f = done-like refl
+    occurs-node-like {es = es} {ds} left go go′ passed-like is ks f = scan-next-like left (λ ws s. go es ws s) (λ vs t. go′ ds vs t) ks (λ ws vs s t ks h. f es ds ws vs s t is ks h)
+    occurs-node-like {ws = ws} {vs} left go go′ (below-like {es} {ds} {s} {t} {u} {v} js h i) is ks f =
+        choose-like ScanLike (ltb (length ws) (most waiting)) (ltb (length vs) (most waiting)) _ _ _ _ (ap (λ n. ltb n (most waiting)) (length-like ks)) (f es ds (t ∷ ws) (v ∷ vs) s u js (cons-like i ks) h) stop-like
+
+    occurs-like : (x y : ℕ) → N x y → {bs cs : Substitution} → BindingsLike N bs cs → (es ds : List ℕ) (ws vs : List Term) (s t : Term) → Pointwise N es ds → TermsLike N ws vs → TermLike N s t → (left : ℕ) →
+        ScanLike (occurs-check x bs es ws s left) (occurs-check y cs ds vs t left)
+    occurs-like x y n k es ds ws vs s t is ks h zero = stop-like
+    occurs-like x y n k es ds ws vs s t is ks h (suc left) =
+        occurs-node-like left _ _ (node-of-like n is (way-like k h) (walk-like s t k h)) is ks (λ es ds ws vs s t is ks h. occurs-like x y n k es ds ws vs s t is ks h left)
+
     -- unification
     abbrev UnifyLike : Outcome (Option Substitution) → Outcome (Option Substitution) → Type 0
     UnifyLike = OutcomeLike Waived (OptionLike (BindingsLike N))
 
     bind-like : {bs cs : Substitution} (x y : ℕ) (s t : Term) → BindingsLike N bs cs → N x y → TermLike N s t → (left : ℕ) → UnifyLike (bind bs x s left) (bind cs y t left)
-    bind-like x y s t k h i left = then-like (OptionLike (BindingsLike N)) _ _ (scan-like (is-var x) (is-var y) (is-var-like x y h) k [] [] s t nil-like i left)
+    bind-like x y s t k h i left = then-like (OptionLike (BindingsLike N)) _ _ (occurs-like x y h k [] [] [] [] s t nil-like nil-like i left)
         (λ a b l e. choose-like UnifyLike a b _ _ _ _ e (done-like none-like) (done-like (some-like (cons-like (h, i) k))))
 
     abbrev PairsLike : Pairs → Pairs → Type 0

@@ -1,6 +1,6 @@
 -- Paths that are alike give answers of the same words, with the same steps.
 use Prim.Native.Nat.{_+_, _-_, _<_, suc, zero, ℕ}
-use mathlib.Core.Bool.{_&&_, _||_, not}
+use mathlib.Core.Bool.{_&&_, not}
 use mathlib.Core.List.{List, [], _++_, _∷_}
 use mathlib.Core.Option.{Option}
 use mathlib.Core.Path.{_≡_, ap, ap₂, refl, subst}
@@ -9,12 +9,12 @@ use lib.Dec.{eqb}
 use lib.ListN.{length}
 use Rattle.rules.specs.Syntax.{Atom, Constraint, Sort, Term, pair, var}
 use Rattle.rules.specs.Written.{goal-words, part, terms-words}
-use Rattle.semantics.specs.Answer.{Line, all-lines, answer, answer-words, any-same, appear, appear-all, bindings-in, index, is-sort, lacks, lacks-each, line-goal, line-in, line-words, lines-of, lines-words, listed, look-through, member, names-of, not-all, parameters, query-terms, reify, reify-bindings, reify-line, resolve-right, stays, trial-bindings, trial-lines, typed-lines, vars-in}
+use Rattle.semantics.specs.Answer.{Line, all-lines, answer, answer-words, any-same, appear, appear-all, bindings-in, index, is-sort, lacks, lacks-each, line-goal, line-in, line-words, lines-of, lines-words, listed, look-through, names-of, not-all, parameters, query-terms, reify, reify-bindings, reify-line, resolve-right, stays, trial-bindings, trial-lines, typed-lines, vars-in}
 use Rattle.semantics.specs.Path.{Path}
 use Rattle.semantics.specs.Steps.{Bound, Outcome}
 use Rattle.semantics.specs.Substitution.{Substitution, put, resolve}
-use Rattle.semantics.specs.Unify.{never, scan}
-use Rattle.semantics.proofs.Alike.{BindingsLike, ConstraintLike, ConstraintsLike, OneToOne, Renaming, TermLike, TermsLike, absento-like, atom-like, differ-like, pair-like, scan-like, typed-like, unify-terms-like, var-like, walk-like}
+use Rattle.semantics.specs.Unify.{member, never, scan}
+use Rattle.semantics.proofs.Alike.{BindingsLike, ConstraintLike, ConstraintsLike, OneToOne, Renaming, TermLike, TermsLike, absento-like, atom-like, differ-like, member-like, pair-like, scan-like, typed-like, unify-terms-like, var-like, walk-like}
 use Rattle.semantics.proofs.Liftings.{OptionLike, OutcomeLike, Pointwise, append-like, choose-like, cons-like, done-like, length-like, map-like, map-same, nil-like, none-like, reverse-like, some-like, take-like, then-like}
 
 module _ (N : Renaming) (pairs : OneToOne N) where
@@ -22,12 +22,8 @@ module _ (N : Renaming) (pairs : OneToOne N) where
   NamesLike = Pointwise N
 
   -- names
-  pub member-like : (x y : ℕ) {xs ys : List ℕ} → N x y → NamesLike xs ys → member x xs ≡ member y ys
-  member-like x y h nil-like = refl
-  member-like x y h (cons-like {a = u} {b = v} k ks) = ap₂ (λ p q. p || q) (pairs x u y v h k) (member-like x y h ks)
-
   appear-like : {xs ys : List ℕ} {s t : Term} → NamesLike xs ys → TermLike N s t → NamesLike (appear xs s) (appear ys t)
-  appear-like {xs} {ys} k (var-like {x} {y} h) = choose-like NamesLike (member x xs) (member y ys) _ _ _ _ (member-like x y h k) k (append-like k (cons-like h nil-like))
+  appear-like {xs} {ys} k (var-like {x} {y} h) = choose-like NamesLike (member x xs) (member y ys) _ _ _ _ (member-like N pairs x y h k) k (append-like k (cons-like h nil-like))
   appear-like k atom-like = k
   appear-like k (pair-like h i) = appear-like (appear-like k h) i
 
@@ -45,7 +41,7 @@ module _ (N : Renaming) (pairs : OneToOne N) where
   reify-like k (pair-like h i) = ap₂ pair (reify-like k h) (reify-like k i)
 
   vars-in-like : {xs ys : List ℕ} {s t : Term} → NamesLike xs ys → TermLike N s t → vars-in xs s ≡ vars-in ys t
-  vars-in-like k (var-like {x} {y} h) = member-like x y h k
+  vars-in-like k (var-like {x} {y} h) = member-like N pairs x y h k
   vars-in-like k atom-like = refl
   vars-in-like k (pair-like h i) = ap₂ (λ p q. p && q) (vars-in-like k h) (vars-in-like k i)
 
@@ -67,11 +63,11 @@ module _ (N : Renaming) (pairs : OneToOne N) where
 
   bindings-in-like : {xs ys : List ℕ} {bs cs : List (ℕ × Term)} → NamesLike xs ys → BindingsLike N bs cs → bindings-in xs bs ≡ bindings-in ys cs
   bindings-in-like k nil-like = refl
-  bindings-in-like k (cons-like {a = b} {b = c} h hs) = ap₂ (λ p q. p && q) (ap₂ (λ p q. p && q) (member-like (b .0) (c .0) (h .0) k) (vars-in-like k (h .1))) (bindings-in-like k hs)
+  bindings-in-like k (cons-like {a = b} {b = c} h hs) = ap₂ (λ p q. p && q) (ap₂ (λ p q. p && q) (member-like N pairs (b .0) (c .0) (h .0) k) (vars-in-like k (h .1))) (bindings-in-like k hs)
 
   line-in-like : {xs ys : List ℕ} {l m : Line} → NamesLike xs ys → LineLike l m → line-in xs l ≡ line-in ys m
-  line-in-like k (sort-like {x} {y} h) = member-like x y h k
-  line-in-like k (lacks-like {x} {y} h) = member-like x y h k
+  line-in-like k (sort-like {x} {y} h) = member-like N pairs x y h k
+  line-in-like k (lacks-like {x} {y} h) = member-like N pairs x y h k
   line-in-like k (not-all-like h) = bindings-in-like k h
 
   line-words-like : {xs ys : List ℕ} (l m : Line) → NamesLike xs ys → LineLike l m → line-words xs l ≡ line-words ys m

@@ -12,7 +12,8 @@ use Rattle.word.specs.Word.{kind}
 use Rattle.rules.specs.Lists.{Each}
 use Rattle.rules.specs.Syntax.{Atom, Sort, Term, atom, empty, number, numbers, pair, symbol, symbols, var}
 use Rattle.rules.specs.WellFormed.{AtomGood}
-use Rattle.semantics.specs.Answer.{Line, bindings-in, is-sort, lacks, line-in, member, not-all, vars-in}
+use Rattle.semantics.specs.Answer.{Line, bindings-in, is-sort, lacks, line-in, not-all, vars-in}
+use Rattle.semantics.specs.Unify.{member}
 use Rattle.semantics.specs.Invariant.{Sat}
 use Rattle.semantics.specs.Logic.{Assignment, Lacks, OfSort, Proper, Tree, leaf, node, value}
 use Rattle.semantics.proofs.Basics.{and-true, clash, each-append, each-map, one-of, or-right, same}

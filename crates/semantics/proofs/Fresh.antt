@@ -7,7 +7,7 @@ use native.Mathlib.Omega.{arith}
 use lib.Dec.{eqb}
 use lib.ListN.{length}
 use borrow.Author.Tests.{eqb-true, ne-eqb}
-use Rattle.semantics.specs.Answer.{member}
+use Rattle.semantics.specs.Unify.{member}
 
 abbrev pub erase : ℕ → List ℕ → List ℕ
 erase k [] = []

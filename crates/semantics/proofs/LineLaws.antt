@@ -14,12 +14,12 @@ use Rattle.rules.specs.Lists.{Each}
 use Rattle.rules.specs.Reading.{choose}
 use Rattle.rules.specs.Syntax.{Atom, Constraint, Sort, Term, absento, atom, differ, pair, typed, var}
 use Rattle.rules.specs.WellFormed.{TagGood}
-use Rattle.semantics.specs.Answer.{Line, all-lines, appear, is-sort, lacks, lacks-each, lines-of, look-through, member, not-all, resolve-right, trial-bindings, trial-lines, typed-lines}
+use Rattle.semantics.specs.Answer.{Line, all-lines, appear, is-sort, lacks, lacks-each, lines-of, look-through, not-all, resolve-right, trial-bindings, trial-lines, typed-lines}
 use Rattle.semantics.specs.Invariant.{ConstraintIn, Good, In, Open, Sat, TermIn, Throughout, Unforced, Vars, Without, some-node}
 use Rattle.semantics.specs.Logic.{Assignment, Lacks, Meets, OfSort, leaf, value}
 use Rattle.semantics.specs.Steps.{done}
 use Rattle.semantics.specs.Substitution.{Substitution, resolve, walk}
-use Rattle.semantics.specs.Unify.{is-atom, never, scan, unify-terms}
+use Rattle.semantics.specs.Unify.{is-atom, member, never, scan, unify-terms}
 use Rattle.semantics.proofs.Basics.{clash, each-append, each-map, each-reverse, one-of}
 use Rattle.semantics.proofs.Fill.{Among, Fit, LineGood, Met, atom-payload, differs-in}
 use Rattle.semantics.proofs.Fresh.{fresh}

@@ -13,10 +13,11 @@ use Rattle.rules.specs.Lists.{Each}
 use Rattle.rules.specs.Reading.{choose}
 use Rattle.rules.specs.Syntax.{Sort, Term, atom, pair, var}
 use Rattle.rules.specs.Written.{goal-words, goals-words, term-words, terms-words}
-use Rattle.semantics.specs.Answer.{Line, appear, appear-all, bindings-in, differ-goal, differ-goals, index, is-sort, lacks, line-in, line-words, member, not-all, reify, reify-bindings, reify-line, vars-in}
+use Rattle.semantics.specs.Answer.{Line, appear, appear-all, bindings-in, differ-goal, differ-goals, index, is-sort, lacks, line-in, line-words, not-all, reify, reify-bindings, reify-line, vars-in}
 use Rattle.semantics.specs.Invariant.{In, Sat, TermIn}
 use Rattle.semantics.specs.Logic.{Assignment, node, value}
 use Rattle.semantics.specs.Shows.{payloads}
+use Rattle.semantics.specs.Unify.{member}
 use Rattle.semantics.proofs.Basics.{and-true, by-choose, clash, or-right}
 use Rattle.semantics.proofs.Fill.{LineGood, Met, member-left}
 use Rattle.semantics.proofs.LineLaws.{LineIn}

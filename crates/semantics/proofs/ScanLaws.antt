@@ -1,20 +1,21 @@
 -- What `scan` finds: a node of the resolved term, or of a resolved term that waits, passes the test.
-use Prim.Native.Nat.{_+_, suc, zero, ℕ}
+use Prim.Native.Nat.{_+_, _<_, suc, zero, ℕ}
 use mathlib.Core.Bool.{Bool, _||_, false, or-assoc, or-false, true}
 use mathlib.Core.List.{List, [], _∷_}
-use mathlib.Core.Path.{_∙_, _≡_, ap, refl, sym}
+use mathlib.Core.Path.{_∙_, _≡_, ap, ap₂, refl, subst, sym}
 use native.Mathlib.Omega.{arith}
 use lib.Dec.{ltb}
 use lib.ListN.{length}
 use Rattle.rules.specs.Reading.{choose}
 use Rattle.rules.specs.Syntax.{Atom, Term, atom, pair, var}
 use Rattle.semantics.specs.Invariant.{Good, some-node}
+use Rattle.semantics.specs.Published.{node-passes, passes}
 use Rattle.semantics.specs.Steps.{Outcome, at-bound, done, most, stop, waiting}
 use Rattle.semantics.specs.Substitution.{Substitution, resolve, walk}
 use Rattle.semantics.specs.Unify.{is-atom, is-var, scan, scan-next, scan-parts}
 use Rattle.semantics.proofs.Basics.{clash}
 use Rattle.semantics.proofs.StepLaws.{More, Spent, more-bound, more-done, spent-up}
-use Rattle.semantics.proofs.SubstitutionLaws.{Seen, walk-seen}
+use Rattle.semantics.proofs.SubstitutionLaws.{Seen, size, size-pair, walk-seen}
 
 abbrev pub Leaf : Term → Type 0
 Leaf (var x) = Unit {0}
@@ -132,3 +133,30 @@ module _ (test : Term → Bool) (heads : Heads test) (bs : Substitution) where
   -- a term by itself
   pub scan-alone : Good bs → (t : Term) (left : ℕ) (b : Bool) (left′ : ℕ) → scan test bs [] t left ≡ done b left′ → b ≡ some-node test (resolve bs t)
   scan-alone good t left b left′ e = scan-ok good left [] t b left′ e ∙ or-false _
+
+-- Without steps: the published traversal
+
+pub node-hit : (test : Term → Bool) (f : Term) (go : Term → Bool) → test f ≡ true → node-passes test f go ≡ true
+node-hit test (var x) go e = e
+node-hit test (atom a) go e = e
+node-hit test (pair s t) go e = rw e
+
+pub node-leaf : (test : Term → Bool) (f : Term) (go : Term → Bool) → Leaf f → test f ≡ false → node-passes test f go ≡ false
+node-leaf test (var x) go l e = e
+node-leaf test (atom a) go l e = e
+node-leaf test (pair s t) go l e = absurd l
+
+pub node-parts : (test : Term → Bool) (f a b : Term) (go : Term → Bool) → f ≡ pair a b → test f ≡ false → node-passes test f go ≡ (go a || go b)
+node-parts test f a b go q e = ap (λ (z : Term). node-passes test z go) q ∙ ap (λ (c : Bool). c || (go a || go b)) (ap test (sym q) ∙ e)
+
+-- deep enough, it says whether a node of the resolved term passes
+pub passes-resolved : (test : Term → Bool) → Heads test → (bs : Substitution) → Good bs → (plenty : ℕ) (t : Term) → size bs t < plenty → passes plenty test bs t ≡ some-node test (resolve bs t)
+passes-resolved test heads bs good zero t h = absurd (omega arith)
+passes-resolved test heads bs good (suc plenty) t h = go (walk bs t) refl (passes-resolved test heads bs good plenty)
+  where
+    go : (f : Term) → walk bs t ≡ f → ((t : Term) → size bs t < plenty → passes plenty test bs t ≡ some-node test (resolve bs t)) → passes (suc plenty) test bs t ≡ some-node test (resolve bs t)
+    go (var x) e ih = rw e (sym (ap (some-node test) (subst (Seen bs (resolve bs t)) e (walk-seen bs good t) .1)))
+    go (atom a) e ih = rw e (sym (ap (some-node test) (subst (Seen bs (resolve bs t)) e (walk-seen bs good t))))
+    go (pair a b) e ih =
+        let n = size-pair bs good t a b e in
+        rw e (ap₂ _||_ (heads a b (resolve bs a) (resolve bs b)) (ap₂ _||_ (ih a (omega arith)) (ih b (omega arith))) ∙ sym (ap (some-node test) (subst (Seen bs (resolve bs t)) e (walk-seen bs good t))))

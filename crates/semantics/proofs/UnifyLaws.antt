@@ -17,9 +17,9 @@ use Rattle.semantics.specs.Invariant.{Fits, Good, In, Open, Sat, TermIn}
 use Rattle.semantics.specs.Logic.{Assignment, leaf, node, value}
 use Rattle.semantics.specs.Steps.{Outcome, Stop, at-bound, done, most, stop, waiting}
 use Rattle.semantics.specs.Substitution.{Substitution, resolve, same-atom, walk}
-use Rattle.semantics.specs.Unify.{Goes, Looked, Pairs, agrees, bind, binds, fails, is-var, look, parts, scan, unify, unify-bound, unify-next, unify-pair}
+use Rattle.semantics.specs.Unify.{Goes, Looked, Pairs, agrees, bind, binds, fails, look, occurs-check, parts, unify, unify-bound, unify-next, unify-pair}
 use Rattle.semantics.proofs.Basics.{by-choose, clash, compared, each-append, each-reverse, other, same}
-use Rattle.semantics.proofs.ScanLaws.{is-var-heads, scan-alone, scan-more, scan-spent}
+use Rattle.semantics.proofs.OccursLaws.{occurs-alone, occurs-more, occurs-spent}
 use Rattle.semantics.proofs.StepLaws.{More, Spent, more-bound, more-done, more-then, spent-then, spent-up}
 use Rattle.semantics.proofs.SubstitutionLaws.{Followed, resolve-atom, resolve-open, resolve-pair, value-resolve, value-walk, walk-followed, walk-in}
 use Rattle.semantics.proofs.TermLaws.{inside, inside-pair, not-inside, same-atom-false, same-atom-true}
@@ -116,15 +116,15 @@ Bound-to bs x u none = (α : Assignment) → Sat α bs → ¬ (α x ≡ value α
 Bound-to bs x u (some bs′) = (bs′ ≡ ((x, u) ∷ bs)) × Fits bs x u
 
 pub bind-ok : (top : ℕ) (bs : Substitution) → Good bs → (f g : Term) (x : ℕ) (u : Term) → Binds top bs f g x u → (left : ℕ) (r : Option Substitution) (left′ : ℕ) → bind bs x u left ≡ done r left′ → Bound-to bs x u r
-bind-ok top bs good f g x u b left r left′ e = go (scan (is-var x) bs [] u left) refl
+bind-ok top bs good f g x u b left r left′ e = go (occurs-check x bs [] [] u left) refl
   where
-    go : (o : Outcome Bool) → scan (is-var x) bs [] u left ≡ o → Bound-to bs x u r
+    go : (o : Outcome Bool) → occurs-check x bs [] [] u left ≡ o → Bound-to bs x u r
     go (stop why l) q = clash (cc)
     go (done true l) q =
-        let i = sym (scan-alone (is-var x) (is-var-heads x) bs good u left true l q) in let d : _≡_ {A = Outcome (Option Substitution)} (done none l) (done r left′) = rw q at e in
+        let i = sym (occurs-alone x bs good u left true l q) in let d : _≡_ {A = Outcome (Option Substitution)} (done none l) (done r left′) = rw q at e in
         let n : none ≡ r = cc in subst (Bound-to bs x u) n (λ α h. inside-fails α bs h x u (b .followed) (b .distinct) i)
     go (done false l) q =
-        let i = sym (scan-alone (is-var x) (is-var-heads x) bs good u left false l q) in let d : _≡_ {A = Outcome (Option Substitution)} (done (some ((x, u) ∷ bs)) l) (done r left′) = rw q at e in
+        let i = sym (occurs-alone x bs good u left false l q) in let d : _≡_ {A = Outcome (Option Substitution)} (done (some ((x, u) ∷ bs)) l) (done r left′) = rw q at e in
         let n : some ((x, u) ∷ bs) ≡ r = cc in subst (Bound-to bs x u) n (refl, record { opens = b .opens; acyclic = not-inside x (resolve bs u) i })
 
 module _ (top : ℕ) (bs : Substitution) (s t : Term) (ws : Pairs) where
@@ -202,7 +202,7 @@ unify-step bs ws s t left = go (look (walk bs s) (walk bs t)) refl
     go (parts a b c d) q = splitting a b c d q (ltb (length ws) (most waiting)) refl
 
 pub bind-spent : (bs : Substitution) (x : ℕ) (u : Term) (left : ℕ) → Spent left left (bind bs x u left)
-bind-spent bs x u left = spent-then left left (scan (is-var x) bs [] u left) _ (scan-spent (is-var x) bs left [] u) (λ found l h. by-choose (Spent left left) found _ _ (λ _. h) (λ _. h))
+bind-spent bs x u left = spent-then left left (occurs-check x bs [] [] u left) _ (occurs-spent x bs left [] [] u) (λ found l h. by-choose (Spent left left) found _ _ (λ _. h) (λ _. h))
 
 abbrev Spends : ℕ → Type 0
 Spends fuel = (bs : Substitution) (ws : Pairs) (s t : Term) (left : ℕ) → Spent left left (unify fuel bs ws s t left)
@@ -262,9 +262,9 @@ pair-more : (d : ℕ) (k : Looked) (bs : Substitution) (ws : Pairs) (left left�
 pair-more d fails bs ws left left′ go go′ e f = more-done d none left left′ e
 pair-more d agrees bs ws left left′ go go′ e f = next-more d left ws bs left left′ go go′ (omega arith) e f
 pair-more d (binds x u) bs ws left left′ go go′ e f =
-    more-then d (bind bs x u left) (bind bs x u left′) _ _ (more-then d (scan (is-var x) bs [] u left) (scan (is-var x) bs [] u left′) _ _ (scan-more d (is-var x) bs left left′ [] u e) found) on
+    more-then d (bind bs x u left) (bind bs x u left′) _ _ (more-then d (occurs-check x bs [] [] u left) (occurs-check x bs [] [] u left′) _ _ (occurs-more d x bs left left′ [] [] u e) found) on
   where
-    found : (b : Bool) (l : ℕ) → scan (is-var x) bs [] u left ≡ done b l → (l′ : ℕ) → l′ ≡ l + d →
+    found : (b : Bool) (l : ℕ) → occurs-check x bs [] [] u left ≡ done b l → (l′ : ℕ) → l′ ≡ l + d →
         More d (choose b (λ _. done none l) (λ _. done (some ((x, u) ∷ bs)) l)) (choose b (λ _. done none l′) (λ _. done (some ((x, u) ∷ bs)) l′))
     found true l q l′ i = more-done d none l l′ i
     found false l q l′ i = more-done d (some ((x, u) ∷ bs)) l l′ i

@@ -11,13 +11,8 @@ use Rattle.rules.specs.Reading.{choose}
 use Rattle.rules.specs.Written.{part, terms-words, goal-words}
 use Rattle.semantics.specs.Substitution.{Substitution, walk, resolve}
 use Rattle.semantics.specs.Steps.{Outcome, done, and-then}
-use Rattle.semantics.specs.Unify.{scan, never, unify-terms}
+use Rattle.semantics.specs.Unify.{scan, never, member, unify-terms}
 use Rattle.semantics.specs.Path.{Path}
-
--- is this number in the list?
-abbrev pub member : ℕ → List ℕ → Bool
-member x [] = false
-member x (y ∷ ys) = eqb x y || member x ys
 
 -- the variables of a term, each "by first appearance", after those seen before
 abbrev pub appear : List ℕ → Term → List ℕ

@@ -1,12 +1,17 @@
 -- Rules as they were before a note of document 02 changed them; all else is as it is now. Only theorems that say what stayed speak of them.
-use Prim.Native.Nat.{_-_, ℕ}
-use mathlib.Core.Bool.{Bool, _&&_}
-use mathlib.Core.List.{List, _++_}
-use lib.Dec.{leb}
+use Prim.Native.Nat.{_-_, suc, zero, ℕ}
+use mathlib.Core.Bool.{Bool, _&&_, true}
+use mathlib.Core.List.{List, _++_, _∷_}
+use lib.Dec.{leb, ltb}
 use lib.ListN.{length, replicate}
 use Rattle.rules.specs.Accept.{admit}
+use Rattle.rules.specs.Reading.{choose}
+use Rattle.rules.specs.Syntax.{Term, atom, pair, var}
 use Rattle.semantics.specs.Path.{as-written}
 use Rattle.semantics.specs.Run.{Report, Run, page, ran, refusal, report-read-by}
+use Rattle.semantics.specs.Steps.{Outcome, at-bound, done, no-steps, stop, waiting}
+use Rattle.semantics.specs.Substitution.{Substitution, walk}
+use Rattle.semantics.specs.Unify.{is-var, scan-next}
 
 -- Before Note 12: "scratch at least 16,384 words"
 abbrev pub scratch-words-before-12 : ℕ
@@ -23,3 +28,14 @@ leave-before-12 (ran r) output scratch = record { report = ran r; output = page 
 abbrev pub run-before-12 : List ℕ → ℕ → ℕ → List ℕ → List ℕ → Run
 run-before-12 words round-limit step-limit output scratch =
     leave-before-12 (report-read-by as-written (admit (settings-good-before-12 round-limit (length scratch)) words) round-limit step-limit (length output)) output scratch
+
+-- Before Note 10 an occurs check entered a bound variable each time that it came to it. `room` is how many nodes may wait: `most waiting` in document 01.
+abbrev pub parts-before-10 : ℕ → Term → List Term → ℕ → (List Term → Term → Outcome Bool) → Outcome Bool
+parts-before-10 room (pair a b) ws left go = choose (ltb (length ws) room) (λ _. go (b ∷ ws) a) (λ _. stop (at-bound waiting) (suc left))
+parts-before-10 room (atom a) ws left go = scan-next ws left go
+parts-before-10 room (var y) ws left go = scan-next ws left go
+
+abbrev pub occurs-check-before-10 : ℕ → ℕ → Substitution → List Term → Term → ℕ → Outcome Bool
+occurs-check-before-10 room x bs ws t zero = stop no-steps zero
+occurs-check-before-10 room x bs ws t (suc left) =
+    choose (is-var x (walk bs t)) (λ _. done true left) (λ _. parts-before-10 room (walk bs t) ws left (λ vs v. occurs-check-before-10 room x bs vs v left))

@@ -1,5 +1,5 @@
 -- The starred runs of document 01, "Runs to reproduce", its run with 255 variables, and small runs for "Errors this trade has made", for the order of answers and lines, for the
--- branches cut in the last completed round, and for each bound of a path, as one list of rows.
+-- branches cut in the last completed round, for the occurs check, and for each bound of a path, as one list of rows.
 use Prim.Native.Nat.{ℕ, zero, suc}
 use mathlib.Core.List.{List, [], _∷_, _++_}
 use lib.ListN.{length}
@@ -178,6 +178,60 @@ atoms-differ = word 13 5 ∷ word 2 0 ∷ word 2 0 ∷ word 6 2 ∷ word 1 1 ∷
 abbrev pub bound-nothing : List ℕ
 bound-nothing = word 13 8 ∷ word 2 1 ∷ word 2 1 ∷ word 10 5 ∷ word 7 1 ∷ word 0 0 ∷ word 5 2 ∷ word 0 0 ∷ word 0 0 ∷ []
 
+-- The occurs check of document 02, Note 10: variables that are bound to the pair of two empty lists, and then met again.
+
+-- a relation without parameters, with so many variables and a conjunction
+abbrev pub conjoined : ℕ → List ℕ → List ℕ
+conjoined vars goals = part 13 (word 2 0 ∷ word 2 vars ∷ part 10 goals)
+
+-- the variable x equal to the pair
+abbrev pub is-pair : ℕ → List ℕ
+is-pair x = part 5 (word 0 x ∷ with-empty (word 3 0 ∷ []))
+
+-- then y equal to (x, x), or different from it: a second arrival is one step and nothing below it is looked at, in a trial too
+abbrev pub met-twice : ℕ → List ℕ
+met-twice kind = conjoined 2 (is-pair 0 ++ part kind (word 0 1 ∷ word 4 1 ∷ word 0 0 ∷ word 0 0 ∷ []))
+
+-- with x and y bound to one pair, z equal to (x, y): the mark is on the variable, not on the value
+abbrev pub one-value : List ℕ
+one-value = conjoined 3 (is-pair 0 ++ (part 5 (word 0 1 ∷ word 0 0 ∷ []) ++ part 5 (word 0 2 ∷ word 4 1 ∷ word 0 0 ∷ word 0 1 ∷ [])))
+
+-- one variable for two parameters: a parameter leads on through its argument
+abbrev pub two-parameters : List ℕ
+two-parameters =
+    conjoined 1 (is-pair 0 ++ part 12 (word 2 1 ∷ word 0 0 ∷ word 0 0 ∷ []))
+    ++ part 13 (word 2 2 ∷ word 2 3 ∷ part 5 (word 0 2 ∷ word 4 1 ∷ word 0 0 ∷ word 0 1 ∷ []))
+
+-- with z equal to (y, nil), (x, y) equal to (z', z') for z' = (z, nil): what the check of x entered, that of y enters anew, and finds y in it
+abbrev pub two-checks : List ℕ
+two-checks =
+    conjoined 3 (part 5 (word 0 2 ∷ with-empty (word 0 1 ∷ [])) ++ part 5 (word 4 1 ∷ word 0 0 ∷ word 0 1 ∷ (part 4 (with-empty (word 0 2 ∷ [])) ++ with-empty (word 0 2 ∷ []))))
+
+-- x, y and z in a chain, the last bound to the pair, and a term with the first two: the mark is on the last variable of a way
+abbrev pub two-ways : List ℕ
+two-ways = conjoined 4 (part 5 (word 0 0 ∷ word 0 1 ∷ []) ++ (part 5 (word 0 1 ∷ word 0 2 ∷ []) ++ (is-pair 2 ++ part 5 (word 0 3 ∷ word 4 1 ∷ word 0 0 ∷ word 0 1 ∷ []))))
+
+-- y equal to (x, (x, y)): y is found behind the second arrival
+abbrev pub found-behind : List ℕ
+found-behind = conjoined 2 (is-pair 0 ++ part 5 (word 0 1 ∷ word 4 1 ∷ word 0 0 ∷ word 4 1 ∷ word 0 0 ∷ word 0 1 ∷ []))
+
+-- each call doubles its parameter, and has an alternative with an occurs check of it, which fails: with old checks the 12 rounds took 33,115 steps
+abbrev pub doubled : List ℕ
+doubled =
+    part 13 (word 2 0 ∷ word 2 0 ∷ part 12 (word 2 1 ∷ with-empty (word 3 0 ∷ [])))
+    ++ part 13 (word 2 1 ∷ word 2 2 ∷ part 11 (part 5 (word 0 1 ∷ word 4 1 ∷ word 0 0 ∷ word 0 1 ∷ []) ++ part 12 (word 2 1 ∷ word 4 1 ∷ word 0 0 ∷ word 0 0 ∷ [])))
+
+-- absento in (x, x), and (x, x) for a query term: these looks enter x each time
+abbrev pub absence-twice : List ℕ
+absence-twice = conjoined 1 (is-pair 0 ++ part 9 (word 1 7 ∷ word 4 1 ∷ word 0 0 ∷ word 0 0 ∷ []))
+
+abbrev pub query-twice : List ℕ
+query-twice = part 13 (word 2 1 ∷ word 2 2 ∷ part 10 (is-pair 1 ++ part 5 (word 0 0 ∷ word 4 1 ∷ word 0 1 ∷ word 0 1 ∷ [])))
+
+-- the answer to a query without terms
+abbrev pub yes : List ℕ
+yes = word 15 0 ∷ []
+
 -- `15:1 1:7`
 abbrev pub seven : List ℕ
 seven = word 15 1 ∷ word 1 7 ∷ []
@@ -223,7 +277,7 @@ rows =
     ∷ row atoms-typed 16 1000000 4096 finished 0 29 ((0, seven) ∷ (0, word 15 1 ∷ word 2 8 ∷ []) ∷ []) 0
     ∷ row in-order 16 1000000 4096 finished 0 37 ((0, word 15 18 ∷ word 4 1 ∷ word 0 0 ∷ word 0 1 ∷ word 9 2 ∷ word 1 7 ∷ word 0 0 ∷ word 9 2 ∷ word 1 7 ∷ word 0 1 ∷ word 11 8 ∷ word 6 4 ∷ word 0 0 ∷ word 4 1 ∷ word 0 1 ∷ word 1 1 ∷ word 6 2 ∷ word 0 1 ∷ word 2 2 ∷ []) ∷ []) 0
     ∷ row atoms-equal 16 1000000 4096 finished 0 2 [] 0
-    ∷ row atoms-differ 16 1000000 4096 finished 0 4 ((0, word 15 0 ∷ []) ∷ []) 0
+    ∷ row atoms-differ 16 1000000 4096 finished 0 4 ((0, yes) ∷ []) 0
     ∷ row bound-nothing 16 1000000 4096 finished 0 7 ((0, word 15 3 ∷ word 0 0 ∷ word 7 1 ∷ word 0 0 ∷ []) ∷ []) 0
     ∷ row (query again) 2 1 9 steps-used 1 1 [] 1
     ∷ row one-call 16 1000000 4096 finished 1 6 ((1, seven) ∷ []) 0
@@ -231,6 +285,17 @@ rows =
     ∷ row doubling 16 25 4096 steps-used 3 25 [] 4
     ∷ row doubling-variables 16 1000000 4096 (path-limit bound.variables) 9 1531 [] 256
     ∷ row doubling-five 16 1000000 5 output-full 2 27 ((1, five) ∷ (2, five) ∷ []) 2
+    ∷ row (met-twice 5) 16 1000000 4096 finished 0 13 ((0, yes) ∷ []) 0
+    ∷ row (met-twice 5) 16 12 4096 steps-used 0 12 [] 0
+    ∷ row (met-twice 6) 16 1000000 4096 finished 0 27 ((0, yes) ∷ []) 0
+    ∷ row one-value 16 1000000 4096 finished 0 20 ((0, yes) ∷ []) 0
+    ∷ row two-parameters 16 1000000 4096 finished 1 21 ((1, yes) ∷ []) 0
+    ∷ row two-checks 16 1000000 4096 finished 0 18 [] 0
+    ∷ row two-ways 16 1000000 4096 finished 0 19 ((0, yes) ∷ []) 0
+    ∷ row found-behind 16 1000000 4096 finished 0 15 [] 0
+    ∷ row doubled 12 1000000 4096 rounds-used 12 1287 [] 1
+    ∷ row absence-twice 16 1000000 4096 finished 0 22 ((0, yes) ∷ []) 0
+    ∷ row query-twice 16 1000000 4096 finished 0 20 ((0, word 15 7 ∷ word 4 3 ∷ word 4 1 ∷ word 3 0 ∷ word 3 0 ∷ word 4 1 ∷ word 3 0 ∷ word 3 0 ∷ []) ∷ []) 0
     ∷ row P 16 1000000 4096 (path-limit bound.variables) 8 43 [] 1
     ∷ row (Q 8) 16 1000000 4096 (path-limit bound.variables) 9 53 [] 1
     ∷ row (Q 9) 16 1000000 4096 (path-limit bound.variables) 8 43 [] 1

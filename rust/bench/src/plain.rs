@@ -35,6 +35,8 @@ const MOST_GOALS: u32 = 1024;
 const MOST_DISJUNCTIONS: u32 = 256;
 const MOST_CONSTRAINTS: u32 = 512;
 const MOST_WAITING: u32 = 512;
+/// Words with a bit for each variable.
+const MARKS: usize = MOST_VARIABLES as usize / 32;
 
 /// Why a run is broken off.
 #[derive(Clone, Copy)]
@@ -199,6 +201,20 @@ fn leaf_word(reference: u32, word: u32) -> u32 {
     }
 }
 
+/// Is a pair entered? The last bound variable on the way to it, where there is one, lets in once and is marked.
+#[inline(always)]
+fn enters(entered: &mut [u32; MARKS], through: u32) -> bool {
+    if through == 0 {
+        return true;
+    }
+    let variable = through - 1;
+    // SAFETY: there is a bit for each of the most variables that a path can have.
+    let word = unsafe { entered.get_unchecked_mut((variable / 32) as usize) };
+    let before = *word;
+    *word |= 1 << (variable % 32);
+    *word != before
+}
+
 impl Memory {
     #[inline(always)]
     fn word(self, reference: u32) -> u32 {
@@ -228,20 +244,29 @@ impl Memory {
         }
     }
 
-    /// The term followed through its bindings, and its word.
+    /// The term followed through its bindings, its word, and 0 or the last bound variable on the way plus 1.
     #[inline(always)]
-    fn walk(self, mut term: u32) -> (u32, u32) {
+    fn walk_through(self, mut term: u32) -> (u32, u32, u32) {
+        let mut through = 0;
         loop {
             let word = self.word(term);
             if kind(word) != VARIABLE {
-                return (term, word);
+                return (term, word, through);
             }
-            let bound = self.get(variable(term, word));
+            let here = variable(term, word);
+            let bound = self.get(here);
             if bound == 0 {
-                return (term, word);
+                return (term, word, through);
             }
+            through = here + 1;
             term = bound - 1;
         }
+    }
+
+    #[inline(always)]
+    fn walk(self, term: u32) -> (u32, u32) {
+        let (at, word, _) = self.walk_through(term);
+        (at, word)
     }
 
     /// Past the term at a reference.
@@ -302,6 +327,64 @@ impl Memory {
         }
     }
 
+    /// Does the open variable occur in the followed term? The marks are made for a pair only: a leaf enters nothing.
+    #[inline(always)]
+    fn occurs(self, sought: u32, term: u32, left: &mut u32) -> Result<bool, Stop> {
+        if *left == 0 {
+            return Err(Stop::Steps);
+        }
+        let word = self.word(term);
+        if kind(word) != PAIR {
+            *left -= 1;
+            return Ok(leaf_word(term, word) == sought);
+        }
+        self.scan_once(&mut [0; MARKS], sought, term, 0, left)
+    }
+
+    /// As `scan`, but what a variable is bound to is entered once: another arrival is one node, with nothing below it.
+    fn scan_once(
+        self,
+        entered: &mut [u32; MARKS],
+        sought: u32,
+        mut term: u32,
+        waiting: u32,
+        left: &mut u32,
+    ) -> Result<bool, Stop> {
+        loop {
+            if *left == 0 {
+                return Err(Stop::Steps);
+            }
+            let (at, word, through) = self.walk_through(term);
+            if kind(word) != PAIR {
+                *left -= 1;
+                return Ok(leaf_word(at, word) == sought);
+            }
+            if !enters(entered, through) {
+                *left -= 1;
+                return Ok(false);
+            }
+            if waiting == MOST_WAITING {
+                return Err(Stop::Path(Bound::Waiting));
+            }
+            *left -= 1;
+            if *left == 0 {
+                return Err(Stop::Steps);
+            }
+            term = at + 1 + payload(word);
+            let (first, word, through) = self.walk_through(at + 1);
+            if kind(word) != PAIR {
+                *left -= 1;
+                if leaf_word(first, word) == sought {
+                    return Ok(true);
+                }
+            } else if !enters(entered, through) {
+                *left -= 1;
+            } else if self.scan_once(entered, sought, first, waiting + 1, left)? {
+                return Ok(true);
+            }
+        }
+    }
+
     /// All nodes of a term, for their steps: no node has a pair's word.
     fn look(self, term: u32, left: &mut u32) -> Result<(), Stop> {
         self.scan(PAIR << 28, term, 0, left).map(|_| ())
@@ -333,14 +416,14 @@ impl Memory {
             if kind(u) == VARIABLE {
                 let open = variable(x, u);
                 if kind(v) != VARIABLE || variable(y, v) != open {
-                    if self.scan(open, y, 0, &mut state.steps)? {
+                    if self.occurs(open, y, &mut state.steps)? {
                         return Ok(false);
                     }
                     self.bind(state, open, y);
                 }
             } else if kind(v) == VARIABLE {
                 let open = variable(y, v);
-                if self.scan(open, x, 0, &mut state.steps)? {
+                if self.occurs(open, x, &mut state.steps)? {
                     return Ok(false);
                 }
                 self.bind(state, open, x);

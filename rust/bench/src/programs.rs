@@ -21,6 +21,7 @@ pub fn compared() -> Vec<Program> {
         program("absence over long lists", absence, 255),
         program("wide disjunctions", wide, 255),
         program("deep unification", deep(), 255),
+        program("shared typings", shared(), 255),
         program(
             "metaKanren, a connective sought",
             metakanren(CONNECTIVE),
@@ -146,4 +147,14 @@ fn deep() -> String {
         .replace("{leaves}", &leaves.join(" "))
         .replace("{left}", &format!("({})", left.join(" ")))
         .replace("{right}", &format!("({})", right.join(" ")))
+}
+
+/// After 100 generations there are donors whose typings are made of the last two.
+fn shared() -> String {
+    let donors: Vec<String> = (0..20)
+        .map(|donor| format!("(all (same t (m 'x{donor} . f)) (same d 'd{donor}))"))
+        .collect();
+    include_str!("../programs/shared.rules")
+        .replace("{numbers}", &["1"; 100].join(" "))
+        .replace("{donors}", &donors.join(" "))
 }

@@ -16,7 +16,7 @@ use reference::shrink::shrink;
 use reference::table;
 use reference::trace::Event;
 use reference::word::{show, ABSENTO};
-use reference::Outcome;
+use reference::{Fault, Outcome};
 use std::collections::BTreeMap;
 use std::env;
 use std::ops::Range;
@@ -251,6 +251,20 @@ fn differences_are_found_and_made_small() {
     made_small("cuts added up", cuts_added_up, 8, 20);
     made_small("no cut told", no_cut_told, 8, 20);
     made_small("misplaced", misplaced, 1, 1);
+}
+
+/// Other readings of the occurs check's rule (document 02, Note 10). All but one show in few words; where a run differs at the bound of
+/// waiting nodes, as it always does by that one, these have to stay.
+#[test]
+fn other_readings_of_occurs_checks_are_found() {
+    for reading in Fault::OF_CHECKS {
+        let suffice = match reading {
+            Fault::SecondArrivalBounded => 1_038,
+            _ => 30,
+        };
+        let wrong = move |case: &Case| case.run_with(Some(reading));
+        made_small(&format!("{reading:?}"), wrong, suffice, 1_100);
+    }
 }
 
 /// The first cases that such a reference gets wrong are made small and told as text: each to at most so many words, and most to

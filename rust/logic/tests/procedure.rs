@@ -16,7 +16,7 @@ const CLAUSES: usize = 100;
 /// A tuple, and the numbers of calls up to 3 with which the relations give it.
 type Given = (&'static str, &'static [u32]);
 
-const RUNS: [(&str, &[Given]); 15] = [
+const RUNS: [(&str, &[Given]); 16] = [
     // A to H of document 01, and a relation that calls itself without end.
     ("13:5 2:1 2:1 5:2 0:0 1:7", &[("1:7", &[0]), ("2:7", &[])]),
     ("13:7 2:1 2:1 5:4 0:0 4:1 0:0 3:0", &[("3:0", &[]), ("4:1 3:0 3:0", &[])]),
@@ -46,6 +46,11 @@ const RUNS: [(&str, &[Given]); 15] = [
     ("13:13 2:0 2:3 10:10 7:1 0:0 8:1 0:1 5:2 0:0 0:2 5:2 0:1 0:2", &[("", &[])]),
     // x = (y . 1) and y = (x . 1): each a part of the other.
     ("13:13 2:0 2:2 10:10 5:4 0:0 4:1 0:1 1:1 5:4 0:1 4:1 0:0 1:1", &[("", &[])]),
+    // z = (y . ()), and (x . y) is ((z . ()) . (z . ())): y is in z, which x's check has entered before y's.
+    (
+        "13:19 2:0 2:3 10:16 5:4 0:2 4:1 0:1 3:0 5:10 4:1 0:0 0:1 4:3 4:1 0:2 3:0 4:1 0:2 3:0",
+        &[("", &[])],
+    ),
     // x is ((y . z) . y), and neither q nor (q . q).
     (
         "13:18 2:1 2:4 10:15 6:2 0:1 0:0 6:4 0:1 4:1 0:0 0:0 5:6 0:1 4:3 4:1 0:2 0:3 0:2",

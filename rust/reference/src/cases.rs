@@ -1,9 +1,12 @@
 //! Programs with limits, on and around the places where a run's end changes.
 
-use crate::gen::{self, pair, part, relation, Rng};
+use crate::fault::Fault;
+use crate::gen::{self, pair, part, relation, wrapped, Rng};
 use crate::read::PROGRAM_WORDS;
-use crate::run::{run, Outcome, ROUND_LIMIT, SCRATCH_WORDS};
+use crate::run::{run_with, Outcome, ROUND_LIMIT, SCRATCH_WORDS, VARIABLES, WAITING};
+use crate::shared;
 use crate::table;
+use crate::trace::DISTANCES;
 use crate::word::*;
 use std::fmt;
 
@@ -33,7 +36,13 @@ impl Case {
     }
 
     pub fn run(&self) -> Result<Outcome, crate::Refusal> {
-        run(
+        self.run_with(None)
+    }
+
+    /// The same with an error put in.
+    pub fn run_with(&self, fault: Option<Fault>) -> Result<Outcome, crate::Refusal> {
+        run_with(
+            fault,
             &self.words,
             self.rounds,
             self.steps,
@@ -65,8 +74,9 @@ const SMALL: usize = 120;
 const STEPS: u32 = 2_000;
 
 /// How programs are made.
-pub const MADE: [&str; 19] = [
+pub const MADE: [&str; 22] = [
     "program",
+    "shared parts",
     "constraints",
     "damaged",
     "random words",
@@ -79,10 +89,12 @@ pub const MADE: [&str; 19] = [
     "many constraints",
     "terms that deepen",
     "deep first parts",
+    "shared parts near a bound",
     "larger program",
     "larger damaged",
     "walk of a long list",
     "very long lists",
+    "many shared parts",
     "full length",
     "many rounds",
 ];
@@ -90,7 +102,8 @@ pub const MADE: [&str; 19] = [
 /// A case that is small enough for slow checkers too.
 pub fn case(rng: &mut Rng) -> Case {
     let (made, words) = match rng.below(100) {
-        0..=39 => ("program", small(rng, gen::program)),
+        0..=33 => ("program", small(rng, gen::program)),
+        34..=39 => ("shared parts", small(rng, shared::parts)),
         40..=54 => ("constraints", small(rng, gen::constrained)),
         55..=58 => ("damaged", small(rng, gen::damaged)),
         59..=60 => ("random words", gen::random_words(rng)),
@@ -114,7 +127,8 @@ fn near_a_bound(rng: &mut Rng, which: usize) -> Case {
             ("long lists", lists(rng, length))
         }
         70..=75 => ("many variables", many_variables(rng)),
-        76..=81 => ("many goals", many_goals(rng)),
+        76..=79 => ("many goals", many_goals(rng)),
+        80..=81 => ("shared parts near a bound", shared_near_a_bound(rng)),
         82..=87 => ("many disjunctions", many_disjunctions(rng)),
         88..=92 => ("many constraints", many_constraints(rng)),
         93..=97 => ("terms that deepen", deep_terms(rng)),
@@ -145,7 +159,7 @@ fn calls_ahead(rng: &mut Rng, words: Vec<u32>) -> Vec<u32> {
 
 /// A case of any size.
 pub fn larger(rng: &mut Rng) -> Case {
-    let (made, words) = match rng.below(22) {
+    let (made, words) = match rng.below(25) {
         0..=5 => ("larger program", gen::accepted(rng)),
         6..=11 => ("program", gen::program(rng)),
         12..=14 => ("larger damaged", gen::damaged(rng)),
@@ -157,7 +171,11 @@ pub fn larger(rng: &mut Rng) -> Case {
             let length = rng.between(1_000, 4_000);
             ("very long lists", lists(rng, length))
         }
-        19..=20 => ("full length", full_length(rng)),
+        19..=21 => ("full length", full_length(rng)),
+        22..=23 => {
+            let levels = rng.between(50, 130);
+            ("many shared parts", many_shared(rng, levels))
+        }
         _ => {
             let case = Case::new("many rounds", many_rounds(rng));
             let rounds = rng.pick(&[ROUND_LIMIT - 1, ROUND_LIMIT, ROUND_LIMIT]);
@@ -328,13 +346,45 @@ fn deep_first_parts(rng: &mut Rng) -> Vec<u32> {
     relation(1, 2, part(CONJUNCTION, goals.concat()))
 }
 
-/// A variable in the first part of so many pairs.
-fn wrapped(variable: u32, depth: usize) -> Vec<u32> {
-    let mut term = vec![word(VARIABLE, variable)];
-    for _ in 0..depth {
-        term = pair(term, vec![word(EMPTY, 0)]);
+/// Path 5 or the steps are met if a check enters a variable again, and just not or just so if it does not; or the variables are
+/// the outermost of a path, or as far apart as a power of two.
+fn shared_near_a_bound(rng: &mut Rng) -> Vec<u32> {
+    match rng.below(6) {
+        0 => {
+            let levels = rng.between(30, 42);
+            shared::doubled(rng, levels)
+        }
+        1 => shared::doubled_by_calls(rng),
+        2..=3 => deep_shared(rng),
+        4 => {
+            let (one, distance) = (rng.below(200), rng.pick(&DISTANCES));
+            shared::far_apart(rng, one, distance)
+        }
+        _ => {
+            let one = rng.pick(&[0, 0, 1, 31, 200]);
+            let last = near(rng, VARIABLES - 1);
+            shared::far_apart(rng, one, last - one)
+        }
     }
-    term
+}
+
+/// A second arrival with as many nodes waiting as may, or one more or less, or at a value that may just be entered once.
+fn deep_shared(rng: &mut Rng) -> Vec<u32> {
+    if rng.chance(50) {
+        let depth = near(rng, WAITING);
+        return shared::again_deep_down(rng, depth);
+    }
+    let depth = rng.between(WAITING - 4, WAITING);
+    shared::deep_again(rng, depth)
+}
+
+/// The same where there are more steps to take: enough for the writer to come to what a trial did not enter again.
+fn many_shared(rng: &mut Rng, levels: usize) -> Vec<u32> {
+    match rng.below(3) {
+        0 => shared::doubled(rng, levels),
+        1 => deep_shared(rng),
+        _ => shared_near_a_bound(rng),
+    }
 }
 
 /// Path 5: a term made deep by being wrapped at each of a number of calls, and looked at after the last.

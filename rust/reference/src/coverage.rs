@@ -1,11 +1,12 @@
 //! What a case covers, found by looking at the case and its result, not by asking how it was made.
 
 use crate::cases::{Case, MADE};
+use crate::fault::Fault;
 use crate::listing;
 use crate::read::{read, Refusal, PROGRAM_WORDS};
 use crate::run::{End, Outcome, ROUND_LIMIT, SCRATCH_WORDS};
 use crate::syntax::{Goal, GoalId, Program, Term, TermId};
-use crate::trace::{Bounded, During, Event, LAST_BASES};
+use crate::trace::{Bounded, During, Event, DISTANCES, LAST_BASES, OUTER_VARIABLES};
 use crate::word::*;
 use std::collections::BTreeSet;
 
@@ -58,11 +59,22 @@ pub fn wanted() -> Vec<String> {
     all.extend((1..=5).map(|bound| format!("end path {bound}")));
     for during in During::ALL {
         all.push(stopped(during, true));
-        // The nodes of a line have been looked at by the review that its constraint passed.
-        if during != During::Lines {
+        // A second arrival puts nothing to wait.
+        if during != During::SecondArrival {
             all.push(stopped(during, false));
         }
     }
+    all.extend(CHECKS.map(String::from));
+    all.extend(OUTER_VARIABLES.map(second_arrival_at));
+    all.extend(DISTANCES.map(entered_apart));
+    for during in [During::Equality, During::Trial, During::Lines] {
+        all.push(second_arrival(during));
+    }
+    for during in [During::AbsenceReview, During::QueryTerms, During::Lines] {
+        all.push(entered_twice(during));
+    }
+    all.extend(Fault::OF_CHECKS.map(told_apart));
+    all.extend([End::Steps, End::Path(5)].map(only_if_entered_again));
     all.extend((1..=9).map(|number| format!("refused {number}")));
     for bounded in Bounded::ALL {
         all.extend(["one below", "reached", "exceeded"].map(|what| format!("{bounded:?}: {what}")));
@@ -131,6 +143,7 @@ pub fn covered(case: &Case, result: &Result<Outcome, Refusal>) -> BTreeSet<Strin
             all.extend(events(outcome));
             all.extend(answers(outcome));
             all.extend(cuts(outcome));
+            all.extend(readings_of_checks(case, outcome));
             all.extend(last_word_found(&case.words, outcome));
             let program = read(&case.words).expect("it was run");
             all.extend(syntax(&program));
@@ -230,6 +243,10 @@ fn limits(case: &Case, outcome: &Outcome) -> Vec<&'static str> {
         (
             one_too_low(End::Steps, |case| case.steps = case.steps.saturating_add(1)),
             "step limit: one too low",
+        ),
+        (
+            outcome.trace.latest_arrival == Some(case.steps),
+            LAST_STEP_ARRIVES,
         ),
         (
             case.output == 0 && end == End::Output,
@@ -356,6 +373,80 @@ fn bounds(outcome: &Outcome) -> Vec<String> {
     all
 }
 
+/// What has to happen in occurs checks, but for where they are.
+const CHECKS: [&str; 8] = [
+    NEW_WAY,
+    THROUGH_PARAMETER,
+    WHILE_FULL,
+    LAST_STEP_ARRIVES,
+    FOUND_AFTER,
+    THROUGH_TWO,
+    ENTERED_ANEW,
+    FOUND_ANEW,
+];
+const NEW_WAY: &str = "second arrival through two variables, the first not met before";
+const THROUGH_PARAMETER: &str = "second arrival through a parameter";
+const WHILE_FULL: &str = "second arrival with as many nodes waiting as may";
+const LAST_STEP_ARRIVES: &str = "second arrival with the last step";
+const FOUND_AFTER: &str = "second arrival, and the variable found later";
+const THROUGH_TWO: &str = "occurs check entered a value through two variables";
+const ENTERED_ANEW: &str = "variable entered by two occurs checks of one unification";
+const FOUND_ANEW: &str = "variable entered by two occurs checks, the later finds its own";
+
+fn second_arrival(during: During) -> String {
+    format!("second arrival during {during:?}")
+}
+
+fn second_arrival_at(variable: usize) -> String {
+    format!("second arrival at variable {variable}")
+}
+
+fn entered_apart(distance: usize) -> String {
+    format!("occurs check entered variables {distance} apart")
+}
+
+fn entered_twice(during: During) -> String {
+    format!("variable entered twice during {during:?}")
+}
+
+fn told_apart(reading: Fault) -> String {
+    format!("run is another by {reading:?}")
+}
+
+fn only_if_entered_again(end: End) -> String {
+    let end = listing::end(end);
+    format!("end {end} only if variables are entered again")
+}
+
+/// The other readings of Note 10 of document 02 by which the run would be another: none, if nothing was come to twice.
+fn readings_of_checks(case: &Case, outcome: &Outcome) -> Vec<String> {
+    let twice = |event: &Event| {
+        matches!(
+            event,
+            Event::SecondArrival(_)
+                | Event::ValueEnteredThroughTwo
+                | Event::EnteredAnew
+                | Event::EnteredTwice(_)
+        )
+    };
+    if !outcome.trace.events.iter().any(twice) {
+        return Vec::new();
+    }
+    let told = outcome.told();
+    let mut all = Vec::new();
+    for reading in Fault::OF_CHECKS {
+        let other = case.run_with(Some(reading)).expect("the same program");
+        if other.told() != told {
+            all.push(told_apart(reading));
+        }
+        let limited = matches!(other.end, End::Steps | End::Path(5));
+        if reading == Fault::EnteredAgain && limited && other.end != outcome.end {
+            all.push(only_if_entered_again(other.end));
+        }
+    }
+    all
+}
+
 fn stopped(during: During, steps: bool) -> String {
     let end = if steps { "steps" } else { "path 5" };
     format!("end {end} during {during:?}")
@@ -364,6 +455,17 @@ fn stopped(during: During, steps: bool) -> String {
 fn events(outcome: &Outcome) -> impl Iterator<Item = String> + '_ {
     outcome.trace.events.iter().map(|event| match event {
         Event::OccursCheckFailed => "occurs check failed".to_string(),
+        Event::SecondArrival(during) => second_arrival(*during),
+        Event::SecondArrivalByNewWay => NEW_WAY.to_string(),
+        Event::SecondArrivalThroughParameter => THROUGH_PARAMETER.to_string(),
+        Event::SecondArrivalWhileFull => WHILE_FULL.to_string(),
+        Event::SecondArrivalAt(variable) => second_arrival_at(*variable),
+        Event::EnteredApart(distance) => entered_apart(*distance),
+        Event::FoundAfterSecondArrival => FOUND_AFTER.to_string(),
+        Event::ValueEnteredThroughTwo => THROUGH_TWO.to_string(),
+        Event::EnteredAnew => ENTERED_ANEW.to_string(),
+        Event::FoundAfterEnteredAnew => FOUND_ANEW.to_string(),
+        Event::EnteredTwice(during) => entered_twice(*during),
         Event::BoundFrom(base, _) => format!("atom {}", bound_from(*base)),
         Event::Followed(_) => "query term found through a variable".to_string(),
         Event::FailedWhenTaken(kind) => format!("kind {kind} failed when taken"),

@@ -19,11 +19,27 @@ pub enum Fault {
     DepthFirst,
     /// A tag matches an atom of its payload, be it a symbol or a number.
     TagOfEitherKind,
+    /// An occurs check enters a bound variable each time that it comes there, as before Note 10 of document 02.
+    EnteredAgain,
+    /// The same, but only in trials.
+    EnteredAgainInTrials,
+    /// An absento's review enters each bound variable at most one time too.
+    AbsenceEntersOnce,
+    /// Marked is the first variable on the way to a value that is entered, not the last.
+    FirstVariableMarked,
+    /// Marked is the value itself, so that two variables bound to one are one.
+    ValueMarked,
+    /// What an occurs check has marked stays so for the later ones of the same equality or trial.
+    MarksKept,
+    /// A second arrival is no step.
+    SecondArrivalFree,
+    /// A second arrival exceeds the bound of waiting nodes if entering the value would.
+    SecondArrivalBounded,
 }
 
 impl Fault {
-    /// The first five are those of document 01, in its order.
-    pub const ALL: [Fault; 8] = [
+    /// Those that change what answers show. The first five are those of document 01, in its order.
+    pub const OF_ANSWERS: [Fault; 8] = [
         Fault::TestedOnlyWhenTaken,
         Fault::TypesDontMeet,
         Fault::AbsentDisequalityKept,
@@ -32,5 +48,17 @@ impl Fault {
         Fault::NoOccursCheck,
         Fault::DepthFirst,
         Fault::TagOfEitherKind,
+    ];
+
+    /// Other readings of Note 10 of document 02, most of which change the steps alone.
+    pub const OF_CHECKS: [Fault; 8] = [
+        Fault::EnteredAgain,
+        Fault::EnteredAgainInTrials,
+        Fault::AbsenceEntersOnce,
+        Fault::FirstVariableMarked,
+        Fault::ValueMarked,
+        Fault::MarksKept,
+        Fault::SecondArrivalFree,
+        Fault::SecondArrivalBounded,
     ];
 }

@@ -74,6 +74,15 @@ pub fn deep_term(depth: u32) -> Vec<u32> {
         .collect()
 }
 
+/// A variable in the first part of so many pairs.
+pub fn wrapped(variable: u32, depth: usize) -> Vec<u32> {
+    let mut term = vec![word(VARIABLE, variable)];
+    for _ in 0..depth {
+        term = pair(term, vec![word(EMPTY, 0)]);
+    }
+    term
+}
+
 /// Pairs nested in first parts.
 pub fn first_parts(depth: u32) -> Vec<u32> {
     relation(0, 0, part(SYMBOLO, deep_term(depth)))

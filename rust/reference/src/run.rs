@@ -5,8 +5,9 @@
 use crate::fault::Fault;
 use crate::read::{read, Refusal};
 use crate::syntax::*;
-use crate::trace::{Bounded, During, Event, Trace};
+use crate::trace::{Bounded, During, Event, Trace, DISTANCES};
 use crate::word::*;
+use std::collections::{BTreeMap, BTreeSet};
 
 /// How a run ended.
 #[derive(Clone, Copy, Debug, PartialEq, Eq)]
@@ -36,6 +37,14 @@ pub struct Outcome {
 }
 
 impl Outcome {
+    /// All but how the run came to it.
+    pub fn told(&self) -> Outcome {
+        Outcome {
+            trace: Trace::default(),
+            ..self.clone()
+        }
+    }
+
     /// The last round begun was broken off.
     pub fn broken(&self) -> bool {
         !matches!(self.end, End::Finished | End::Rounds)
@@ -132,7 +141,7 @@ pub fn leave_scratch(scratch: &mut [u32]) {
 
 /// A term on a path, not followed further. A pair's parts are terms of the program in the variables that begin at
 /// `base`.
-#[derive(Clone, Copy, Debug, PartialEq, Eq)]
+#[derive(Clone, Copy, Debug, PartialEq, Eq, PartialOrd, Ord)]
 enum Value {
     /// A variable of the path.
     Variable(usize),
@@ -171,6 +180,19 @@ impl Substitution {
             }
         }
         value
+    }
+
+    /// The bound variables that following the value leads through, in order.
+    fn way(&self, mut value: Value) -> Vec<usize> {
+        let mut way = Vec::new();
+        while let Value::Variable(variable) = value {
+            let Some(bound) = self.0[variable] else {
+                break;
+            };
+            way.push(variable);
+            value = bound;
+        }
+        way
     }
 
     fn bind(&mut self, variable: usize, value: Value) {
@@ -226,6 +248,16 @@ enum Taken {
 struct Nodes {
     next: Option<Value>,
     waiting: Vec<Value>,
+    /// What they are looked at for.
+    during: During,
+    /// Those of an occurs check: "It should enter each bound variable at most one time" (document 02, Note 10). All else enters
+    /// one as often as it comes there.
+    once: bool,
+    /// The last bound variables of the ways to the pairs entered, with these pairs.
+    entered: BTreeMap<Value, Value>,
+    /// For the trace: all variables of these ways, and whether one was come to again.
+    met: BTreeSet<usize>,
+    arrived_again: bool,
 }
 
 struct Search<'p> {
@@ -344,7 +376,7 @@ impl Search<'_> {
             Goal::Equal(left, right) => {
                 self.step(None)?;
                 let (left, right) = (self.value(*left, base), self.value(*right, base));
-                let joined = self.unify(&mut path.substitution, left, right);
+                let joined = self.unify(During::Equality, &mut path.substitution, left, right);
                 match self.during(During::Equality, joined)? {
                     None => return Ok(Taken::Failed),
                     Some(bound) if bound.is_empty() => (),
@@ -413,6 +445,7 @@ impl Search<'_> {
                     path.substitution.bind(made + parameter, argument);
                 }
                 path.put(&[called.goal], made);
+                self.trace.called(made, called);
                 self.trace
                     .reach(Bounded::Variables, path.substitution.0.len());
                 self.trace.reach(Bounded::Goals, path.put);
@@ -424,6 +457,7 @@ impl Search<'_> {
     /// Makes both sides equal and tells which variables were bound, in order; none if that fails.
     fn unify(
         &mut self,
+        during: During,
         substitution: &mut Substitution,
         left: Value,
         right: Value,
@@ -431,6 +465,7 @@ impl Search<'_> {
         let mut bound = Vec::new();
         let mut next = Some((left, right));
         let mut waiting: Vec<(Value, Value)> = Vec::new();
+        let mut earlier: BTreeMap<Value, Value> = BTreeMap::new();
         while let Some((left, right)) = next.take().or_else(|| waiting.pop()) {
             let (left, right) = (substitution.walk(left), substitution.walk(right));
             if let (
@@ -467,8 +502,7 @@ impl Search<'_> {
                 _ => return Ok(None),
             };
             if !self.has(Fault::NoOccursCheck) {
-                let itself = Value::Variable(variable);
-                let occurs = self.finds(other, substitution, |node| node == itself);
+                let occurs = self.occurs(during, variable, other, substitution, &mut earlier);
                 if self.during(During::OccursCheck, occurs)? {
                     self.trace.note(Event::OccursCheckFailed);
                     return Ok(None);
@@ -480,15 +514,66 @@ impl Search<'_> {
         Ok(Some(bound))
     }
 
-    /// Looks at the nodes of a term up to one that is sought, and says whether there is one.
+    /// The occurs check: whether the variable is in the value. It begins with nothing entered, whatever the earlier ones of the
+    /// same unification have; that is for the trace.
+    fn occurs(
+        &mut self,
+        during: During,
+        variable: usize,
+        value: Value,
+        substitution: &Substitution,
+        earlier: &mut BTreeMap<Value, Value>,
+    ) -> Result<bool, End> {
+        let in_trial = during != During::Equality;
+        let again =
+            self.has(Fault::EnteredAgain) || self.has(Fault::EnteredAgainInTrials) && in_trial;
+        let mut nodes = Nodes {
+            once: !again,
+            ..Nodes::of(value, during)
+        };
+        if self.has(Fault::MarksKept) {
+            nodes.entered = earlier.clone();
+        }
+        let before = self.steps;
+        let itself = Value::Variable(variable);
+        let found = self.finds(&mut nodes, substitution, |node| node == itself)?;
+        let bound = substitution.0.iter().flatten().count();
+        self.trace.checked(bound, self.steps - before);
+        self.note_check(&nodes, found, earlier);
+        earlier.extend(nodes.entered);
+        Ok(found)
+    }
+
+    /// Notes what an occurs check that came to its end has entered.
+    fn note_check(&mut self, nodes: &Nodes, found: bool, earlier: &BTreeMap<Value, Value>) {
+        let entered = &nodes.entered;
+        let anew = entered.keys().any(|mark| earlier.contains_key(mark));
+        let values: BTreeSet<&Value> = entered.values().collect();
+        self.trace.note_those([
+            (anew, Event::EnteredAnew),
+            (anew && found, Event::FoundAfterEnteredAnew),
+            (values.len() < entered.len(), Event::ValueEnteredThroughTwo),
+            (nodes.arrived_again && found, Event::FoundAfterSecondArrival),
+        ]);
+        let variables = entered.keys().filter_map(|mark| match mark {
+            Value::Variable(variable) => Some(*variable),
+            _ => None,
+        });
+        let variables: BTreeSet<usize> = variables.collect();
+        self.trace.note_those(DISTANCES.map(|distance| {
+            let other = |variable: &usize| variables.contains(&(variable + distance));
+            (variables.iter().any(other), Event::EnteredApart(distance))
+        }));
+    }
+
+    /// Looks at nodes up to one that is sought, and says whether there is one.
     fn finds(
         &mut self,
-        value: Value,
+        nodes: &mut Nodes,
         substitution: &Substitution,
         mut sought: impl FnMut(Value) -> bool,
     ) -> Result<bool, End> {
-        let mut nodes = Nodes::of(value);
-        while let Some(node) = self.look(&mut nodes, substitution)? {
+        while let Some(node) = self.look(nodes, substitution)? {
             if sought(node) {
                 return Ok(true);
             }
@@ -506,24 +591,79 @@ impl Search<'_> {
             return Ok(None);
         };
         let node = substitution.walk(value);
-        if let Value::Pair {
+        let Value::Pair {
             first,
             second,
             base,
         } = node
-        {
-            self.step((nodes.waiting.len() == WAITING).then_some(5))?;
-            nodes.waiting.push(self.value(second, base));
-            self.trace.reach(Bounded::Nodes, nodes.waiting.len());
-            nodes.next = Some(self.value(first, base));
-        } else {
+        else {
             self.step(None)?;
+            return Ok(Some(node));
+        };
+        let way = substitution.way(value);
+        let mark = self.mark(&way, node);
+        if mark.is_some_and(|mark| nodes.entered.contains_key(&mark)) {
+            // "where following leads through a last bound variable whose value this check has already entered, that is one
+            // node and nothing below it is looked at" (document 02, Note 10).
+            if nodes.once {
+                self.arrive_again(nodes, &way)?;
+                return Ok(Some(node));
+            }
+            self.trace.note(Event::EnteredTwice(nodes.during));
+        }
+        self.step((nodes.waiting.len() == WAITING).then_some(5))?;
+        nodes.waiting.push(self.value(second, base));
+        self.trace.reach(Bounded::Nodes, nodes.waiting.len());
+        nodes.next = Some(self.value(first, base));
+        if let Some(mark) = mark {
+            nodes.entered.insert(mark, node);
+            nodes.met.extend(way);
         }
         Ok(Some(node))
     }
 
-    fn all_nodes(&mut self, value: Value, substitution: &Substitution) -> Result<Vec<Value>, End> {
-        let mut nodes = Nodes::of(value);
+    /// What is marked when a pair is entered: the last bound variable on the way to it, if there is one.
+    fn mark(&self, way: &[usize], node: Value) -> Option<Value> {
+        let (&first, &last) = (way.first()?, way.last()?);
+        Some(match self.fault {
+            Some(Fault::FirstVariableMarked) => Value::Variable(first),
+            Some(Fault::ValueMarked) => node,
+            _ => Value::Variable(last),
+        })
+    }
+
+    /// An occurs check's second arrival at a variable: a step that puts nothing to wait.
+    fn arrive_again(&mut self, nodes: &mut Nodes, way: &[usize]) -> Result<(), End> {
+        let full = nodes.waiting.len() == WAITING;
+        let step = match self.fault {
+            Some(Fault::SecondArrivalFree) => Ok(()),
+            Some(Fault::SecondArrivalBounded) => self.step(full.then_some(5)),
+            _ => self.step(None),
+        };
+        self.during(During::SecondArrival, step)?;
+        let last = way[way.len() - 1];
+        self.trace.arrived_again(nodes.during, last, self.steps);
+        let new_way = way.len() > 1 && !nodes.met.contains(&way[0]);
+        let parameter = way
+            .iter()
+            .any(|&variable| self.trace.is_parameter(variable));
+        self.trace.note_those([
+            (new_way, Event::SecondArrivalByNewWay),
+            (parameter, Event::SecondArrivalThroughParameter),
+            (full, Event::SecondArrivalWhileFull),
+        ]);
+        nodes.arrived_again = true;
+        nodes.met.extend(way);
+        Ok(())
+    }
+
+    fn all_nodes(
+        &mut self,
+        during: During,
+        value: Value,
+        substitution: &Substitution,
+    ) -> Result<Vec<Value>, End> {
+        let mut nodes = Nodes::of(value, during);
         let mut all = Vec::new();
         while let Some(node) = self.look(&mut nodes, substitution)? {
             all.push(node);
@@ -555,7 +695,11 @@ impl Search<'_> {
                 };
                 let either = self.has(Fault::TagOfEitherKind);
                 let mut passed = false;
-                let found = self.finds(term, &path.substitution, |node| {
+                let mut nodes = Nodes {
+                    once: self.has(Fault::AbsenceEntersOnce),
+                    ..Nodes::of(term, During::AbsenceReview)
+                };
+                let found = self.finds(&mut nodes, &path.substitution, |node| {
                     passed |= node == other;
                     node == tag || either && node == other
                 });
@@ -575,7 +719,7 @@ impl Search<'_> {
                 if self.has(Fault::OpenVariablesDontDiffer) && open(left) && open(right) {
                     return Ok(false);
                 }
-                let bound = self.unify(&mut trial, left, right);
+                let bound = self.unify(During::Trial, &mut trial, left, right);
                 let bound = self.during(During::Trial, bound)?;
                 Ok(bound.is_none_or(|bound| !bound.is_empty()))
             }
@@ -610,7 +754,8 @@ impl Search<'_> {
         let mut names = Names(vec![None; path.substitution.0.len()], 0);
         let mut inside: Vec<u32> = Vec::new();
         for parameter in 0..self.program.relations[0].parameters {
-            let nodes = self.all_nodes(Value::Variable(parameter), &path.substitution);
+            let term = Value::Variable(parameter);
+            let nodes = self.all_nodes(During::QueryTerms, term, &path.substitution);
             let nodes = self.during(During::QueryTerms, nodes)?;
             for &node in &nodes {
                 names.give(node);
@@ -680,7 +825,8 @@ impl Search<'_> {
             }
             Goal::Absento(tag, term) => {
                 let tag = self.value(tag, base);
-                let nodes = self.all_nodes(self.value(term, base), &path.substitution)?;
+                let term = self.value(term, base);
+                let nodes = self.all_nodes(During::Lines, term, &path.substitution)?;
                 let mut seen: Vec<Value> = Vec::new();
                 let mut lines = Vec::new();
                 for node in nodes {
@@ -698,14 +844,14 @@ impl Search<'_> {
             Goal::Differ(left, right) => {
                 let (left, right) = (self.value(left, base), self.value(right, base));
                 let mut trial = path.substitution.clone();
-                let Some(bound) = self.unify(&mut trial, left, right)? else {
+                let Some(bound) = self.unify(During::Lines, &mut trial, left, right)? else {
                     return Ok(vec![]);
                 };
                 // All right sides are looked at, also if an earlier one has made the constraint irrelevant.
                 let mut differs: Vec<Option<Vec<u32>>> = Vec::new();
                 for variable in bound {
                     let right = trial.0[variable].expect("the trial bound it");
-                    let right = self.all_nodes(right, &path.substitution)?;
+                    let right = self.all_nodes(During::Lines, right, &path.substitution)?;
                     let left = names.words(&[Value::Variable(variable)]);
                     let right = names.words(&right);
                     differs.push(match (left, right) {
@@ -729,10 +875,15 @@ impl Search<'_> {
 }
 
 impl Nodes {
-    fn of(value: Value) -> Nodes {
+    fn of(value: Value, during: During) -> Nodes {
         Nodes {
             next: Some(value),
             waiting: Vec::new(),
+            during,
+            once: false,
+            entered: BTreeMap::new(),
+            met: BTreeSet::new(),
+            arrived_again: false,
         }
     }
 }

@@ -9,7 +9,7 @@ use std::ops::Index;
 #[derive(Clone, Copy, Debug, PartialEq, Eq)]
 pub struct GoalId(usize);
 
-#[derive(Clone, Copy, Debug, PartialEq, Eq)]
+#[derive(Clone, Copy, Debug, PartialEq, Eq, PartialOrd, Ord)]
 pub struct TermId(usize);
 
 #[derive(Clone, Debug, PartialEq, Eq)]
@@ -93,15 +93,26 @@ impl Index<TermId> for Program {
     }
 }
 
-/// The words of the program, such that reading them gives the program again.
-pub fn written(program: &Program) -> Vec<u32> {
-    let mut term_words: Vec<usize> = Vec::new();
+/// How many words each term takes.
+fn term_words(program: &Program) -> Vec<usize> {
+    let mut words: Vec<usize> = Vec::new();
     for term in &program.terms {
-        term_words.push(match term {
-            Term::Pair(first, second) => 1 + term_words[first.0] + term_words[second.0],
+        words.push(match term {
+            Term::Pair(first, second) => 1 + words[first.0] + words[second.0],
             _ => 1,
         });
     }
+    words
+}
+
+/// The words of the program's largest term.
+pub fn largest_term(program: &Program) -> usize {
+    term_words(program).into_iter().max().unwrap_or(0)
+}
+
+/// The words of the program, such that reading them gives the program again.
+pub fn written(program: &Program) -> Vec<u32> {
+    let term_words = term_words(program);
     let mut goal_words: Vec<usize> = Vec::new();
     for goal in &program.goals {
         goal_words.push(match goal {

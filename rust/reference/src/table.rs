@@ -1,5 +1,5 @@
 //! Tables of programs in text: `k:p` words, `k:p*N` and `(...)*N` for repetition, `deep*N` for pairs nested in first parts,
-//! `#` for comments.
+//! `nest*N` for their pair words alone, `#` for comments.
 //! For files of this repository only, so a fault in one is a panic.
 
 use crate::cases::Case;
@@ -133,6 +133,10 @@ pub fn words(text: &str) -> Vec<u32> {
         let within = groups.last_mut().expect("a group is open");
         if item == "deep" {
             within.extend(deep_term(count as u32));
+            continue;
+        }
+        if item == "nest" {
+            within.extend(&deep_term(count as u32)[..count]);
             continue;
         }
         if !closes {

@@ -9,7 +9,7 @@ use std::fs;
 use std::path::Path;
 
 /// Worked out as each file's comment says: file, round of the end, branches cut (0 if it finished), rounds of the answers, answers.
-const EXAMPLES: [(&str, u32, u32, &[u32], &str); 9] = [
+const EXAMPLES: [(&str, u32, u32, &[u32], &str); 10] = [
     ("abo-rh.kp", 2, 0, &[2, 2], "15:2 1:1 1:5 15:2 1:2 1:5"),
     ("abo.kp", 8, 0, &[4, 6], "15:1 1:1 15:1 1:2"),
     (
@@ -54,6 +54,7 @@ const EXAMPLES: [(&str, u32, u32, &[u32], &str); 9] = [
         &[1, 1, 1, 1],
         "15:2 2:1 1:2 15:2 2:3 1:24 15:4 2:4 0:0 7:1 0:0 15:2 2:1 1:2",
     ),
+    ("shared-typings.kp", 16, 0, &[16], "15:1 1:7"),
     ("unacceptable.kp", 1, 0, &[1, 1], "15:1 2:2 15:1 2:4"),
 ];
 

@@ -577,6 +577,59 @@ fn equality() {
     );
 }
 
+/// The rows of the table on Note 10 of document 02 for other numbers.
+#[test]
+fn occurs_checks_enter_a_variable_once() {
+    // x0 = (nil . nil), and each further level is the one before twice: two nodes more than that one's.
+    let doubled = |levels: u32| {
+        let mut goals = table::words("5:4 0:0 4:1 3:0 3:0");
+        for level in 1..=levels {
+            let below = word(0, level - 1);
+            goals.extend([word(5, 4), word(0, level), word(4, 1), below, below]);
+        }
+        relation(0, levels as usize + 1, part(10, goals))
+    };
+    for levels in [0, 1, 2, 3, 100, 254] {
+        let steps = 6 + 5 * levels + levels * (levels + 1);
+        assert_eq!(
+            told(&run_rounds(&doubled(levels), 9)),
+            (End::Finished, 0, steps, "15:0".into())
+        );
+    }
+    // Each look at x is three nodes, but for the second of one check: three checks look at it for the first time.
+    assert_run(
+        "13:24 2:0 2:4 10:21 5:4 0:0 4:1 3:0 3:0 5:4 0:1 4:1 0:0 0:0 5:10 4:1 0:2 0:3 4:3 4:1 0:0 0:0 4:1 0:0 0:0",
+        End::Finished,
+        0,
+        1 + 5 + (2 + 5) + (1 + 1 + 2 * (1 + 5)),
+        "15:0",
+    );
+    // In a review, in the review after a later equality, and in the writer, which looks at all of the right side.
+    assert_run(
+        "13:16 2:0 2:3 10:13 5:4 0:0 4:1 3:0 3:0 6:4 0:1 4:1 0:0 0:0 5:2 0:2 3:0",
+        End::Finished,
+        0,
+        1 + 5 + (2 + 6) + (3 + 1 + 6) + (6 + 7),
+        "15:0",
+    );
+    // A variable bound to an atom, or open, is one node each time.
+    assert_run(
+        "13:13 2:0 2:3 10:10 5:2 0:0 3:0 5:6 0:1 4:1 0:0 4:1 0:0 0:2",
+        End::Finished,
+        0,
+        1 + 3 + (2 + 5),
+        "15:0",
+    );
+    // The trial's own bindings are followed, and marked: u is bound on trial before v is.
+    assert_run(
+        "13:13 2:0 2:2 6:10 4:1 0:0 0:1 4:3 4:1 3:0 3:0 4:1 0:0 0:0",
+        End::Finished,
+        0,
+        2 + (1 + 4 + 6) + (1 + 4 + 6) + (3 + 3),
+        "15:0",
+    );
+}
+
 #[test]
 fn constraints_are_reviewed_after_equalities() {
     // x symbolo and y numbero meet when x equals y; the first of them fails.

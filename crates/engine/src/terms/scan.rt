@@ -1,4 +1,4 @@
-// The nodes of a followed term, first part before second, up to the first find: the one traversal of the occurs check, of an absento review and of the writer.
+// The nodes of a followed term, first part before second, up to the first find: the traversal of an absento review and of the writer.
 use crate::layout::MOST_NODES;
 use crate::terms::walk::Walked;
 use crate::terms::walk::variable_at;
@@ -20,7 +20,7 @@ pub enum Scanned {
 }
 
 // The word by which a leaf is sought: an open variable has its number for a word, an atom its own.
-fn leaf_word(node: Walked) -> u32
+pub(crate) fn leaf_word(node: Walked) -> u32
     requires { ⌜ base-of (node .at) + node .payload < 4294967296 ⌝ }
     ensures { λ r. ⌜ LeafWord (node .at) (node .bits) (node .kind) (node .payload) r ⌝ }
 {

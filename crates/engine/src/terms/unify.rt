@@ -1,8 +1,8 @@
 // Unification: a pair of terms is looked at, and pairs of second parts wait in the scratch.
 use crate::layout::MOST_PAIRS;
 use crate::layout::PAIRS;
+use crate::terms::occurs::occurs;
 use crate::terms::scan::Scanned;
-use crate::terms::scan::scan;
 use crate::terms::trail::bind;
 use crate::terms::walk::Walked;
 use crate::terms::walk::variable_at;
@@ -102,12 +102,11 @@ fn unify_pair(
         Looked::Fails => PairUnified::Fails(steps - 1),
         Looked::Agrees => PairUnified::Goes(trail, steps - 1),
         Looked::Parts(c, d, e, f) => PairUnified::Parts(c, d, e, f),
-        Looked::Binds(variable, term) => match scan(
+        Looked::Binds(variable, term) => match occurs(
             &*program,
             scratch,
             variable,
             term,
-            0,
             steps - 1,
         ) {
             Scanned::Found(rest) => PairUnified::Fails(rest),

@@ -45,12 +45,13 @@ pub(crate) fn part_end(reference: u32, size: u32) -> u32
     reference % POSITIONS + 1 + size
 }
 
-// A term that was followed: its reference, and the word there, so that it is read once.
+// A term that was followed: its reference, and the word there, so that it is read once. `through` is the last bound variable on the way, plus 1, or 0 where the way led through none.
 pub struct Walked {
     pub at: u32,
     pub bits: u32,
     pub kind: u32,
     pub payload: u32,
+    pub through: u32,
 }
 
 // The term, followed through the bindings: up to an atom, a pair or an open variable. The position is held in sixteen bits (document 02, Note 4), apart from its base: the last of a program is 16,383.
@@ -60,6 +61,7 @@ pub(crate) fn walk(program: &[u32], scratch: &[u32], term: u32) -> Walked
 {
     let mut position = (term % POSITIONS) as u16;
     let mut base = term / POSITIONS;
+    let mut through = 0;
     loop {
         let part = part_at(program, position as u32);
         let here = Walked {
@@ -67,14 +69,17 @@ pub(crate) fn walk(program: &[u32], scratch: &[u32], term: u32) -> Walked
             bits: part.bits,
             kind: part.kind,
             payload: part.payload,
+            through,
         };
         if part.kind != Word::VARIABLE {
             return here;
         }
-        let entry = scratch[(base + part.payload) as usize];
+        let variable = base + part.payload;
+        let entry = scratch[variable as usize];
         if entry == 0 {
             return here;
         }
+        through = variable + 1;
         position = ((entry - 1) % POSITIONS) as u16;
         base = (entry - 1) / POSITIONS;
     }

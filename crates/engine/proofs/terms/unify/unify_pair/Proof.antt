@@ -39,11 +39,11 @@ enum-known-c c = search needs
 enum-known-variable : tie.Need-enum-known-variable
 enum-known-variable c = search needs
 
-sub-scan : tie.Need-sub-scan
-sub-scan c = search needs
+sub-occurs : tie.Need-sub-occurs
+sub-occurs c = search needs
 
-scan-requires : tie.Need-scan-requires
-scan-requires c κs = let p = c .before .before .before .before .before .before .before .before .before .before .before .pre in (p .1 .0, _, bound-follows (p .0) (p .1 .3) (told (c .before .before .before .before) (p .1 .0) (p .1 .1) (p .1 .2) (p .1 .3)) (c .before .before .variable .given .1))
+occurs-requires : tie.Need-occurs-requires
+occurs-requires c κs = let p = c .before .before .before .before .before .before .before .before .before .before .before .pre in let t = told (c .before .before .before .before) (p .1 .0) (p .1 .1) (p .1 .2) (p .1 .3) in (bound-room (p .0) (p .1 .3) t (c .before .before .variable .given .1) .0, (p .1 .0, _, bound-follows (p .0) (p .1 .3) t (c .before .before .variable .given .1)))
 
 enum-known-rest : tie.Need-enum-known-rest
 enum-known-rest c = search needs
@@ -82,25 +82,25 @@ same-length-4 : tie.Need-same-length-4
 same-length-4 c = search needs
 
 returns-4 : tie.Need-returns-4
-returns-4 c = λ bs u v m. pair-occurs (c .before .before .before .before .before .before .before .before .before .before .before .before .before .before .before .pre .0) m (told (c .before .before .before .before .before .before .before .before) bs u v m) (c .before .before .before .before .before .before .variable .given .1) _ (c .before .before .before .scan .ensures) (c .before .rest .given .1)
+returns-4 c = λ bs u v m. pair-occurs (c .before .before .before .before .before .before .before .before .before .before .before .before .before .before .before .pre .0) m (told (c .before .before .before .before .before .before .before .before) bs u v m) (c .before .before .before .before .before .before .variable .given .1) _ (c .before .before .before .occurs .ensures) (c .before .rest .given .1)
 
 same-length-5 : tie.Need-same-length-5
 same-length-5 c = search needs
 
 returns-5 : tie.Need-returns-5
-returns-5 c = λ bs u v m. pair-binds (c .before .before .before .before .before .before .before .before .before .before .before .before .before .before .before .before .before .before .before .pre .0) m (told (c .before .before .before .before .before .before .before .before .before .before .before .before) bs u v m) (c .before .before .before .before .before .before .before .before .before .before .variable .given .1) _ (c .before .before .before .before .before .before .before .scan .ensures) (c .before .before .before .before .before .rest2 .given .1) (c .before .before .bind .ensures .0) (c .before .before .bind .ensures .1)
+returns-5 c = λ bs u v m. pair-binds (c .before .before .before .before .before .before .before .before .before .before .before .before .before .before .before .before .before .before .before .pre .0) m (told (c .before .before .before .before .before .before .before .before .before .before .before .before) bs u v m) (c .before .before .before .before .before .before .before .before .before .before .variable .given .1) _ (c .before .before .before .before .before .before .before .occurs .ensures) (c .before .before .before .before .before .rest2 .given .1) (c .before .before .bind .ensures .0) (c .before .before .bind .ensures .1)
 
 same-length-6 : tie.Need-same-length-6
 same-length-6 c = search needs
 
 returns-6 : tie.Need-returns-6
-returns-6 c = λ bs u v m. pair-steps (c .before .before .before .before .before .before .before .before .before .before .before .before .before .before .pre .0) m (told (c .before .before .before .before .before .before .before) bs u v m) (c .before .before .before .before .before .variable .given .1) _ (c .before .before .scan .ensures) (c .enum-told3 .given .1)
+returns-6 c = λ bs u v m. pair-steps (c .before .before .before .before .before .before .before .before .before .before .before .before .before .before .pre .0) m (told (c .before .before .before .before .before .before .before) bs u v m) (c .before .before .before .before .before .variable .given .1) _ (c .before .before .occurs .ensures) (c .enum-told3 .given .1)
 
 same-length-7 : tie.Need-same-length-7
 same-length-7 c = search needs
 
 returns-7 : tie.Need-returns-7
-returns-7 c = λ bs u v m. pair-path (c .before .before .before .before .before .before .before .before .before .before .before .before .before .before .before .pre .0) m (told (c .before .before .before .before .before .before .before .before) bs u v m) (c .before .before .before .before .before .before .variable .given .1) _ (c .before .before .before .scan .ensures) (c .before .rest3 .given .1)
+returns-7 c = λ bs u v m. pair-path (c .before .before .before .before .before .before .before .before .before .before .before .before .before .before .before .pre .0) m (told (c .before .before .before .before .before .before .before .before) bs u v m) (c .before .before .before .before .before .before .variable .given .1) _ (c .before .before .before .occurs .ensures) (c .before .rest3 .given .1)
 
 pub unify-pair-spec : {M : Type 1} → statement M
 unify-pair-spec =
@@ -115,8 +115,8 @@ unify-pair-spec =
     sub-t26
     enum-known-c
     enum-known-variable
-    sub-scan
-    scan-requires
+    sub-occurs
+    occurs-requires
     enum-known-rest
     enum-known-rest-2
     bind-requires

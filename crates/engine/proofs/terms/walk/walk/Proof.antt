@@ -7,10 +7,10 @@ use Rattle.engine.proofs.terms.walk.walk.Statement.{statement}
 use Rattle.engine.proofs.terms.walk.walk.Tie as tie
 
 abbrev Inv-loop : tie.InvT-loop
-Inv-loop program scratch term position₀ base₀ position base = Walking program scratch term position base
+Inv-loop program scratch term position₀ base₀ through₀ position base through = Walking program scratch term position base through
 
 abbrev μ-loop : tie.MeasureT-loop
-μ-loop program scratch term position₀ base₀ position base = hops 2048 program scratch (refer position base)
+μ-loop program scratch term position₀ base₀ through₀ position base through = hops 2048 program scratch (refer position base)
 
 cast-position : tie.Need-cast-position Inv-loop μ-loop
 cast-position c = omega arith
@@ -24,20 +24,20 @@ cast-part-at c = omega (arith, c .loop .inv .low)
 part-at-requires : tie.Need-part-at-requires Inv-loop μ-loop
 part-at-requires c κs = walking-inside (c .loop .inv) (c .before .before .before .pre)
 
-cast-position-2 : tie.Need-cast-position-2 Inv-loop μ-loop
-cast-position-2 c = omega (arith, c .before .loop .inv .low)
+cast-base : tie.Need-cast-base Inv-loop μ-loop
+cast-base c = omega (arith, c .before .loop .inv .low)
 
-mul-position : tie.Need-mul-position Inv-loop μ-loop
-mul-position c = omega (arith, walking-below (c .before .loop .inv) (c .before .before .before .before .pre))
+mul-base : tie.Need-mul-base Inv-loop μ-loop
+mul-base c = omega (arith, walking-below (c .before .loop .inv) (c .before .before .before .before .pre))
 
-add-position : tie.Need-add-position Inv-loop μ-loop
-add-position c = omega (arith, walking-below (c .before .loop .inv) (c .before .before .before .before .pre))
+add-base : tie.Need-add-base Inv-loop μ-loop
+add-base c = omega (arith, walking-below (c .before .loop .inv) (c .before .before .before .before .pre))
 
 returns : tie.Need-returns Inv-loop μ-loop
 returns c = walking-node (c .before .before .before .loop .inv) (c .before .before .part-at .ensures) (c .if1 .taken)
 
-add-entry : tie.Need-add-entry Inv-loop μ-loop
-add-entry c = omega (arith, walking-variable (c .before .before .before .before .loop .inv) (c .before .before .before .part-at .ensures) (c .before .before .before .before .before .before .before .pre) (c .before .if1 .left))
+add-variable : tie.Need-add-variable Inv-loop μ-loop
+add-variable c = omega (arith, walking-variable (c .before .before .before .before .loop .inv) (c .before .before .before .part-at .ensures) (c .before .before .before .before .before .before .before .pre) (c .before .if1 .left))
 
 cast-entry : tie.Need-cast-entry Inv-loop μ-loop
 cast-entry c = omega (arith, walking-variable (c .before .before .before .before .loop .inv) (c .before .before .before .part-at .ensures) (c .before .before .before .before .before .before .before .pre) (c .before .if1 .left))
@@ -51,11 +51,14 @@ shared-slice-read-entry c = omega (arith, walking-variable (c .before .before .b
 returns-2 : tie.Need-returns-2 Inv-loop μ-loop
 returns-2 c = walking-open (c .before .before .before .before .before .before .loop .inv) (c .before .before .before .before .before .part-at .ensures) (c .before .before .before .if1 .left) (c .if2 .taken)
 
+add-through : tie.Need-add-through Inv-loop μ-loop
+add-through c = omega (arith, walking-variable (c .before .before .before .before .before .before .loop .inv) (c .before .before .before .before .before .part-at .ensures) (c .before .before .before .before .before .before .before .before .before .pre) (c .before .before .before .if1 .left))
+
 sub-position : tie.Need-sub-position Inv-loop μ-loop
 sub-position c = omega (arith, c .if2 .left)
 
-cast-position-3 : tie.Need-cast-position-3 Inv-loop μ-loop
-cast-position-3 c = omega arith
+cast-position-2 : tie.Need-cast-position-2 Inv-loop μ-loop
+cast-position-2 c = omega arith
 
 sub-base : tie.Need-sub-base Inv-loop μ-loop
 sub-base c = omega (arith, c .if2 .left)
@@ -76,17 +79,18 @@ walk-spec =
     loop-holds
     cast-part-at
     part-at-requires
-    cast-position-2
-    mul-position
-    add-position
+    cast-base
+    mul-base
+    add-base
     returns
-    add-entry
+    add-variable
     cast-entry
     mul-entry
     shared-slice-read-entry
     returns-2
+    add-through
     sub-position
-    cast-position-3
+    cast-position-2
     sub-base
     loop-less
     loop-again)

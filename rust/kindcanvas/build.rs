@@ -10,7 +10,7 @@ use std::process::{exit, Command};
 /// The crate with the exported functions.
 const LIBRARY: &str = "exports";
 /// All crates that go into it.
-const CRATES: [&str; 5] = ["word", "rules", "semantics", "engine", LIBRARY];
+const CRATES: [&str; 6] = ["word", "page", "rules", "semantics", "engine", LIBRARY];
 
 fn main() {
     println!("cargo:rerun-if-changed=build.rs");

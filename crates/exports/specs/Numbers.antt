@@ -1,9 +1,10 @@
--- What `check` and `run` return, in numbers, for callers in other languages.
+-- What `check`, `run` and `find` return, in numbers, for callers in other languages.
 use Prim.Native.Nat.{ℕ, _+_, _*_}
 use mathlib.Core.Path.{_≡_}
 use mathlib.Core.List.{List, [], _∷_, _++_}
 use lib.Dec.{leb}
 use lib.ListN.{length, drop}
+use Rattle.page.specs.Page as page
 use Rattle.rules.specs.Reading.{choose}
 use Rattle.rules.specs.Verdict.{Said, yes-said, no-said}
 use Rattle.semantics.specs.Steps as steps
@@ -47,3 +48,14 @@ call x output scratch lent =
 pub record CallPromise (words : List ℕ) (round-limit step-limit : ℕ) (output scratch lent : List ℕ) (result : ℕ) (output-after scratch-after lent-after : List ℕ) : Type 0 where
   pub is-call : call (run.run-as-written words round-limit step-limit output scratch) output scratch lent ≡ record { result = result; output = output-after; scratch = scratch-after; numbers = lent-after }
   pub demands : result ≡ 8 → Demands words round-limit step-limit output scratch output-after scratch-after (run.run-as-written words round-limit step-limit output scratch .report)
+
+-- What `kindcanvas_view` returns and leaves: 0 or the refusal's number, and where the part begins and ends.
+pub record ViewCall : Type 0 where
+  pub result : ℕ
+  pub start : ℕ
+  pub end : ℕ
+
+-- "that answer's words as a part of the page itself"; a refusal's is the empty part at its place
+abbrev pub view-call : page.Found → ViewCall
+view-call (page.part start end) = record { result = 0; start = start; end = end }
+view-call (page.refused number place) = record { result = number; start = place; end = place }

@@ -1,12 +1,14 @@
-// The functions for other languages: `check` of crate rules and `run` of crate engine, with their results in numbers.
+// The functions for other languages: `check` of crate rules, `run` of crate engine and `find` of crate page, with their results in numbers.
 use engine::End;
+use page::Found;
 use rules::Verdict;
 ghost use mathlib.Core.Path.{_≡_};
 ghost use mathlib.Core.List.{[], _∷_};
 ghost use Rattle.rules.specs.Accept.{read};
 ghost use Rattle.rules.specs.Verdict.{said};
 ghost use Rattle.engine.specs.Report.{end-says};
-ghost use Rattle.exports.specs.Numbers.{CallPromise, end-numbers, packed};
+ghost use Rattle.page.specs.Page.{find};
+ghost use Rattle.exports.specs.Numbers.{CallPromise, end-numbers, packed, view-call};
 
 // 0 if the program is accepted, else the number times 2^32 plus the place.
 #[no_mangle]
@@ -72,4 +74,29 @@ pub extern "C" fn kindcanvas_run(
     numbers[6] = report.words;
     numbers[7] = report.cut;
     8
+}
+
+// Where the answer of this number, from 0, stands on the page: from `start` up to but without `end`, with its header. Returns 0, or the refusal's number; then the
+// part is empty, at the refusal's place.
+#[no_mangle]
+pub extern "C" fn kindcanvas_view(
+    page: &[u32],
+    answer: u32,
+    start: &mut usize,
+    end: &mut usize,
+) -> u32
+    ensures { λ r. ⌜ view-call (find (now (page .entry)) answer) ≡ record { result = r; start = now (start .exit); end = now (end .exit) } ⌝ }
+{
+    match page::find(page, answer) {
+        Found::Part(from, to) => {
+            *start = from;
+            *end = to;
+            0
+        }
+        Found::Refused(number, place) => {
+            *start = place;
+            *end = place;
+            number
+        }
+    }
 }

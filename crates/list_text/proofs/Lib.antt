@@ -1,7 +1,7 @@
 pub mod TextLaws
 pub mod DecimalLaws
 pub mod PartLaws
-pub mod PageLaws
+pub mod LineLaws
 pub mod WordLaws
 pub mod ListLaws
 pub mod RowsHold

@@ -1,5 +1,5 @@
 -- What `run` promises, as the text of its list.
-use Prim.Native.Nat.{ℕ, zero, suc, _≤_}
+use Prim.Native.Nat.{ℕ, _≤_}
 use mathlib.Core.Path.{_≡_, refl, sym, ap, subst, _∙_}
 use mathlib.Core.List.{List, [], _++_, map}
 use native.Mathlib.Omega.{arith}
@@ -9,6 +9,8 @@ use Rattle.semantics.specs.Run as run
 use Rattle.engine.specs.Report.{RunPromise, end-says}
 use Rattle.engine.specs.declared.report.Report.{Report}
 use Rattle.semantics.specs.Path.{as-written}
+use Rattle.page.specs.Page.{answers-on, refused}
+use Rattle.page.proofs.AnswersLaws.{answers-step, zeros-at}
 use Rattle.rules.specs.Lists.{joined}
 use Rattle.list_text.specs.Listing.{TextAs, first-line, line, printed-text, report-answers, report-text, words-of}
 use Rattle.list_text.specs.Writing.{Wrote}
@@ -16,28 +18,27 @@ use Rattle.rules.specs.Settings.{scratch-words}
 use Rattle.list_text.proofs.TextLaws.{behind, sets-start}
 use Rattle.list_text.proofs.WordLaws.{read-short, same-run, start-decides}
 
-none-on-zeros : (n : ℕ) → run.answers-on (replicate n 0) ≡ []
-none-on-zeros zero = refl
-none-on-zeros (suc n) = refl
+none-on-zeros : (n : ℕ) → answers-on (replicate n 0) ≡ []
+none-on-zeros n = answers-step (replicate n 0) 0 (refused 10 0) (zeros-at [] n)
 
 -- the page has the answers of the report
 page-answers : (x : run.Run) (y : run.Report) (output scratch : List ℕ) → x ≡ run.leave y output scratch → output ≡ replicate (length output) 0 →
-    ((r : Result) → x .report ≡ run.ran r → run.answers-on (x .output) ≡ map (λ a. a .1) (r .answers)) → run.answers-on (x .output) ≡ report-answers (x .report)
+    ((r : Result) → x .report ≡ run.ran r → answers-on (x .output) ≡ map (λ a. a .1) (r .answers)) → answers-on (x .output) ≡ report-answers (x .report)
 page-answers x (run.refusal number place) output scratch e z h = rw (e, z) (none-on-zeros (length output))
 page-answers x (run.ran r) output scratch e z h = h r (ap (λ (w : run.Run). w .report) e) ∙ ap (λ (w : run.Run). report-answers (w .report)) (sym e)
 
 listed : {words : List ℕ} {rounds steps : ℕ} {output scratch : List ℕ} {r : Report} {output-after scratch-after : List ℕ} → output ≡ replicate (length output) 0 → RunPromise words rounds steps output scratch r output-after scratch-after →
-    first-line (end-says (r .end)) (r .round) (r .steps) (r .answers) (r .cut) ++ joined (map line (run.answers-on output-after)) ≡ report-text (run.run-as-written words rounds steps output scratch .report)
+    first-line (end-says (r .end)) (r .round) (r .steps) (r .answers) (r .cut) ++ joined (map line (answers-on output-after)) ≡ report-text (run.run-as-written words rounds steps output scratch .report)
 listed {words} {rounds} {steps} {output} {scratch} {r} {output-after} z kept =
     let x = run.run-as-written words rounds steps output scratch in
     let s = kept .says in
-    let a : run.answers-on (x .output) ≡ report-answers (x .report) = page-answers x (run.returns-by as-written words rounds steps (length output) (length scratch)) output scratch refl z (λ w e. rw (s .is-output) at (kept .demands .runs w e .on-output .page-is)) in
+    let a : answers-on (x .output) ≡ report-answers (x .report) = page-answers x (run.returns-by as-written words rounds steps (length output) (length scratch)) output scratch refl z (λ w e. rw (s .is-output) at (kept .demands .runs w e .on-output .page-is)) in
     rw (s .is-end, s .is-round, s .is-steps, s .is-answers, s .is-cut, s .is-output, a)
 
 -- first line and answers behind it
 pub list-text : {words : List ℕ} {rounds steps : ℕ} {output scratch : List ℕ} {r : Report} {output-after scratch-after : List ℕ} {out mid after : List ℕ} {m next : ℕ} →
     output ≡ replicate (length output) 0 → RunPromise words rounds steps output scratch r output-after scratch-after →
-    Wrote (first-line (end-says (r .end)) (r .round) (r .steps) (r .answers) (r .cut)) 0 out m mid → Wrote (joined (map line (run.answers-on output-after))) m mid next after →
+    Wrote (first-line (end-says (r .end)) (r .round) (r .steps) (r .answers) (r .cut)) 0 out m mid → Wrote (joined (map line (answers-on output-after))) m mid next after →
     Wrote (report-text (run.run-as-written words rounds steps output scratch .report)) 0 out next after
 list-text {out = out} {after = after} {next = next} z kept w v = subst (λ (t : List ℕ). Wrote t 0 out next after) (listed z kept) (behind w v)
 

@@ -4,18 +4,13 @@ use mathlib.Core.Path.{_≡_, _∙_, ap}
 use mathlib.Core.List.{List, [], _∷_}
 use native.Mathlib.Nat.{min-zero, suc-min-suc, zero-min}
 use native.Mathlib.Omega.{arith}
-use lib.ListN.{length, length-replicate, take, drop, replicate}
+use lib.ListN.{length, length-replicate, take, replicate}
 
--- a list's start and rest, by a number that may be beyond its end
+-- a list's start, by a number that may be beyond its end
 pub take-within : (n : ℕ) (l : List ℕ) → take (min n (length l)) l ≡ take n l
 take-within zero l = rw (zero-min (length l))
 take-within (suc n) [] = rw (min-zero (suc n))
 take-within (suc n) (x ∷ l) = rw (suc-min-suc n (length l)) (ap (λ (r : List ℕ). x ∷ r) (take-within n l))
-
-pub drop-within : (n : ℕ) (l : List ℕ) → drop (min n (length l)) l ≡ drop n l
-drop-within zero l = rw (zero-min (length l))
-drop-within (suc n) [] = rw (min-zero (suc n))
-drop-within (suc n) (x ∷ l) = rw (suc-min-suc n (length l)) (drop-within n l)
 
 zeros-start : (n m : ℕ) → _≡_ {A = List ℕ} (take (min n m) (replicate m 0)) (replicate (min n m) 0)
 zeros-start zero m = rw (zero-min m)

@@ -1,13 +1,14 @@
 // The answers on a page, each as a line.
 use crate::put::put_byte;
 use crate::put::put_number;
+use page::Found;
+use page::answer_at;
 use word::Word;
-use word::at_most;
 ghost use mathlib.Core.List.{map};
 ghost use Prim.Native.Nat.{_+_, _*_, _<_, _≤_};
 ghost use lib.ListN.{length};
 ghost use Rattle.rules.specs.Lists.{joined};
-ghost use Rattle.semantics.specs.Run.{answers-on};
+ghost use Rattle.page.specs.Page.{answers-on};
 ghost use Rattle.list_text.specs.Listing.{line, word-text};
 ghost use Rattle.list_text.specs.Writing.{Wrote};
 
@@ -38,21 +39,22 @@ fn put_line(words: &[u32], at: usize, out: &mut [u8]) -> usize
     put_byte(b'\n', next, out)
 }
 
-// An answer is found by its first word, 15:n, as the definition finds it.
+// The answers as the walk over the page finds them.
 pub(crate) fn put_answers(page: &[u32], at: usize, out: &mut [u8]) -> usize
     requires { ⌜ at + 13 * length (now page) ≤ 65536 ⌝ }
     ensures { λ r. ⌜ Wrote (joined (map line (answers-on (now (page .entry))))) at (now (out .entry)) r (now (out .exit)) × (r ≤ 65536) ⌝ }
 {
     let mut next = at;
     let mut i = 0;
-    while i < page.len() {
-        let word = Word::from_bits(page[i]);
-        if word.kind() != Word::ANSWER {
-            return next;
+    loop {
+        match answer_at(page, i) {
+            Found::Part(_, end) => {
+                next = put_line(&page[i..end], next, out);
+                i = end;
+            }
+            Found::Refused(_, _) => {
+                return next;
+            }
         }
-        let end = at_most(i + 1 + word.payload() as usize, page.len());
-        next = put_line(&page[i..end], next, out);
-        i = end;
     }
-    next
 }

@@ -5,6 +5,7 @@ use mathlib.Core.Logic.{_↔_}
 use mathlib.Core.Option.{some}
 use mathlib.Core.Path.{_≡_}
 use lib.ListN.{drop, getD, getElem?, length}
+use Rattle.page.specs.Page.{answers-on, find, nth-part, view}
 use Rattle.rules.specs.Settings.{scratch-words}
 use Rattle.rules.specs.Syntax.{Program, Relation}
 use Rattle.rules.specs.WellFormed.{WrittenForm}
@@ -12,7 +13,7 @@ use Rattle.semantics.specs.Demand.{Completed, Demand1, Demand2, Demand3}
 use Rattle.semantics.specs.Path.{Passing, as-written}
 use Rattle.semantics.specs.Published.{round-cuts}
 use Rattle.semantics.specs.Round.{Answer, End, Result, finished, rounds-used}
-use Rattle.semantics.specs.Run.{Report, answers-on, page, ran, refusal, usable}
+use Rattle.semantics.specs.Run.{Report, page, ran, refusal, usable}
 use Rattle.semantics.specs.Situation.{LastCut, RoundCut, Situation}
 
 -- A result is that of the last round that the run came to: it names the end in whose situation the run is there, with the answers, steps and words as counted there, and tells how many
@@ -36,10 +37,14 @@ pub record CutTells (pass : Passing) (P : Program) (R : Relation) (limit round-l
   -- and rounds used up means that the round of the limit was completed and cut some
   pub rounds-used-means : (r .end ≡ rounds-used) ↔ (RoundCut pass P R limit round-limit total round-limit (r .cut) × (0 < r .cut))
 
--- the output after a run: the answers on it are those of the result, and it keeps its length
+-- the output after a run: the answers on it are those of the result, by their numbers too, and it keeps its length
 pub record OnPage (output after : List ℕ) (r : Result) : Type 0 where
   pub page-is : answers-on after ≡ map (λ (a : Answer). a .1) (r .answers)
   pub same-length : length after ≡ length output
+  -- document 02, Note 1: answer i stands where the run's i-th does, and from their count on every number is refused by 10 at the first word beyond them
+  pub numbered : (i : ℕ) → find after i ≡ nth-part (map (λ (a : Answer). a .1) (r .answers)) i 0
+  -- "it should get that answer's words"
+  pub opened : (i : ℕ) (a : Answer) → getElem? (r .answers) i ≡ some a → view after i ≡ a .1
 
 -- The words are the written form of just one program, whose relation 0 is the query. Demands 2 and 3 hold of the result, its end, steps, words and cuts are as documents 01 and 02 define them, and
 -- its answers are those on the output.

@@ -2,6 +2,7 @@
 //! writes them to FILE. `bench beside EARLIER` times it beside the engine of an earlier landing, and prints a table.
 
 mod before;
+mod opening;
 mod plain;
 mod programs;
 mod prolog;
@@ -325,6 +326,7 @@ fn tables(date: &str, file: &str) {
     }
     let version = swi.map_or("SWI-Prolog is not installed".to_string(), |swi| swi.1);
     let (second, second_goal) = second_table();
+    let (third, third_goal) = opening::table();
     let text = include_str!("benchmark.md")
         .replace("{date}", date)
         .replace("{processor}", &processor())
@@ -332,7 +334,9 @@ fn tables(date: &str, file: &str) {
         .replace("{first}", first_table(&rows).trim_end())
         .replace("{first goals}", &first_goals(&rows))
         .replace("{second}", second.trim_end())
-        .replace("{second goal}", &second_goal);
+        .replace("{second goal}", &second_goal)
+        .replace("{third}", third.trim_end())
+        .replace("{third goal}", &third_goal);
     print!("{text}");
     fs::write(file, text).unwrap_or_else(|error| {
         eprintln!("{file}: {error}");

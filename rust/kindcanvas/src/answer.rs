@@ -29,7 +29,7 @@ impl<'a> Iterator for Answers<'a> {
         let (words, rest) = self.rest.split_at(1 + count(header));
         self.rest = rest;
         self.left -= 1;
-        Some(Answer { words })
+        Some(Answer::new(words))
     }
 
     fn size_hint(&self) -> (usize, Option<usize>) {
@@ -62,6 +62,11 @@ pub struct Answer<'a> {
 }
 
 impl<'a> Answer<'a> {
+    /// The answer that the engine wrote in these words.
+    pub(crate) fn new(words: &'a [u32]) -> Answer<'a> {
+        Answer { words }
+    }
+
     /// Its words, `15:n` and the n words that follow.
     pub fn words(self) -> &'a [u32] {
         self.words

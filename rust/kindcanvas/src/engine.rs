@@ -1,4 +1,4 @@
-//! The engine on lent words.
+//! The proved functions, on lent words.
 
 use crate::refusal::Refusal;
 use std::fmt;
@@ -21,6 +21,16 @@ extern "C" {
         scratch_len: usize,
         numbers: *mut u32,
         numbers_len: usize,
+    ) -> u32;
+
+    /// Looks at headers of the page's answers, writes where the wanted one begins and ends, and keeps nothing. 0: found,
+    /// else the refusal's number, with both at its place.
+    fn kindcanvas_view(
+        page: *const u32,
+        page_len: usize,
+        answer: u32,
+        start: *mut usize,
+        end: *mut usize,
     ) -> u32;
 }
 
@@ -219,6 +229,36 @@ pub fn run(
         words: words as usize,
         cut,
     })
+}
+
+/// The words of one answer, numbered from 0, as a part of the page itself: its header `15:n` and n words. The page is walked by
+/// the headers of its answers. Nothing inside an answer is looked at, and nothing behind the wanted one.
+///
+/// A page that has no whole answer of that number is refused by 10, at the word where the walk stopped: the page's length, a
+/// word that is no header, or the header of an answer that overruns the page.
+///
+/// ```
+/// let page = kindcanvas::words::parse("15:1 1:7 15:2 4:9 15:9 0:0")?;
+/// assert_eq!(kindcanvas::view(&page, 1), Ok(&page[2..5]));
+///
+/// let refusal = kindcanvas::view(&page, 2).unwrap_err();
+/// assert_eq!((refusal.number, refusal.place), (10, 5));
+/// assert_eq!(refusal.to_string(), "the page has no whole answer of this number: the walk over its headers stopped at word 5");
+/// # Ok::<(), kindcanvas::words::TextError>(())
+/// ```
+pub fn view(page: &[u32], answer: u32) -> Result<&[u32], Refusal> {
+    let (mut start, mut end) = (0, 0);
+    // SAFETY: the page's pointer and length are those of a slice, which is only read; the two numbers are this function's own.
+    // All are used only during the call.
+    let number =
+        unsafe { kindcanvas_view(page.as_ptr(), page.len(), answer, &mut start, &mut end) };
+    match number {
+        0 => Ok(&page[start..end]),
+        _ => Err(Refusal {
+            number,
+            place: start,
+        }),
+    }
 }
 
 /// The exported function on slices: how many numbers it wrote.

@@ -35,7 +35,7 @@
 //! # Ok::<(), kindcanvas::ParseError>(())
 //! ```
 //!
-//! [`check`] and [`run`] are the engine itself, on lent words.
+//! [`check`], [`run`] and [`view`] are the proved functions themselves, on lent words.
 //!
 //! # Stack
 //!
@@ -54,7 +54,7 @@ mod refusal;
 mod word;
 
 pub use answer::{Answer, Answers, Constraint, Constraints, Pair, Term, Terms};
-pub use engine::{check, run, Bound, Ending, Report, SCRATCH_WORDS, USABLE_WORDS};
+pub use engine::{check, run, view, Bound, Ending, Report, SCRATCH_WORDS, USABLE_WORDS};
 pub use program::{Limits, NoProgram, Outcome, ParseError, Program};
 pub use readable::Readable;
 pub use refusal::Refusal;

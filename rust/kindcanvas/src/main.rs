@@ -1,6 +1,8 @@
-//! The command `kindcanvas`: `run` lists what the rules in a file give, `check` says whether a file is a program.
+//! The command `kindcanvas`: `run` lists what the rules in a file give, `check` says whether a file is a program, `show` opens one
+//! answer of a list.
 
 mod list;
+mod show;
 
 use kindcanvas::{words, Ending, Limits, ParseError, Program, USABLE_WORDS};
 use std::env;
@@ -12,11 +14,14 @@ use std::str::FromStr;
 const USAGE: &str = "\
 usage: kindcanvas run FILE [--rounds N] [--steps N] [--output-words N]
        kindcanvas check FILE
+       kindcanvas show FILE N
 
 run    runs the rules in FILE and prints the list of what they give
 check  says whether FILE is a program
+show   prints the words of answer N of the page in FILE; 0 is the first, '1.' in run's list
 
 FILE is k:p text; - is standard input. A comment '# symbol 7 = B7' in it names symbol 7.
+A page is the words of answers, one after the other; a list that ./list has printed is one.
 --rounds N        the most calls that an answer may take: 0 to 255, else 16
 --steps N         the most steps in all: 0 to 4294967295, else 1000000
 --output-words N  room for the answers: 0 to 268435455 words, else 4096
@@ -25,16 +30,17 @@ In the list 'B7 or '7 is a symbol, 7 a number, _0 an open variable, () the empty
 (a b) a list and (a b . c) one that ends in c. An answer is listed once for each way to it.
 A branch that a round left open asks for more calls than the round's number.
 
-status 0  the list is complete; for check, the file is a program
-       1  the file is no program
-       2  the file cannot be read, the list not written, or the command not understood
+status 0  the list is complete; for check, the file is a program; for show, the answer is there
+       1  the file is no program; for show, it is no k:p text or has no such answer
+       2  the file cannot be read, the output not written, or the command not understood
        3  the list may be incomplete";
 
-const NO_PROGRAM: u8 = 1;
+/// The file is no program, or no page, or one without the answer that is asked for.
+const REFUSED: u8 = 1;
 const FAILED: u8 = 2;
 const INCOMPLETE: u8 = 3;
 
-/// Why there is no list: the status, and a sentence.
+/// Why a command failed: the status, and a sentence.
 struct Failure(u8, String);
 
 fn main() -> ExitCode {
@@ -43,10 +49,8 @@ fn main() -> ExitCode {
     let result = match &arguments[..] {
         ["run", arguments @ ..] => run(arguments),
         ["check", file] => check(file),
-        ["--help"] => {
-            println!("{USAGE}");
-            Ok(0)
-        }
+        ["show", file, answer] => show(file, answer),
+        ["--help"] => say(USAGE),
         _ => Err(Failure(FAILED, USAGE.to_string())),
     };
     ExitCode::from(result.unwrap_or_else(|Failure(status, sentence)| {
@@ -57,14 +61,30 @@ fn main() -> ExitCode {
 
 fn check(file: &str) -> Result<u8, Failure> {
     load(file)?;
-    println!("accepted");
-    Ok(0)
+    say("accepted")
+}
+
+fn show(file: &str, answer: &str) -> Result<u8, Failure> {
+    let answer = number("N", Some(answer), u32::MAX).map_err(misunderstood)?;
+    let words = show::answer(&contents(file)?, answer)
+        .map_err(|error| Failure(REFUSED, format!("{file}: {error}")))?;
+    say(&words)
+}
+
+fn say(line: &str) -> Result<u8, Failure> {
+    match writeln!(io::stdout(), "{line}") {
+        Ok(()) => Ok(0),
+        Err(error) => Err(Failure(FAILED, format!("can't write: {error}"))),
+    }
+}
+
+fn misunderstood(error: String) -> Failure {
+    Failure(FAILED, format!("{error}; see kindcanvas --help"))
 }
 
 fn run(arguments: &[&str]) -> Result<u8, Failure> {
     let failed = |sentence| Failure(FAILED, sentence);
-    let (file, limits) =
-        parse_run(arguments).map_err(|error| failed(format!("{error}; see kindcanvas --help")))?;
+    let (file, limits) = parse_run(arguments).map_err(misunderstood)?;
     let program = load(file)?;
     let outcome = program.run(limits);
     let mut out = BufWriter::new(io::stdout().lock());
@@ -114,15 +134,18 @@ fn number<T: FromStr + PartialOrd + Display>(
 }
 
 fn load(file: &str) -> Result<Program, Failure> {
-    let contents = words::contents(file).map_err(|error| {
+    contents(file)?
+        .parse()
+        .map_err(|error: ParseError| Failure(REFUSED, format!("{file}: {error}")))
+}
+
+fn contents(file: &str) -> Result<String, Failure> {
+    words::contents(file).map_err(|error| {
         let status = match error.kind() {
             // It was read, and is no text.
-            ErrorKind::InvalidData => NO_PROGRAM,
+            ErrorKind::InvalidData => REFUSED,
             _ => FAILED,
         };
         Failure(status, format!("{file}: {error}"))
-    })?;
-    contents
-        .parse()
-        .map_err(|error: ParseError| Failure(NO_PROGRAM, format!("{file}: {error}")))
+    })
 }

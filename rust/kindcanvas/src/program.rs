@@ -1,6 +1,6 @@
 //! Programs, and what a run of one gives.
 
-use crate::answer::Answers;
+use crate::answer::{Answer, Answers};
 use crate::engine::{self, Report, SCRATCH_WORDS, USABLE_WORDS};
 use crate::explain::explain;
 use crate::refusal::Refusal;
@@ -232,5 +232,21 @@ impl Outcome {
     /// The answers, in the order in which they were found.
     pub fn answers(&self) -> Answers<'_> {
         Answers::new(&self.words, self.report.answers as usize)
+    }
+
+    /// The answer of this number, from 0, opened by [`view`](crate::view).
+    ///
+    /// ```
+    /// use kindcanvas::{Limits, Program, Term};
+    ///
+    /// let program: Program = "13:9 2:1 2:1 11:6 5:2 0:0 1:7 5:2 0:0 2:5".parse()?;
+    /// let outcome = program.run(Limits::default());
+    /// assert!(outcome.answer(1).unwrap().terms().eq([Term::Number(5)]));
+    /// let refusal = outcome.answer(2).unwrap_err();
+    /// assert_eq!((refusal.number, refusal.place), (10, outcome.words().len()));
+    /// # Ok::<(), kindcanvas::ParseError>(())
+    /// ```
+    pub fn answer(&self, number: u32) -> Result<Answer<'_>, Refusal> {
+        engine::view(&self.words, number).map(Answer::new)
     }
 }

@@ -1,10 +1,10 @@
-//! Why a program was turned away.
+//! Why a call was turned away.
 
 use std::error::Error;
 use std::fmt;
 
-/// Why a program was turned away: the number of the condition that failed first, and where. Shown, it is a sentence that
-/// says what is wrong:
+/// Why a program, a setting or an answer's number was turned away: the number of the condition that failed first, and where.
+/// Shown, it is a sentence that says what is wrong:
 ///
 /// ```
 /// let words = kindcanvas::words::parse("13:5 2:1 2:1 5:2 0:1 3:0")?;
@@ -15,9 +15,9 @@ use std::fmt;
 /// ```
 #[derive(Clone, Copy, Debug, PartialEq, Eq)]
 pub struct Refusal {
-    /// 1 to 9.
+    /// 1 to 10.
     pub number: u32,
-    /// A word's place in the program, counted from 0, or the word count.
+    /// A word's place in the program or, for 10, on the page, counted from 0, or the word count.
     pub place: usize,
 }
 
@@ -47,6 +47,10 @@ impl fmt::Display for Refusal {
                 f,
                 "the round limit is over 255 or the scratch shorter than 12,288 words"
             ),
+            10 => write!(
+                f,
+                "the page has no whole answer of this number: the walk over its headers stopped at word {place}"
+            ),
             number => write!(f, "condition {number} turned the file away at word {place}"),
         }
     }
@@ -60,16 +64,16 @@ mod tests {
 
     #[test]
     fn each_condition_has_its_sentence() {
-        let mut sentences: Vec<String> = (1..=9)
+        let mut sentences: Vec<String> = (1..=10)
             .map(|number| Refusal { number, place: 77 }.to_string())
             .collect();
-        for sentence in &sentences[1..8] {
+        for sentence in sentences[1..8].iter().chain(&sentences[9..]) {
             assert!(sentence.contains("word 77"), "{sentence}");
         }
         assert_eq!(crate::SCRATCH_WORDS, 12_288);
         assert!(sentences[8].contains("12,288 words"), "{}", sentences[8]);
         sentences.sort();
         sentences.dedup();
-        assert_eq!(sentences.len(), 9);
+        assert_eq!(sentences.len(), 10);
     }
 }

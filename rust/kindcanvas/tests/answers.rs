@@ -1,6 +1,6 @@
 //! Answers as terms and constraints: nothing of their words is lost, and long ones need no stack.
 
-use kindcanvas::{Answer, Constraint, Limits, Outcome, Program, Term};
+use kindcanvas::{Answer, Constraint, Limits, Outcome, Program, Refusal, Term};
 use reference::cases::case;
 use reference::gen::{deep_term, pair, part, relation, Rng};
 use reference::word::{show, word};
@@ -59,6 +59,26 @@ fn rewritten(answer: Answer) -> Vec<u32> {
     part(15, inside)
 }
 
+/// By their numbers the answers are those of the run in order, each a part of its words, and there are no others.
+fn opened_by_number(outcome: &Outcome) {
+    let count = outcome.report().answers;
+    let mut at = 0;
+    for (number, answer) in (0..count).zip(outcome.answers()) {
+        assert_eq!(outcome.answer(number), Ok(answer));
+        let words = outcome.answer(number).unwrap().words();
+        assert_eq!(words.as_ptr(), outcome.words()[at..].as_ptr());
+        at += words.len();
+    }
+    let refusal = Refusal {
+        number: 10,
+        place: at,
+    };
+    assert_eq!(at, outcome.words().len());
+    for number in [count, count + 1, u32::MAX] {
+        assert_eq!(outcome.answer(number), Err(refusal));
+    }
+}
+
 #[test]
 fn random_programs() {
     let mut rng = Rng::new(20_240_614);
@@ -76,6 +96,7 @@ fn random_programs() {
             output_words: case.output,
         });
         assert_eq!(outcome.answers().len(), outcome.answers().count());
+        opened_by_number(&outcome);
         let mut words = Vec::new();
         for answer in outcome.answers() {
             words.extend(rewritten(answer));

@@ -246,21 +246,129 @@ fn refused() {
 }
 
 #[test]
+fn answers_shown() {
+    let list = example("endless-chains.list");
+    // Comments change nothing, whatever names they have.
+    let page = "15:1 1:7 # symbol 7 = A\n15:2 15:9 4:9 # symbol 7 = B\n15:0 0:0\n";
+    for (arguments, expected) in [
+        (["show", &list, "0"], "15:5 4:1 2:2 4:1 2:3 3:0\n"),
+        (
+            ["show", &list, "1"],
+            "15:9 4:1 2:2 4:1 2:1 4:1 2:2 4:1 2:3 3:0\n",
+        ),
+        (["show", "-", "0"], "15:1 1:7\n"),
+        (["show", "-", "1"], "15:2 15:9 4:9\n"),
+        (["show", "-", "2"], "15:0\n"),
+    ] {
+        let (status, output, error) = kindcanvas(&arguments, page);
+        assert_eq!(
+            (output.as_str(), error.as_str()),
+            (expected, ""),
+            "{arguments:?}"
+        );
+        assert_eq!(status, Some(0));
+    }
+}
+
+/// Each answer of each example's list is shown as its line, and the number behind the last is refused at the list's end.
+#[test]
+fn all_answers_of_examples() {
+    let names = examples(".list");
+    assert_eq!(names, examples(".kp"), "one list for each rule file");
+    for name in names {
+        let file = example(&format!("{name}.list"));
+        let list = fs::read_to_string(&file).unwrap();
+        let answers: Vec<&str> = list.lines().skip(1).collect();
+        for (number, line) in answers.iter().enumerate() {
+            let (status, output, _) = kindcanvas(&["show", &file, &number.to_string()], "");
+            assert_eq!((status, output.trim_end()), (Some(0), *line), "{name}");
+        }
+        let (status, output, error) = kindcanvas(&["show", &file, &answers.len().to_string()], "");
+        let words: usize = answers.iter().map(|line| line.split(' ').count()).sum();
+        assert_eq!((status, output.as_str()), (Some(1), ""), "{name}");
+        assert!(
+            error.contains(&format!("refused 10 at {words}: ")),
+            "{error}"
+        );
+    }
+}
+
+#[test]
+fn no_answer_to_show() {
+    const END: &str = "(the end of the page): its answers end there";
+    for (page, number, place, case) in [
+        ("", "0", 0, END),
+        ("end finished round 0 steps 2 answers 0 cut 0", "0", 0, END),
+        ("refused 1 at 0\n", "0", 0, END),
+        (
+            "end output round 0 steps 4 answers 1 cut 0\n15:1 1:7\n",
+            "4294967295",
+            2,
+            END,
+        ),
+        (
+            "15:1 1:7\n  0:0",
+            "1",
+            2,
+            "(line 2, column 3): 0:0 is no answer's header",
+        ),
+        (
+            "end finished round 0 steps 4 answers 2 cut 0\n15:0\n15:3 1:7 1:8\n",
+            "1",
+            1,
+            "(line 3, column 1): 15:3 has only 2 of its 3 words on the page",
+        ),
+    ] {
+        let (status, output, error) = kindcanvas(&["show", "-", number], page);
+        assert_eq!((status, output.as_str()), (Some(1), ""), "{page}");
+        let expected = format!(
+            "-: refused 10 at {place}: the page has no whole answer of this number: the walk over its headers stopped \
+             at word {place} {case}\n"
+        );
+        assert_eq!(error, expected);
+    }
+}
+
+#[test]
 fn no_words() {
     let cases: [(&[u8], &str); 3] = [
         (b"13:5 2:1\n2:x", "-: line 2, column 1: a word must be "),
         (b"16:0", "-: line 1, column 1: the kind is over 15\n"),
         (b"13:5 \xff", "-: "),
     ];
-    for command in ["check", "run"] {
+    for (command, further) in [("check", &[][..]), ("run", &[]), ("show", &["0"])] {
+        let kindcanvas = |file, text| kindcanvas(&[&[command, file], further].concat(), text);
         for (text, expected) in cases {
-            let (status, output, error) = kindcanvas(&[command, "-"], text);
+            let (status, output, error) = kindcanvas("-", text);
             assert_eq!((status, output.as_str()), (Some(1), ""), "{error}");
             assert!(error.starts_with(expected), "{error}");
         }
-        let (status, _, error) = kindcanvas(&[command, "no such file"], "");
+        let (status, _, error) = kindcanvas("no such file", b"");
         assert_eq!(status, Some(2));
         assert!(error.starts_with("no such file: "), "{error}");
+    }
+}
+
+/// A line that can't be written, here to a full device, is no success.
+#[test]
+fn not_written() {
+    let list = example("abo.list");
+    for arguments in [
+        &["check", &example("abo.kp")][..],
+        &["show", &list, "0"],
+        &["--help"],
+    ] {
+        let full = fs::OpenOptions::new()
+            .write(true)
+            .open("/dev/full")
+            .unwrap();
+        let output = Command::new(env!("CARGO_BIN_EXE_kindcanvas"))
+            .args(arguments)
+            .stdout(full)
+            .output()
+            .unwrap();
+        assert_eq!(output.status.code(), Some(2), "{arguments:?}");
+        assert!(output.stderr.starts_with(b"can't write: "));
     }
 }
 
@@ -270,6 +378,16 @@ fn not_understood() {
         (&[][..], "usage: "),
         (&["check"], "usage: "),
         (&["list", "-"], "usage: "),
+        (&["show", "-"], "usage: "),
+        (&["show", "-", "0", "1"], "usage: "),
+        (
+            &["show", "-", "4294967296"],
+            "N takes a number from 0 to 4294967295; ",
+        ),
+        (
+            &["show", "-", "-1"],
+            "N takes a number from 0 to 4294967295; ",
+        ),
         (&["run"], "run takes a file; "),
         (&["run", "-", "-"], "run takes one file; "),
         (&["run", "-", "--fast"], "there is no option --fast; "),

@@ -7,7 +7,10 @@
 //! KINDCANVAS_CASES sets how many (a million if it is not set), and KINDCANVAS_SEED where to begin. Each case has a seed of its own, so
 //! KINDCANVAS_CASES=1 with the seed that a failure names runs that case alone.
 
+mod longer;
+
 use kindcanvas::{Bound, Ending, Refusal, Report};
+use longer::seed_and_cases;
 use reference::cases::{self, Case};
 use reference::coverage::{covered, wanted};
 use reference::gen::{self, Rng};
@@ -18,10 +21,8 @@ use reference::trace::Event;
 use reference::word::{show, ABSENTO};
 use reference::{Fault, Outcome};
 use std::collections::BTreeMap;
-use std::env;
 use std::ops::Range;
 use std::thread;
-use std::time::{SystemTime, UNIX_EPOCH};
 
 type Expected = Result<Outcome, reference::Refusal>;
 
@@ -193,14 +194,8 @@ fn random_programs_of_the_gate() {
 #[test]
 #[ignore = "takes minutes; see the head of this file"]
 fn more_random_programs() {
-    let set = |name| env::var(name).map(|text| text.parse().expect(name)).ok();
-    let now = SystemTime::now().duration_since(UNIX_EPOCH).unwrap();
-    // Any clock gives seeds far from each other, and room for the cases behind them.
-    let seed = Rng::new(now.as_nanos() as u64).number() >> 1;
-    random_programs(
-        set("KINDCANVAS_SEED").unwrap_or(seed),
-        set("KINDCANVAS_CASES").unwrap_or(1_000_000),
-    );
+    let (seed, cases) = seed_and_cases(1_000_000);
+    random_programs(seed, cases);
 }
 
 /// The reference with an error in what it says of a run.

@@ -1,5 +1,6 @@
-//! Errors that can be put into a run, to see that a test finds them.
+//! Errors that can be put into a run or a view, to see that a test finds them.
 
+/// Those of a run.
 #[derive(Clone, Copy, Debug, PartialEq, Eq)]
 pub enum Fault {
     /// A constraint is tested only when taken.
@@ -60,5 +61,54 @@ impl Fault {
         Fault::MarksKept,
         Fault::SecondArrivalFree,
         Fault::SecondArrivalBounded,
+    ];
+}
+
+/// Those of a view: other readings of Note 1 of document 02.
+#[derive(Clone, Copy, Debug, PartialEq, Eq)]
+pub enum PageFault {
+    /// Answers are numbered from 1; number 0 gives the first too.
+    NumberedFromOne,
+    /// The header word is not given.
+    HeaderLeftOut,
+    /// The payload counts the header word too, so that an answer is a word short. A header alone is still a word.
+    HeaderCounted,
+    /// A word of any kind is taken for a header.
+    AnyKind,
+    /// A word inside an answer that has a header's kind ends it and is the next header.
+    InsideLookedAt,
+    /// What stands behind the wanted answer has to be an answer too, unless it is the page's end.
+    NextLookedAt,
+    /// An answer that ends with the page overruns it.
+    FullPageOverruns,
+    /// An answer that overruns the page is taken to end with it.
+    OverrunCut,
+    /// The place of an overrun is the page's end, not the header word.
+    OverrunAtEnd,
+    /// The place of the page's end is the last word.
+    EndAtLastWord,
+    /// A word that is no header is gone past.
+    NoHeaderSkipped,
+    /// Zeros up to the page's end are its end, so that the place is the page's length.
+    ZerosEndThePage,
+    /// The place is the word behind the one where the walk stopped.
+    PlaceTooFar,
+}
+
+impl PageFault {
+    pub const ALL: [PageFault; 13] = [
+        PageFault::NumberedFromOne,
+        PageFault::HeaderLeftOut,
+        PageFault::HeaderCounted,
+        PageFault::AnyKind,
+        PageFault::InsideLookedAt,
+        PageFault::NextLookedAt,
+        PageFault::FullPageOverruns,
+        PageFault::OverrunCut,
+        PageFault::OverrunAtEnd,
+        PageFault::EndAtLastWord,
+        PageFault::NoHeaderSkipped,
+        PageFault::ZerosEndThePage,
+        PageFault::PlaceTooFar,
     ];
 }

@@ -1,13 +1,15 @@
-//! Tables of programs in text: `k:p` words, `k:p*N` and `(...)*N` for repetition, `deep*N` for pairs nested in first parts,
-//! `nest*N` for their pair words alone, `#` for comments.
+//! Tables of programs and pages in text: `k:p` words, `k:p*N` and `(...)*N` for repetition, `deep*N` for pairs nested in first
+//! parts, `nest*N` for their pair words alone, `#` for comments.
 //! For files of this repository only, so a fault in one is a panic.
 
 use crate::cases::Case;
 use crate::gen::deep_term;
 use crate::listing::end;
+use crate::pages::PageCase;
 use crate::read::Refusal;
 use crate::run::Outcome;
 use crate::word::{show, word};
+use std::ops::Range;
 
 /// A line of the table of refusals.
 pub struct Row {
@@ -18,12 +20,21 @@ pub struct Row {
 
 /// The table of refusals, worked out by hand.
 pub fn refusals() -> Vec<Row> {
-    include_str!("../tests/refusals.txt")
-        .lines()
-        .enumerate()
-        .filter(|(_, line)| !without_comment(line).is_empty())
-        .map(|(at, line)| row(at + 1, without_comment(line)))
-        .collect()
+    let rows = rows(include_str!("../tests/refusals.txt"));
+    rows.map(|(line, text)| row(line, text)).collect()
+}
+
+/// A line of the table of pages.
+pub struct Page {
+    pub line: usize,
+    pub case: PageCase,
+    pub expected: Result<Range<usize>, Refusal>,
+}
+
+/// The table of pages, worked out by hand.
+pub fn pages() -> Vec<Page> {
+    let rows = rows(include_str!("../tests/pages.txt"));
+    rows.map(|(line, text)| page(line, text)).collect()
 }
 
 /// A program on which a reading of docs/DECISIONS.md shows, and what it says of the run.
@@ -77,11 +88,17 @@ pub fn runs() -> Vec<Run> {
     .collect()
 }
 
+/// The rows with the numbers of their lines.
+fn rows(table: &str) -> impl Iterator<Item = (usize, &str)> {
+    let rows = table.lines().map(without_comment).enumerate();
+    rows.map(|(at, text)| (at + 1, text))
+        .filter(|(_, text)| !text.is_empty())
+}
+
 /// Rows `label: words ; limits => outcome`.
 fn limited_rows(table: &str) -> impl Iterator<Item = (&str, Case, &str)> {
-    let lines = table.lines().map(without_comment);
-    lines.filter(|line| !line.is_empty()).map(|line| {
-        let (label, rest) = line.split_once(": ").expect("a line without a label");
+    rows(table).map(|(_, text)| {
+        let (label, rest) = text.split_once(": ").expect("a line without a label");
         let (program, outcome) = rest.split_once("=>").expect("a line without =>");
         let (program, limits) = program.split_once(';').unwrap_or((program, ""));
         (label, limited(program, limits), outcome.trim())
@@ -156,19 +173,57 @@ pub fn words(text: &str) -> Vec<u32> {
 
 fn row(line: usize, text: &str) -> Row {
     let (program, outcome) = text.split_once("=>").expect("a line without =>");
-    let outcome: Vec<&str> = outcome.split_whitespace().collect();
-    let expected = match outcome[..] {
-        ["accepted"] => Ok(()),
-        ["refused", condition, "at", place] => Err(Refusal {
-            number: number(condition),
-            place: number(place) as usize,
-        }),
-        _ => panic!("line {line}: no outcome"),
+    let expected = match outcome.trim() {
+        "accepted" => Ok(()),
+        other => Err(refusal(other).unwrap_or_else(|| panic!("line {line}: no outcome"))),
     };
     Row {
         line,
         words: words(program),
         expected,
+    }
+}
+
+/// A row `words ; answer N => words at PLACE`, or `=> refused N at PLACE`.
+pub fn page(line: usize, text: &str) -> Page {
+    let (given, outcome) = text.split_once("=>").expect("a line without =>");
+    let (page, answer) = given
+        .split_once("; answer ")
+        .expect("a page without an answer");
+    let case = PageCase {
+        made: "table",
+        page: words(page),
+        answer: number(answer.trim()),
+    };
+    let expected = match refusal(outcome) {
+        Some(refusal) => Err(refusal),
+        None => Ok(place(line, &case.page, outcome)),
+    };
+    Page {
+        line,
+        case,
+        expected,
+    }
+}
+
+/// `words at PLACE`, which have to stand on the page.
+fn place(line: usize, page: &[u32], outcome: &str) -> Range<usize> {
+    let (part, start) = outcome.split_once(" at ").expect("words without a place");
+    let (part, start) = (words(part), number(start) as usize);
+    let place = start..start + part.len();
+    assert_eq!(page.get(place.clone()), Some(&part[..]), "line {line}");
+    place
+}
+
+/// `refused N at PLACE`, if it is that.
+fn refusal(outcome: &str) -> Option<Refusal> {
+    let outcome: Vec<&str> = outcome.split_whitespace().collect();
+    match outcome[..] {
+        ["refused", condition, "at", place] => Some(Refusal {
+            number: number(condition),
+            place: number(place) as usize,
+        }),
+        _ => None,
     }
 }
 

@@ -1,10 +1,11 @@
-//! The gate's own programs `gate_refusals` and `gate_runs` are run on the tables of refusals and of runs, and the listing program on the
-//! first run: their input and expected output are made from the tables. After a change of a table, REWRITE=1 writes all anew.
+//! The gate's own programs `gate_refusals`, `gate_pages` and `gate_runs` are run on the tables of refusals, of pages and of runs, and the
+//! listing program on the first run: their input and expected output are made from the tables. After a change of a table, REWRITE=1 writes all anew.
 
 use reference::cases::Case;
 use reference::gen::nested_goals;
 use reference::listing::listing;
-use reference::table::{decisions, refusals, runs, Row};
+use reference::table::{decisions, pages, refusals, runs, Row};
+use reference::word::show;
 use std::env;
 use std::fs;
 use std::path::{Path, PathBuf};
@@ -59,6 +60,37 @@ fn refusals_input_and_output_are_those_of_the_table() {
     assert!(input.len() <= 4 * 65_536);
     compare("gate_refusals", "stdin", &input);
     compare("gate_refusals", "stdout", output.as_bytes());
+}
+
+/// `gate_pages` takes pages of at most 256 words.
+#[test]
+fn pages_input_and_output_are_those_of_the_table() {
+    let mut input = Vec::new();
+    let mut output = String::new();
+    let mut count = 0;
+    for row in pages() {
+        let page = &row.case.page;
+        if page.len() > 256 {
+            continue;
+        }
+        count += 1;
+        input.extend(bytes(&[row.case.answer, page.len() as u32]));
+        input.extend(bytes(page));
+        match row.expected {
+            Ok(part) => output.push_str(&format!(
+                "{} at {}\n",
+                show(&page[part.clone()]),
+                part.start
+            )),
+            Err(refusal) => output.push_str(&format!(
+                "refused {} at {}\n",
+                refusal.number, refusal.place
+            )),
+        }
+    }
+    assert!(count >= 40);
+    compare("gate_pages", "stdin", &input);
+    compare("gate_pages", "stdout", output.as_bytes());
 }
 
 #[test]

@@ -129,11 +129,7 @@ pub fn contents(file: &str) -> io::Result<String> {
 
 /// The words of a text. Its comments are not looked at, nor the names in them.
 pub fn parse(text: &str) -> Result<Vec<u32>, TextError> {
-    let mut source = Source::default();
-    for (line, words, _) in lines(text) {
-        source.add_words(line, words)?;
-    }
-    Ok(source.words)
+    Source::without_names(text).map(|source| source.words)
 }
 
 /// The lines, each with its number, the text of its words and its comment.
@@ -155,6 +151,15 @@ impl Source {
             source
                 .add_name(comment)
                 .map_err(|fault| TextError { place, fault })?;
+        }
+        Ok(source)
+    }
+
+    /// Reads a text's words alone. Its comments are not looked at, nor the names in them.
+    pub fn without_names(text: &str) -> Result<Source, TextError> {
+        let mut source = Source::default();
+        for (line, words, _) in lines(text) {
+            source.add_words(line, words)?;
         }
         Ok(source)
     }

@@ -1,10 +1,12 @@
-//! `rows N SEED FOLDER`: the programs of docs/DECISIONS.md and N random programs with limits, with the reference's results, as
-//! theorems over the definitions of crate semantics, which is below FOLDER too, in a crate `rows` there. Each is proved by computing both sides, so a difference is an error at its row.
+//! `rows N SEED FOLDER`: the programs of docs/DECISIONS.md and N random programs with limits, and the table of pages, without long ones,
+//! and N random pages, with the reference's results, as theorems over the definitions of crates semantics and page, which are below FOLDER too, in a crate
+//! `rows` there. Each is proved by computing both sides, so a difference is an error at its row.
 
 use reference::cases::{case, Case};
 use reference::gen::Rng;
+use reference::pages::{page_case, PageCase};
 use reference::run::{End, Outcome};
-use reference::table::decisions;
+use reference::table::{decisions, pages};
 use reference::Refusal;
 use std::collections::BTreeMap;
 use std::env;
@@ -25,6 +27,12 @@ use Rattle.semantics.specs.Steps.{variables, goals, disjunctions, constraints, 
 use Rattle.semantics.specs.Round.{finished, rounds-used, steps-used, output-full, path-limit}
 use Rattle.semantics.specs.Path.{as-written}
 use Rattle.semantics.specs.Run.{refusal, ran, returns-by}
+";
+
+const PAGES_HEADER: &str = "\
+use mathlib.Core.Path.{_≡_, refl}
+use mathlib.Core.List.{[], _∷_}
+use Rattle.page.specs.Page.{find, part, refused}
 ";
 
 /// The definitions of crate rules that a row computes through, as the crate's own rows name them.
@@ -99,16 +107,33 @@ fn write(count: usize, seed: u64, folder: &Path) -> io::Result<()> {
         fs::write(specs.join(format!("Rows{file}.antt")), text)?;
         modules.push_str(&format!("pub mod Rows{file}\n"));
     }
+    let short = |case: &PageCase| case.page.len() <= LONG;
+    let fixed = pages().into_iter().map(|row| row.case).filter(short);
+    let random = iter::repeat_with(|| page_case(&mut rng))
+        .filter(short)
+        .take(count);
+    let pages: Vec<PageCase> = fixed.chain(random).collect();
+    for (file, chunk) in pages.chunks(ROWS).enumerate() {
+        let mut text = PAGES_HEADER.to_string();
+        for (at, case) in chunk.iter().enumerate() {
+            text.push_str(&page_row(file * ROWS + at, case));
+        }
+        fs::write(specs.join(format!("Pages{file}.antt")), text)?;
+        modules.push_str(&format!("pub mod Pages{file}\n"));
+    }
     fs::write(specs.join("Lib.antt"), modules)?;
+    println!("{:6} pages", pages.len());
     for (end, count) in ends {
         println!("{count:6} {end}");
     }
     Ok(())
 }
 
-/// The checker reads a word by walking the list up to it, so it gets no long programs and no long runs.
+/// The checker reads a word by walking the list up to it, so it gets no long programs and pages and no long runs.
+const LONG: usize = 1_500;
+
 fn computable(case: &Case) -> bool {
-    case.words.len() <= 1_500 && case.run().map_or(true, |outcome| outcome.steps <= 5_000)
+    case.words.len() <= LONG && case.run().map_or(true, |outcome| outcome.steps <= 5_000)
 }
 
 fn name(result: &Result<Outcome, Refusal>) -> String {
@@ -137,6 +162,18 @@ fn row(number: usize, case: &Case, result: &Result<Outcome, Refusal>, unfolding:
         case.steps,
         case.output,
         case.scratch
+    )
+}
+
+fn page_row(number: usize, case: &PageCase) -> String {
+    let found = match case.view() {
+        Err(refusal) => format!("refused {} {}", refusal.number, refusal.place),
+        Ok(place) => format!("part {} {}", place.start, place.end),
+    };
+    format!(
+        "\npage-{number} : find ({}) {} ≡ {found}\npage-{number} = refl\n",
+        list(&case.page),
+        case.answer
     )
 }
 

@@ -1,104 +1,94 @@
--- Answer after answer, as the definition finds them.
-use Prim.Native.Nat.{ℕ, _+_, _*_, _-_, _<_, _≤_, min}
-use mathlib.Core.List.{map}
-use mathlib.Core.Path.{_≡_, _∙_, ap, refl, sym}
+-- Answer after answer, as the walk over the page finds them.
+use Prim.Native.Nat.{ℕ, _+_, _*_, _-_, _≤_}
+use mathlib.Core.List.{List, map}
+use mathlib.Core.Path.{_≡_, _∙_, refl, sym}
 use native.Mathlib.Omega.{arith}
-use lib.ListN.{length, drop, getD, length-drop, length-take, take}
-use Rattle.word.specs.Word.{kind, payload}
-use Rattle.semantics.specs.Run.{answers-on}
+use lib.ListN.{length, length-drop, length-take}
+use Rattle.page.specs.Page.{answer-at, answers-left, answers-on, between, part, refused}
+use Rattle.page.proofs.AnswersLaws.{answers-step}
+use Rattle.page.proofs.WalkLaws.{Whole, whole-at}
 use Rattle.rules.specs.Lists.{joined}
 use Rattle.list_text.specs.Listing.{line}
-use Rattle.list_text.proofs.PageLaws.{no-answer, no-page, one-answer}
 use Rattle.list_text.proofs.TextLaws.{Left, begin, done, step}
 use borrow.Author.Needs.{needs}
 use Rattle.list_text.proofs.answers.put_answers.Statement.{statement}
 use Rattle.list_text.proofs.answers.put_answers.Tie as tie
 
 abbrev Inv-loop : tie.InvT-loop
-Inv-loop page at out₀ next₀ i₀ out next i = (i ≤ length page) × (next ≤ at + 13 * i) × Left (joined (map line (answers-on page))) at out₀ (joined (map line (answers-on (drop i page)))) next out × (length out ≡ length out₀)
+Inv-loop page at out₀ next₀ i₀ out next i = (i ≤ length page) × (next ≤ at + 13 * i) × Left (joined (map line (answers-on page))) at out₀ (joined (map line (answers-left page i))) next out × (length out ≡ length out₀)
 
 abbrev μ-loop : tie.MeasureT-loop
 μ-loop page at out₀ next₀ i₀ out next i = length page - i
 
--- the word at i
-abbrev word-at : tie.After-kind Inv-loop μ-loop → ℕ
-word-at c = getD (c .before .before .before .before .before .before .before .args .page .now) (c .before .before .before .before .loop .i) 0
+-- where an answer was found: the page, its place and its end
+abbrev page-of : tie.After-end Inv-loop μ-loop → List ℕ
+page-of c = c .before .before .before .before .before .before .args .page .now
 
-kind-is : (c : tie.After-kind Inv-loop μ-loop) → c .kind .result ≡ kind (word-at c)
-kind-is c = c .kind .ensures ∙ ap kind (c .before .from-bits .ensures)
+abbrev place-of : tie.After-end Inv-loop μ-loop → ℕ
+place-of c = c .before .before .before .loop .i
 
--- the answer's end
-end-is : (c : tie.After-at-most Inv-loop μ-loop) → c .at-most .result ≡ min (c .before .before .before .before .before .before .before .loop .i + 1 + payload (word-at (c .before .before .before))) (length (c .before .before .before .before .before .before .before .before .before .before .args .page .now))
-end-is c = c .at-most .ensures ∙ ap (λ (p : ℕ). min (c .before .before .before .before .before .before .before .loop .i + 1 + p) (length (c .before .before .before .before .before .before .before .before .before .before .args .page .now))) (c .before .payload .ensures ∙ ap payload (c .before .before .before .before .from-bits .ensures))
+abbrev end-of : tie.After-end Inv-loop μ-loop → ℕ
+end-of c = c .end .given .0 .1 .0
 
-inside : (c : tie.After-at-most Inv-loop μ-loop) → (c .before .before .before .before .before .before .before .loop .i < c .at-most .result) × (c .at-most .result ≤ length (c .before .before .before .before .before .before .before .before .before .before .args .page .now))
-inside c = omega (arith, end-is c, c .before .before .before .before .before .before .loop-test .taken)
+found : (c : tie.After-end Inv-loop μ-loop) → answer-at (page-of c) (place-of c) ≡ part (c .end .given .0 .0) (end-of c)
+found c = sym (rw (c .end .given .1) at (c .before .before .answer-at .ensures))
 
-long : (c : tie.After-at-most Inv-loop μ-loop) → length (take (c .at-most .result - c .before .before .before .before .before .before .before .loop .i) (drop (c .before .before .before .before .before .before .before .loop .i) (c .before .before .before .before .before .before .before .before .before .before .args .page .now))) ≡ c .at-most .result - c .before .before .before .before .before .before .before .loop .i
-long c = simp (length-take, length-drop) (omega (arith, inside c .0, inside c .1))
+whole : (c : tie.After-end Inv-loop μ-loop) → Whole (page-of c) (place-of c) (end-of c)
+whole c = whole-at (page-of c) (place-of c) (c .end .given .0 .0) (end-of c) (found c) .1
+
+long : (c : tie.After-end Inv-loop μ-loop) → length (between (page-of c) (place-of c) (end-of c)) ≡ end-of c - place-of c
+long c = simp (length-take, length-drop) (omega (arith, whole c .fits))
 
 loop-holds : tie.Need-loop-holds Inv-loop μ-loop
 loop-holds c = (omega arith, omega arith, begin _ _ _, refl)
 
-mul-from-bits : tie.Need-mul-from-bits Inv-loop μ-loop
-mul-from-bits c = search needs
+answer-at-requires : tie.Need-answer-at-requires Inv-loop μ-loop
+answer-at-requires c κs = search needs
 
-shared-slice-read-from-bits : tie.Need-shared-slice-read-from-bits Inv-loop μ-loop
-shared-slice-read-from-bits c = search needs
-
-from-bits-requires : tie.Need-from-bits-requires Inv-loop μ-loop
-from-bits-requires c κs = search needs
-
-kind-requires : tie.Need-kind-requires Inv-loop μ-loop
-kind-requires c κs = search needs
-
-same-length : tie.Need-same-length Inv-loop μ-loop
-same-length c = c .before .before .before .before .before .loop .inv .3
-
-returns : tie.Need-returns Inv-loop μ-loop
-returns c = (done (rw (no-answer _ _ (c .before .before .before .before .loop-test .taken) (λ e. c .if1 .taken (kind-is (c .before) ∙ e))) at (c .before .before .before .before .before .loop .inv .2)), omega (arith, c .before .before .before .before .before .loop .inv .1, c .before .before .before .before .before .before .before .before .pre))
-
-add-at-most : tie.Need-add-at-most Inv-loop μ-loop
-add-at-most c = search needs
-
-payload-requires : tie.Need-payload-requires Inv-loop μ-loop
-payload-requires c κs = search needs
-
-cast-at-most : tie.Need-cast-at-most Inv-loop μ-loop
-cast-at-most c = search needs
-
-add-at-most-2 : tie.Need-add-at-most-2 Inv-loop μ-loop
-add-at-most-2 c = search needs
-
-at-most-requires : tie.Need-at-most-requires Inv-loop μ-loop
-at-most-requires c κs = search needs
+enum-known-end : tie.Need-enum-known-end Inv-loop μ-loop
+enum-known-end c = search needs
 
 mul-put-line : tie.Need-mul-put-line Inv-loop μ-loop
-mul-put-line c = omega (arith, inside c .0)
+mul-put-line c = omega (arith, whole (c .before) .on-page)
 
 sub-put-line : tie.Need-sub-put-line Inv-loop μ-loop
-sub-put-line c = omega (arith, inside c .0)
+sub-put-line c = omega (arith, whole (c .before) .is-end)
 
 part-put-line-start : tie.Need-part-put-line-start Inv-loop μ-loop
-part-put-line-start c = omega (arith, inside c .0)
+part-put-line-start c = omega (arith, whole (c .before) .is-end)
 
 part-put-line-end : tie.Need-part-put-line-end Inv-loop μ-loop
-part-put-line-end c = omega (arith, inside c .1)
+part-put-line-end c = omega (arith, whole (c .before) .fits)
 
 put-line-requires : tie.Need-put-line-requires Inv-loop μ-loop
-put-line-requires c κs = (omega (arith, long (c .before .before), inside (c .before .before) .0), omega (arith, long (c .before .before), inside (c .before .before) .0, inside (c .before .before) .1, c .before .before .before .before .before .before .before .before .before .before .before .before .pre))
+put-line-requires c κs =
+    let d = c .before .before .before in
+    (omega (arith, long d, whole d .is-end), omega (arith, long d, whole d .is-end, whole d .fits, d .before .before .before .loop .inv .1, d .before .before .before .before .before .before .pre))
 
 loop-less : tie.Need-loop-less Inv-loop μ-loop
-loop-less c = omega (arith, inside (c .before .before .before .before .before) .0, inside (c .before .before .before .before .before) .1)
+loop-less c = let d = c .before .before .before .before .before .before in omega (arith, whole d .is-end, whole d .fits)
 
 loop-again : tie.Need-loop-again Inv-loop μ-loop
-loop-again c = (inside (c .before .before .before .before .before) .1, omega (arith, long (c .before .before .before .before .before), inside (c .before .before .before .before .before) .0, c .before .before .put-line .ensures .1), step (line (take (c .before .before .before .before .before .at-most .result - c .before .before .before .before .before .before .before .before .before .before .before .before .loop .i) (drop (c .before .before .before .before .before .before .before .before .before .before .before .before .loop .i) (c .before .before .before .before .before .before .before .before .before .before .before .before .before .before .before .args .page .now)))) (rw (one-answer _ _ _ (c .before .before .before .before .before .before .before .before .before .before .before .loop-test .taken) (sym (kind-is (c .before .before .before .before .before .before .before .before)) ∙ c .before .before .before .before .before .before .before .if1 .left) (end-is (c .before .before .before .before .before))) at (c .before .before .before .before .before .before .before .before .before .before .before .before .loop .inv .2)) (c .before .before .put-line .ensures .0), c .before .before .put-line .kept .1 .1 .0 ∙ c .before .before .before .before .before .before .before .before .before .before .before .before .loop .inv .3)
+loop-again c =
+    let d = c .before .before .before .before .before .before in
+    let inv = d .before .before .before .loop .inv in (
+      whole d .fits,
+      omega (arith, long d, whole d .is-end, inv .1, c .before .before .put-line .ensures .1),
+      step (line (between (page-of d) (place-of d) (end-of d))) (rw (answers-step (page-of d) (place-of d) (part (d .end .given .0 .0) (end-of d)) (found d)) at (inv .2)) (c .before .before .put-line .ensures .0),
+      c .before .before .put-line .kept .1 .1 .0 ∙ inv .3,
+    )
 
-same-length-2 : tie.Need-same-length-2 Inv-loop μ-loop
-same-length-2 c = c .before .loop .inv .3
+enum-told : tie.Need-enum-told Inv-loop μ-loop
+enum-told c = search needs
 
-returns-2 : tie.Need-returns-2 Inv-loop μ-loop
-returns-2 c = (done (rw (no-page _ _ (c .loop-test .left)) at (c .before .loop .inv .2)), omega (arith, c .before .loop .inv .1, c .before .before .before .before .pre))
+same-length : tie.Need-same-length Inv-loop μ-loop
+same-length c = c .before .before .before .loop .inv .3
+
+returns : tie.Need-returns Inv-loop μ-loop
+returns c =
+    let l = c .before .before .before in
+    let none = sym (rw (c .enum-told .given .1) at (c .before .before .answer-at .ensures)) in
+    (done (rw (answers-step (l .before .before .before .args .page .now) (l .loop .i) (refused _ _) none) at (l .loop .inv .2)), omega (arith, l .loop .inv .0, l .loop .inv .1, l .before .before .before .pre))
 
 pub put-answers-spec : {M : Type 1} → statement M
 put-answers-spec =
@@ -107,17 +97,8 @@ put-answers-spec =
     Inv-loop
     μ-loop
     loop-holds
-    mul-from-bits
-    shared-slice-read-from-bits
-    from-bits-requires
-    kind-requires
-    same-length
-    returns
-    add-at-most
-    payload-requires
-    cast-at-most
-    add-at-most-2
-    at-most-requires
+    answer-at-requires
+    enum-known-end
     mul-put-line
     sub-put-line
     part-put-line-start
@@ -125,5 +106,6 @@ put-answers-spec =
     put-line-requires
     loop-less
     loop-again
-    same-length-2
-    returns-2)
+    enum-told
+    same-length
+    returns)

@@ -4,7 +4,7 @@ use mathlib.Core.Path.{_≡_, _∙_, refl}
 use native.Mathlib.Omega.{arith}
 use lib.ListN.{length, drop}
 use Rattle.list_text.specs.Listing.{codes, line-behind, word-text}
-use Rattle.list_text.proofs.PageLaws.{line-first, line-last, line-next}
+use Rattle.list_text.proofs.LineLaws.{line-first, line-last, line-next}
 use Rattle.list_text.proofs.TextLaws.{Left, begin, behind, last, step}
 use borrow.Author.Needs.{needs}
 use Rattle.list_text.proofs.answers.put_line.Statement.{statement}

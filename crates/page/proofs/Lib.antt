@@ -1,0 +1,4 @@
+pub mod AnswersLaws
+pub mod Headers
+pub mod RowsHold
+pub mod WalkLaws

@@ -1,12 +1,10 @@
-// Pages on standard input, one after the other, each as an answer's number, a word count and its words. Prints a line of what the viewer gets of each:
+// Pages on standard input: how many, then each as an answer's number, a word count and its words. Prints a line of what the viewer gets of each:
 // the part's words, none if refused; then where the part starts, or the refusal.
 use libc::STDIN_FILENO;
 use libc::STDOUT_FILENO;
 use page::Found;
 use word::Word;
 use word::at_most;
-ghost use Prim.Native.Nat.{_+_, _*_, _≤_};
-ghost use lib.ListN.{length};
 
 // The longest page that is taken, in words.
 const MOST: usize = 256;
@@ -46,60 +44,30 @@ fn show(page: &[u32], answer: u32) {
     }
 }
 
-// The word from byte `at` on.
-fn word_at(bytes: &[u8], at: usize) -> u32
-    requires { ⌜ at + 4 ≤ length (now bytes) ⌝ }
-{
-    let word = Word::from_bytes(bytes[at], bytes[at + 1], bytes[at + 2], bytes[at + 3]);
+// 0 where the input has ended.
+fn read_word() -> u32 {
+    let mut bytes = [0u8; 4];
+    io::read_full(STDIN_FILENO, &mut bytes);
+    let word = Word::from_bytes(bytes[0], bytes[1], bytes[2], bytes[3]);
     word.bits
 }
 
-fn read_start(bytes: &mut [u8], size: usize)
-    requires { ⌜ size ≤ length (now bytes) ⌝ }
-{
-    io::read_full(STDIN_FILENO, &mut bytes[..size]);
-}
-
-fn fill(words: &mut [u32], bytes: &[u8], count: usize)
-    requires { ⌜ (count ≤ length (now words)) × (4 * count ≤ length (now bytes)) ⌝ }
-{
+fn show_next() {
+    let answer = read_word();
+    let count = at_most(read_word() as usize, MOST);
+    let mut words = [0u32; MOST];
     let mut i = 0;
     while i < count {
-        words[i] = word_at(bytes, 4 * i);
+        words[i] = read_word();
         i += 1;
     }
-}
-
-// The page of so many words, which come next.
-fn show_page(answer: u32, count: usize, bytes: &mut [u8])
-    requires { ⌜ (count ≤ 256) × (4 * count ≤ length (now bytes)) ⌝ }
-{
-    read_start(bytes, 4 * count);
-    let mut words = [0u32; MOST];
-    fill(&mut words, bytes, count);
     show(&words[..count], answer);
 }
 
-// Shows the next page, if there is one, and says whether there was.
-fn show_next() -> bool {
-    let mut head = [0u8; 8];
-    if io::read_full(STDIN_FILENO, &mut head) < 8 {
-        return false;
-    }
-    let answer = word_at(&head, 0);
-    let count = at_most(word_at(&head, 4) as usize, MOST);
-    let mut bytes = [0u8; 1024];
-    show_page(answer, count, &mut bytes);
-    true
-}
-
 fn main() {
-    let mut left = 1000u32;
+    let mut left = read_word();
     while 0 < left {
-        if show_next() {
-            left -= 1;
-        } else {
-            return;
-        }
+        show_next();
+        left -= 1;
     }
 }

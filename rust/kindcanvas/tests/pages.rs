@@ -7,15 +7,15 @@
 //! KINDCANVAS_CASES sets how many (five million if it is not set), and KINDCANVAS_SEED where to begin. Each case has a seed of its own,
 //! so KINDCANVAS_CASES=1 with the seed that a failure names runs that case alone.
 
-mod longer;
+mod seeds;
 
 use kindcanvas::Refusal;
-use longer::seed_and_cases;
 use reference::gen::Rng;
 use reference::pages::{covered, page_case, wanted, PageCase};
 use reference::word::show;
 use reference::{table, PageFault};
-use std::collections::BTreeMap;
+use seeds::Comparison;
+use std::collections::BTreeSet;
 use std::ops::Range;
 
 type Expected = Result<Range<usize>, reference::Refusal>;
@@ -64,39 +64,28 @@ fn random_case(seed: u64) -> PageCase {
     page_case(&mut Rng::new(seed))
 }
 
-/// Compares so many cases. If they are many, each thing wanted must have been covered several times.
-fn random_pages(seed: u64, cases: u64) {
-    println!("{cases} cases from seed {seed}");
-    let wanted = wanted().into_iter().map(|what| (what, 0));
-    let mut counts: BTreeMap<String, usize> = wanted.collect();
-    for seed in seed..seed + cases {
-        let case = random_case(seed);
-        compare(&case, seed, &format!("seed {seed}"));
-        for what in covered(&case) {
-            *counts.entry(what).or_default() += 1;
-        }
-    }
-    for (what, count) in &counts {
-        println!("{count:8} {what}");
-    }
-    if cases >= GATE_CASES {
-        counts.retain(|_, count| *count < 5);
-        assert!(counts.is_empty(), "hardly covered: {counts:?}");
-    }
+/// Compares the case of a seed, and says what it covers.
+fn compare_seed(seed: u64) -> BTreeSet<String> {
+    let case = random_case(seed);
+    compare(&case, seed, &format!("seed {seed}"));
+    covered(&case)
 }
 
-const GATE_CASES: u64 = 200_000;
+const COMPARISON: Comparison = Comparison {
+    gate_cases: 200_000,
+    wanted,
+    compare: compare_seed,
+};
 
 #[test]
 fn random_pages_of_the_gate() {
-    random_pages(20_240_701, GATE_CASES);
+    COMPARISON.of_the_gate(20_240_701);
 }
 
 #[test]
 #[ignore = "takes minutes; see the head of this file"]
 fn more_random_pages() {
-    let (seed, cases) = seed_and_cases(5_000_000);
-    random_pages(seed, cases);
+    COMPARISON.longer(5_000_000);
 }
 
 #[test]

@@ -7,10 +7,9 @@
 //! KINDCANVAS_CASES sets how many (a million if it is not set), and KINDCANVAS_SEED where to begin. Each case has a seed of its own, so
 //! KINDCANVAS_CASES=1 with the seed that a failure names runs that case alone.
 
-mod longer;
+mod seeds;
 
 use kindcanvas::{Bound, Ending, Refusal, Report};
-use longer::seed_and_cases;
 use reference::cases::{self, Case};
 use reference::coverage::{covered, wanted};
 use reference::gen::{self, Rng};
@@ -20,8 +19,8 @@ use reference::table;
 use reference::trace::Event;
 use reference::word::{show, ABSENTO};
 use reference::{Fault, Outcome};
-use std::collections::BTreeMap;
-use std::ops::Range;
+use seeds::Comparison;
+use std::collections::BTreeSet;
 use std::thread;
 
 type Expected = Result<Outcome, reference::Refusal>;
@@ -146,56 +145,29 @@ fn random_case(seed: u64) -> Case {
     }
 }
 
-/// Compares the cases of these seeds, and says how often what was covered.
-fn random_cases(seeds: Range<u64>) -> BTreeMap<String, usize> {
-    let mut counts = BTreeMap::new();
-    for seed in seeds {
-        let case = random_case(seed);
-        let expected = compare_with(&case, seed, Case::run)
-            .unwrap_or_else(|(told, _)| panic!("seed {seed}: {told}"));
-        for what in covered(&case, &expected) {
-            *counts.entry(what).or_default() += 1;
-        }
-    }
-    counts
+/// Compares the case of a seed, and says what it covers.
+fn compare_seed(seed: u64) -> BTreeSet<String> {
+    let case = random_case(seed);
+    let expected = compare_with(&case, seed, Case::run)
+        .unwrap_or_else(|(told, _)| panic!("seed {seed}: {told}"));
+    covered(&case, &expected)
 }
 
-/// Compares so many cases in two threads. If they are many, each thing wanted must have been covered several times.
-fn random_programs(seed: u64, cases: u64) {
-    println!("{cases} cases from seed {seed}");
-    let (middle, end) = (seed + cases / 2, seed + cases);
-    let mut counts = thread::scope(|scope| {
-        let first = scope.spawn(|| random_cases(seed..middle));
-        let mut counts = random_cases(middle..end);
-        for (what, count) in first.join().expect("no difference in the first half") {
-            *counts.entry(what).or_default() += count;
-        }
-        counts
-    });
-    for what in wanted() {
-        counts.entry(what).or_default();
-    }
-    for (what, count) in &counts {
-        println!("{count:8} {what}");
-    }
-    if cases >= GATE_CASES {
-        counts.retain(|_, count| *count < 5);
-        assert!(counts.is_empty(), "hardly covered: {counts:?}");
-    }
-}
-
-const GATE_CASES: u64 = 100_000;
+const COMPARISON: Comparison = Comparison {
+    gate_cases: 100_000,
+    wanted,
+    compare: compare_seed,
+};
 
 #[test]
 fn random_programs_of_the_gate() {
-    random_programs(20_240_612, GATE_CASES);
+    COMPARISON.of_the_gate(20_240_612);
 }
 
 #[test]
 #[ignore = "takes minutes; see the head of this file"]
 fn more_random_programs() {
-    let (seed, cases) = seed_and_cases(1_000_000);
-    random_programs(seed, cases);
+    COMPARISON.longer(1_000_000);
 }
 
 /// The reference with an error in what it says of a run.

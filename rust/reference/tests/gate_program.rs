@@ -65,15 +65,13 @@ fn refusals_input_and_output_are_those_of_the_table() {
 /// `gate_pages` takes pages of at most 256 words.
 #[test]
 fn pages_input_and_output_are_those_of_the_table() {
-    let mut input = Vec::new();
+    let mut rows = pages();
+    rows.retain(|row| row.case.page.len() <= 256);
+    assert!(rows.len() >= 40);
+    let mut input = bytes(&[rows.len() as u32]);
     let mut output = String::new();
-    let mut count = 0;
-    for row in pages() {
+    for row in rows {
         let page = &row.case.page;
-        if page.len() > 256 {
-            continue;
-        }
-        count += 1;
         input.extend(bytes(&[row.case.answer, page.len() as u32]));
         input.extend(bytes(page));
         match row.expected {
@@ -88,7 +86,6 @@ fn pages_input_and_output_are_those_of_the_table() {
             )),
         }
     }
-    assert!(count >= 40);
     compare("gate_pages", "stdin", &input);
     compare("gate_pages", "stdout", output.as_bytes());
 }

@@ -1,14 +1,16 @@
 -- Nothing is promised of the program but that it is safe and ends.
-use Prim.Native.Nat.{_≤_}
 use borrow.Author.Needs.{needs}
 use Rattle.gate_pages.proofs.main.Statement.{statement}
 use Rattle.gate_pages.proofs.main.Tie as tie
 
 abbrev Inv-loop : tie.InvT-loop
-Inv-loop left₀ left = left ≤ 1000
+Inv-loop left₀ left = Unit {0}
 
 abbrev μ-loop : tie.MeasureT-loop
 μ-loop left₀ left = left
+
+read-word-requires : tie.Need-read-word-requires Inv-loop μ-loop
+read-word-requires c κs = search needs
 
 loop-holds : tie.Need-loop-holds Inv-loop μ-loop
 loop-holds c = search needs
@@ -28,19 +30,16 @@ loop-again c = search needs
 returns : tie.Need-returns Inv-loop μ-loop
 returns c = search needs
 
-returns-2 : tie.Need-returns-2 Inv-loop μ-loop
-returns-2 c = search needs
-
 pub main-spec : {M : Type 1} → statement M
 main-spec =
     tie.close
     (tie.spec
     Inv-loop
     μ-loop
+    read-word-requires
     loop-holds
     show-next-requires
     sub-left
     loop-less
     loop-again
-    returns
-    returns-2)
+    returns)

@@ -10,8 +10,8 @@
    kindcanvas_run too. */
 uint64_t kindcanvas_check(const uint32_t *program, size_t program_words);
 
-/* Runs the program. Answers go to output, with zeros behind them, and of scratch the first 12,288 words end as 0; a refusal leaves
-   both as lent. Returns 8, with the report in the first eight numbers: how the run ended (0 finished, 1 rounds used up, 2 steps used
+/* Runs the program. Answers go to output, each once, with zeros behind them, and of scratch the first 12,288 words end as 0; a refusal
+   leaves both as lent. Repeats are found fast while output has words to spare, four an answer. Returns 8, with the report in the first eight numbers: how the run ended (0 finished, 1 rounds used up, 2 steps used
    up, 3 output full, 4 a bound of a path, 5 refused); which bound (1 variables, 2 goals, 3 disjunctions, 4 constraints, 5 waiting) or
    which refusal (1 to 9); the refusal's place; round, steps, answers, words, branches cut. What does not apply is 0. Returns 0 if fewer
    than eight numbers are lent; then nothing is run. */

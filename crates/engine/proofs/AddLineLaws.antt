@@ -1,13 +1,10 @@
 -- Lines that stay: one law for each way in which the code returns or goes on, and what the definition lists.
 use Prim.Native.Nat.{ℕ, suc, _+_, _<_, _≤_}
-use mathlib.Core.Path.{_≡_, refl, sym, ap, ap₂, subst, _∙_}
-use mathlib.Core.Bool.{Bool, true, false, _&&_, _||_, not, false≢true}
+use mathlib.Core.Path.{_≡_, refl, sym, ap, subst, _∙_}
+use mathlib.Core.Bool.{Bool, true, false, _&&_, _||_, not}
 use mathlib.Core.List.{List, [], _∷_, _++_, append-assoc, append-nil}
 use native.Mathlib.Omega.{arith}
-use lib.Dec.{eqb}
 use lib.ListN.{length, length-append}
-use borrow.Author.Tests.{eq-eqb, eqb-true}
-use Rattle.word.specs.Word.{payload, payload-word}
 use Rattle.rules.specs.Lists.{joined}
 use Rattle.rules.specs.Reading.{choose}
 use Rattle.rules.specs.Syntax.{empty, var, atom}
@@ -15,31 +12,15 @@ use Rattle.rules.specs.Written.{part, sort-kind, atom-word, term-words, goal-wo
 use Rattle.rules.specs.Inner.{Spells}
 use Rattle.rules.proofs.Spelled.{stands-at as spells-at, stands-split as spells-split}
 use Rattle.semantics.specs.Answer.{index, reify, reify-bindings, differ-goals, Line, is-sort, lacks, not-all, line-in, line-words, lines-words, same-words, any-same, listed, stays}
-use Rattle.semantics.proofs.Basics.{and-true, by-choose, joined-more}
+use Rattle.semantics.proofs.Repeats.{same-refl, same-true}
+use Rattle.semantics.proofs.Basics.{by-choose, joined-more}
 use Rattle.engine.specs.Reference.{at}
 use Rattle.engine.specs.Term.{Puts, Touched, Laid, Placed, all-laid, some-missing}
-use Rattle.engine.specs.Lines.{add-line, add-lines, Whole, Wholes, Stretch, Rows, AnswerSoFar, Writing, Extended}
+use Rattle.engine.specs.Lines.{add-line, add-lines, Wholes, Stretch, Rows, AnswerSoFar, Writing, Extended}
 use Rattle.engine.specs.declared.writer.term.Put.{Put}
 use Rattle.engine.specs.declared.writer.term.Put.the-variants.{End, Missed}
 use Rattle.engine.proofs.TermLaws.{room-same, laid-of, missing-of, laid-then, touched-then}
-
--- the same words
-pub same-self : (v : List ℕ) → same-words v v ≡ true
-same-self [] = refl
-same-self (x ∷ v) = rw (eq-eqb x x refl) (same-self v)
-
-same-is : (v w : List ℕ) → same-words v w ≡ true → v ≡ w
-same-is [] [] e = refl
-same-is [] (y ∷ w) e = absurd (false≢true e)
-same-is (x ∷ v) [] e = absurd (false≢true e)
-same-is (x ∷ v) (y ∷ w) e = let a = and-true (eqb x y) (same-words v w) e in ap₂ _∷_ (eqb-true x y (a .0)) (same-is v w (a .1))
-
-spells-one : (o : List ℕ) (place : ℕ) (v w : List ℕ) → Spells o place v → Spells o place w → length v ≡ length w → v ≡ w
-unfolding Spells
-spells-one o place [] [] h i e = refl
-spells-one o place [] (y ∷ w) h i e = absurd (omega arith)
-spells-one o place (x ∷ v) [] h i e = absurd (omega arith)
-spells-one o place (x ∷ v) (y ∷ w) h i e = ap₂ _∷_ (sym (h .0) ∙ i .0) (spells-one o (place + 1) v w (h .1) (i .1) (omega arith))
+use Rattle.engine.proofs.RowLaws.{spells-one, wholes-snoc}
 
 module _ {o o′ : List ℕ} {place next : ℕ} {v : List ℕ} {r : Put} (w : List ℕ) (p : Placed o o′ place next false v r) (there : Stretch o place next w) where
   pub same-missed : r ≡ Missed → false ≡ same-words v w
@@ -47,20 +28,20 @@ module _ {o o′ : List ℕ} {place next : ℕ} {v : List ℕ} {r : Put} (w : Li
     where
       go : (b : Bool) → same-words v w ≡ b → false ≡ same-words v w
       go false q = sym q
-      go true q = let z : v ≡ w = same-is v w q in absurd (missing-of p e .differs refl (omega (arith, ap length z, there .ends)) (subst (Spells o place) (sym z) (there .words)))
+      go true q = let z : v ≡ w = same-true v w q in absurd (missing-of p e .differs refl (omega (arith, ap length z, there .ends)) (subst (Spells o place) (sym z) (there .words)))
 
   pub same-found : {e : ℕ} → r ≡ End e → e ≡ next → true ≡ same-words v w
   same-found {e} q k =
       let d = laid-of p q in
       let z : v ≡ w = spells-one o place v w (subst (λ x. Spells x place v) (d .read-only refl) (d .words)) (there .words) (omega (arith, d .is, there .ends)) in
-      subst (λ x. true ≡ same-words x w) (sym z) (sym (same-self w))
+      subst (λ x. true ≡ same-words x w) (sym z) (sym (same-refl w))
 
   pub same-short : {e : ℕ} → r ≡ End e → ¬ (e ≡ next) → false ≡ same-words v w
   same-short {e} q n = go (same-words v w) refl
     where
       go : (b : Bool) → same-words v w ≡ b → false ≡ same-words v w
       go false z = sym z
-      go true z = absurd (n (omega (arith, laid-of p q .is, there .ends, ap length (same-is v w z))))
+      go true z = absurd (n (omega (arith, laid-of p q .is, there .ends, ap length (same-true v w z))))
 
 pub read-back : {o o′ : List ℕ} {place next : ℕ} {v : List ℕ} {r : Put} → Placed o o′ place next false v r → o′ ≡ o
 read-back (all-laid h) = h .read-only refl
@@ -69,64 +50,6 @@ read-back (some-missing h) = h .read-only refl
 -- a line is compared with an earlier one, between its ends
 pub puts-between : {s o o′ : List ℕ} {first at place next : ℕ} {names v : List ℕ} {a : Bool} → Puts s o first at names a → length o′ ≡ length o → Stretch o′ place next v → next ≤ at → Puts s o′ place next names a
 puts-between g e h l = record { from = omega (arith, h .ends); room = record { inside = omega (arith, g .room .inside, e); short = omega (arith, g .room .short) }; given = g .given; known = g .known }
-
--- earlier lines, one after the other
-pub record Row (o : List ℕ) (place to : ℕ) (v : List ℕ) (goal : Bool) : Type 0 where
-  pub rows : List (List ℕ)
-  pub here : Rows o place to rows
-  pub same : any-same v rows ≡ goal
-
-pub record RowNext (o : List ℕ) (place to size : ℕ) (v : List ℕ) (goal : Bool) : Type 0 where
-  pub one : List ℕ
-  pub rest : List (List ℕ)
-  pub here : Stretch o place (place + 1 + size) one
-  pub later : Rows o (place + 1 + size) to rest
-  pub inside : place + 1 + size ≤ to
-  pub same : (same-words v one || any-same v rest) ≡ goal
-
-module _ {o : List ℕ} {place to : ℕ} {v : List ℕ} {goal : Bool} (g : Row o place to v goal) where
-  pub row-next : {bits size : ℕ} → place < to → bits ≡ at o place → size ≡ payload bits → RowNext o place to size v goal
-  unfolding Wholes Spells
-  row-next {bits} {size} l is-bits is-size = go (g .rows) (g .here) (g .same)
-    where
-      go : (ws : List (List ℕ)) → Rows o place to ws → any-same v ws ≡ goal → RowNext o place to size v goal
-      go [] h e = absurd (omega (arith, h .stretch .ends))
-      go (w ∷ ws) h e =
-          let k = h .whole .0 in
-          let d = spells-split o place w (joined ws) (h .stretch .words) in
-          let f : Spells o place (part (k .kind) (k .rest)) = subst (Spells o place) (k .is) (d .0) in
-          let n : size ≡ length (k .rest) = is-size ∙ ap payload (is-bits ∙ f .0) ∙ payload-word (k .kind) (length (k .rest)) (k .short) in
-          let m : length w ≡ suc (length (k .rest)) = ap length (k .is) in
-          let a : length (w ++ joined ws) ≡ length w + length (joined ws) = length-append w (joined ws) in
-          let t : to ≡ place + length (w ++ joined ws) = h .stretch .ends in
-          record {
-            one = w;
-            rest = ws;
-            here = record { words = d .0; ends = omega arith };
-            later = record { stretch = record { words = spells-at o (place + length w) (place + 1 + size) (joined ws) (omega arith) (d .1); ends = omega arith }; whole = h .whole .1 };
-            inside = omega arith;
-            same = e;
-          }
-
-  pub row-end : to ≤ place → false ≡ goal
-  unfolding Wholes
-  row-end l = go (g .rows) (g .here) (g .same)
-    where
-      go : (ws : List (List ℕ)) → Rows o place to ws → any-same v ws ≡ goal → false ≡ goal
-      go [] h e = e
-      go (w ∷ ws) h e = absurd (omega (arith, h .stretch .ends, length-append w (joined ws), ap length (h .whole .0 .is)))
-
-module _ {o : List ℕ} {place to size : ℕ} {v : List ℕ} {goal r : Bool} (g : RowNext o place to size v goal) (f : r ≡ same-words v (g .one)) where
-  pub row-found : r ≡ true → true ≡ goal
-  row-found e = ap (λ b. b || any-same v (g .rest)) (sym e ∙ f) ∙ g .same
-
-  pub row-on : r ≡ false → Row o (place + 1 + size) to v goal
-  row-on e = record { rows = g .rest; here = g .later; same = ap (λ b. b || any-same v (g .rest)) (sym e ∙ f) ∙ g .same }
-
-wholes-snoc : (ws : List (List ℕ)) (v : List ℕ) → Wholes ws → Whole v → Wholes (ws ++ (v ∷ []))
-unfolding Wholes
-wholes-snoc [] v h k = (k, tt)
-wholes-snoc (w ∷ ws) v h k = (h .0, wholes-snoc ws v (h .1) k)
 
 line-part : (names : List ℕ) (l : Line) → (k : ℕ) × (rest : List ℕ) × (line-words names l ≡ part k rest)
 unfolding goal-words
@@ -262,6 +185,3 @@ lines-listed names ws before (l ∷ ls) e =
         → joined (add-lines names (choose b (λ _. ws ++ (v ∷ [])) (λ _. ws)) ls) ≡ joined ws ++ lines-words names (choose b (λ _. l ∷ listed names (v ∷ before) ls) (λ _. listed names before ls))
     go true h i = h ∙ ap (λ x. x ++ lines-words names (listed names (v ∷ before) ls)) (joined-more ws v) ∙ append-assoc (joined ws) v (lines-words names (listed names (v ∷ before) ls))
     go false h i = i
-
-pub row-moved : {o o′ : List ℕ} {place to : ℕ} {v : List ℕ} {goal : Bool} → o′ ≡ o → Row o place to v goal → Row o′ place to v goal
-row-moved {o} {o′} {place} {to} {v} {goal} e g = subst (λ x. Row x place to v goal) (sym e) g

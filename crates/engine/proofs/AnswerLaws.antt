@@ -287,6 +287,8 @@ module _ {P : Program} {ws s output : List ℕ} {st : State} {p : Path} {cs : Li
                 used-now = x;
                 fits = omega arith;
                 stands = ap (λ j. take j out₃) x ∙ take-spelled used out₃ words (omega arith) (g .words) ∙ ap (λ v. v ++ words) (take-same used output out₃ u (end-touched .below));
+                whole = record { kind = 15; rest = page-words bs params (d .lines); is = sym (words-are bs params (d .lines)); short = omega (arith, ap length (words-are bs params (d .lines)), room .short) };
+                behind = g .touched .above;
               }
 
           answer-full : (left : ℕ) → q ≡ answered.Full left → usable (length output) < used + length words

@@ -15,9 +15,12 @@ use Rattle.engine.specs.Rounds.{RunReady, TallyAs, Starting, CompletedAs
 use Rattle.engine.specs.declared.report.End as code-end
 use Rattle.engine.specs.declared.report.End.the-variants.{Finished, Rounds}
 use Rattle.engine.specs.declared.report.Report.{Report}
+use Rattle.engine.specs.Lines.{Wholes}
+use Rattle.engine.specs.declared.round.Filled.{Filled}
 use Rattle.engine.specs.declared.round.Tally as code-tally
 use Rattle.engine.specs.declared.round.Rounded as code-rounded
 use Rattle.engine.specs.declared.round.Rounded.the-variants.{Completed, Broken}
+use Rattle.engine.proofs.RepeatsLaws.{indexed-none}
 
 -- a round only spends steps
 left-of : Rounded → ℕ
@@ -40,15 +43,20 @@ pub record Going (ws s₀ output₀ : List ℕ) (query limit steps : ℕ) (s out
   pub on : (P : Program) (R : Relation) → RunReady ws s₀ P query R limit → (a : Tally) × Starting ws s output P query R k t a × (a .left ≤ steps) × (cut ≡ a .cuts)
       × (definition.rounds steps P R limit 0 (usable (length output₀)) steps 0 [] ≡ definition.rounds steps P R (limit - k) k (a .room) (a .left) (a .cuts) (a .written))
 
-pub start-going : (ws s output : List ℕ) (query limit steps : ℕ) (t : code-tally.Tally) → t .left ≡ steps → t .used ≡ 0 → t .answers ≡ 0 → steps ≤ 4294967295 → Going ws s output query limit steps s output 0 t 0
-start-going ws s output query limit steps t l u a few =
+nothing-whole : Wholes []
+unfolding Wholes
+nothing-whole = tt
+
+pub start-going : (ws s output : List ℕ) (query limit steps : ℕ) (t : code-tally.Tally) → t .left ≡ steps → t .filled ≡ record { used = 0; answers = 0; index = 0 } → steps ≤ 4294967295 → Going ws s output query limit steps s output 0 t 0
+start-going ws s output query limit steps t l none few =
     record {
       up-to = omega arith;
       on = λ P R r. (
         record { left = steps; room = usable (length output); cuts = 0; written = [] },
         record {
           ready = record { is-read = r .is-read; query-is = r .query-is; clean = r .clean; few-rounds = omega arith };
-          tally = record { left = l; used = u; room = omega (arith, u); answers = a; page-is = rw u refl; counted = omega arith };
+          tally = record { left = l; filled = rw none (record { used = refl; room = omega arith; answers = refl; page-is = refl }); counted = omega (arith, ap (λ (f : Filled). f .answers) none) };
+          index = rw none (record { whole = nothing-whole; fits = omega arith; indexed = indexed-none output (usable (length output)) [] });
         },
         omega arith,
         refl,
@@ -101,10 +109,10 @@ resulted {limit = limit} ta q z h = record {
   is-end = ap end-says (h .is-end) ∙ q;
   is-round = h .is-round;
   is-steps = h .is-steps ∙ ap (λ n. limit - n) (ta .left);
-  is-answers = h .is-answers ∙ ta .answers;
-  is-words = h .is-words ∙ ta .used;
+  is-answers = h .is-answers ∙ ta .filled .answers;
+  is-words = h .is-words ∙ ta .filled .used;
   is-cut = h .is-cut ∙ z;
-  page-is = rw (h .is-words) (ta .page-is);
+  page-is = rw (h .is-words) (ta .filled .page-is);
 }
 
 module _ {ws s₀ output₀ : List ℕ} {query limit steps : ℕ} {s output : List ℕ} {k : ℕ} {t : code-tally.Tally} {cut : ℕ} (g : Going ws s₀ output₀ query limit steps s output k t cut) {P : Program} {R : Relation} (q : RunReady ws s₀ P query R limit) where
@@ -162,7 +170,7 @@ module _ {ws s₀ output₀ : List ℕ} {query limit steps : ℕ} {s output : Li
     next-on w m =
         let v : suc k ≡ k + 1 = omega arith in (
           o .last,
-          record { ready = record { is-read = q .is-read; query-is = q .query-is; clean = o .clean; few-rounds = omega (arith, q .few-rounds) }; tally = o .tally },
+          record { ready = record { is-read = q .is-read; query-is = q .query-is; clean = o .clean; few-rounds = omega (arith, q .few-rounds) }; tally = o .tally; index = o .index },
           omega (arith, completed-fewer o, o .tally .left),
           o .cuts-are,
           run-rest (o .is-round) ∙ next-rest steps P R (limit - k) k _ (o .last) (λ v. w (o .cuts-are ∙ v)) (limit - (k + 1)) (omega arith)

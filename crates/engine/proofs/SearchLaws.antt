@@ -11,7 +11,7 @@ use Rattle.semantics.specs.Answer.{answer}
 use Rattle.semantics.specs.Run.{page}
 use Rattle.semantics.specs.Substitution.{argument}
 use Rattle.semantics.specs.Round as round
-use Rattle.semantics.specs.Round.{Tally, Next, going, over, completed, broken, spend, end-of, give, after, onward, turn, search}
+use Rattle.semantics.specs.Round.{Next, Tally, after, broken, completed, end-of, give, going, once, onward, over, search, spend, turn}
 use Rattle.semantics.specs.Invariant.{ProgramIn, Fine, StateFine}
 use Rattle.semantics.proofs.Basics.{clash}
 use Rattle.semantics.proofs.StepLaws.{Spent}
@@ -49,7 +49,7 @@ take-spent : (k : ℕ) (P : Program) (p : Path) (cs : List ChoicePoint) (base : 
 take-spent k P p cs base x zero v m e = clash (cc)
 take-spent k P p cs base x (suc l) v m e = let h : m ≤ l = subst (Spent l (suc l)) e (taken-spent argument k P p cs base x l) in omega arith
 
-over-spent : (P : Program) (n k : ℕ) (state : round.State) (left : ℕ) (t : Tally) → after P n k state (took-goal k P state left) ≡ over (completed t) → 0 < left
+over-spent : (P : Program) (n k : ℕ) (state : round.State) (left : ℕ) (t : Tally) → after (once argument) n k state (took-goal k P state left) ≡ over (completed t) → 0 < left
 over-spent P n k state zero t e = clash (cc)
 over-spent P n k state (suc l) t e = omega arith
 
@@ -72,9 +72,9 @@ module _ {P : Program} {wf : ProgramIn P} {n k : ℕ} {ws s : List ℕ} {st : St
   search-due = record { due = record { stored = h .held; task-at = h .task-at; short = h .short; program-in = wf; sound = h .fine .fine .sound; task-in = h .fine .fine .tasks-in .0 }; left-is = h .left-is }
 
 -- a turn of the search, with the fuel that is there
-turn-of : (P : Program) (n k fuel : ℕ) (state : round.State) (x : Next) → state .tally .left < fuel → turn P n k state ≡ x → (f : ℕ) × (fuel ≡ suc f) × (search P n k fuel state ≡ onward P n k x (λ next. search P n k f next))
+turn-of : (P : Program) (n k fuel : ℕ) (state : round.State) (x : Next) → state .tally .left < fuel → turn P n k state ≡ x → (f : ℕ) × (fuel ≡ suc f) × (search P n k fuel state ≡ onward x (λ next. search P n k f next))
 turn-of P n k zero state x lt e = absurd (omega arith)
-turn-of P n k (suc f) state x lt e = (f, refl, ap (λ y. onward P n k y (λ next. search P n k f next)) e)
+turn-of P n k (suc f) state x lt e = (f, refl, ap (λ y. onward y (λ next. search P n k f next)) e)
 
 module _ {P : Program} {wf : ProgramIn P} {n k : ℕ} {ws s : List ℕ} {st : State} {w cuts : ℕ} {state₀ : round.State} {fuel₀ : ℕ} (g : Going P wf n k ws s st w cuts state₀ fuel₀)
     (s′ : List ℕ) (to : Lead) (next : State) (v c : ℕ) (told : NextAs P n k ws s′ (g .state .tally) (took-goal k P (g .state) (st .steps)) (turn P n k (g .state)) to next v c) where
@@ -145,14 +145,14 @@ module _ {P : Program} {wf : ProgramIn P} {n k : ℕ} {ws s : List ℕ} {st : St
   unfolding NextAs SearchedAs
   searched-answer e =
       let o : Outcome Taken = took-goal k P (g .state) (st .steps) in
-      let q : (p : Path) × (cs : List ChoicePoint) × (turn P n k (g .state) ≡ give P n k cs (spend (g .state .tally) (next .steps)) (answer p n (next .steps))) × PathHeld P ws s′ next p cs × (p .stack ≡ []) × (p .calls ≡ k) × (o ≡ done (goes p cs) (next .steps)) = rw e at told in
+      let q : (p : Path) × (cs : List ChoicePoint) × (turn P n k (g .state) ≡ give (once argument) n k cs (spend (g .state .tally) (next .steps)) (answer p n (next .steps))) × PathHeld P ws s′ next p cs × (p .stack ≡ []) × (p .calls ≡ k) × (o ≡ done (goes p cs) (next .steps)) = rw e at told in
       let p : Path = q .0 in
       let cs : List ChoicePoint = q .1 in
       let well : GoesOn P wf n k (g .state .path) (g .state .task) (g .state .choices) p cs
       = subst (TakenWell P wf n k (g .state .path) (g .state .task) (g .state .choices)) (q .6) (goal-well P wf n k (g .state .path) (g .state .task .0) (g .state .choices) (g .under .fine .fine-choices) (g .state .task .1) (st .steps) (g .under .fine .fine)) in
       let spent : next .steps < st .steps = take-spent k P (g .state .path) (g .state .choices) (g .state .task .0) (g .state .task .1) (st .steps) (goes p cs) (next .steps) (q .6) in
       let counted : spend (g .state .tally) (next .steps) ≡ counted-to (state₀ .tally) (next .steps) cuts = tally-as (next .steps) (g .state .tally .cuts) ∙ ap (counted-to (state₀ .tally) (next .steps)) (g .under .cuts-are) in
-      let given : turn P n k (g .state) ≡ give P n k cs (counted-to (state₀ .tally) (next .steps) cuts) (answer p n (next .steps)) = q .2 ∙ ap (λ x. give P n k cs x (answer p n (next .steps))) counted in
+      let given : turn P n k (g .state) ≡ give (once argument) n k cs (counted-to (state₀ .tally) (next .steps) cuts) (answer p n (next .steps)) = q .2 ∙ ap (λ x. give (once argument) n k cs x (answer p n (next .steps))) counted in
       let t = turn-of P n k (g .fuel) (g .state) _ (g .enough) given in
       record {
         path = p;

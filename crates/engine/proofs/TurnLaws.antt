@@ -10,8 +10,9 @@ use Rattle.rules.specs.Syntax.{Program}
 use Rattle.semantics.specs.Steps.{Outcome, done}
 use Rattle.semantics.specs.Path.{Task, Path, ChoicePoint, Taken, goes, waiting-on}
 use Rattle.semantics.specs.Answer.{answer}
+use Rattle.semantics.specs.Substitution.{argument}
 use Rattle.semantics.specs.Round as round
-use Rattle.semantics.specs.Round.{Tally, Next, spend, backtrack, give, go-on, after, turn}
+use Rattle.semantics.specs.Round.{Next, Tally, after, backtrack, give, go-on, once, spend, turn}
 use Rattle.engine.specs.Reference.{at}
 use Rattle.engine.specs.Memory.{goal-at, next-at, StackIn, Stored}
 use Rattle.engine.specs.Take.{registers, PathHeld, took-says, TookHolds, TookAs, OverAs, ResumedAs, BacktrackAs}
@@ -56,7 +57,7 @@ cell-there {P} {ws} {s} st {p} h e = go (p .stack) (h .path-in .tasks)
 
 module _ (P : Program) (n k : ℕ) (ws s : List ℕ) (st : State) (p : Path) (cs : List ChoicePoint) (t : Tally) (h : PathHeld P ws s st p cs) where
   abbrev pub goes-to : List ℕ → Lead → State → ℕ → ℕ → Type 0
-  goes-to s′ lead next w c = NextAs P n k ws s′ t (done (goes p cs) (st .steps)) (go-on P n k p (p .stack) cs (spend t (st .steps))) lead next w c
+  goes-to s′ lead next w c = NextAs P n k ws s′ t (done (goes p cs) (st .steps)) (go-on (once argument) n k p (p .stack) cs (spend t (st .steps))) lead next w c
 
   no-stack : st .head ≡ 0 → p .stack ≡ []
   no-stack e = go (p .stack) (h .path-in .tasks)
@@ -70,15 +71,15 @@ module _ (P : Program) (n k : ℕ) (ws s : List ℕ) (st : State) (p : Path) (cs
   goes-answer e f =
       let calls : p .calls ≡ k = sym (h .path-in .calls) ∙ f in
       let y : eqb (p .calls) k ≡ true = eq-eqb (p .calls) k calls in
-      let x : go-on P n k p [] cs (spend t (st .steps)) ≡ give P n k cs (spend t (st .steps)) (answer p n (st .steps)) = rw y refl in
-      (p, cs, ap (λ ts. go-on P n k p ts cs (spend t (st .steps))) (no-stack e) ∙ x, h, no-stack e, calls, refl)
+      let x : go-on (once argument) n k p [] cs (spend t (st .steps)) ≡ give (once argument) n k cs (spend t (st .steps)) (answer p n (st .steps)) = rw y refl in
+      (p, cs, ap (λ ts. go-on (once argument) n k p ts cs (spend t (st .steps))) (no-stack e) ∙ x, h, no-stack e, calls, refl)
 
   pub goes-fewer : (s′ : List ℕ) (r : Turned) → st .head ≡ 0 → (st .calls ≡ k → ⊥)
       → ((Q : Program) (m j : ℕ) (q : Path) (ds : List ChoicePoint) (u : Tally) (o : Outcome Taken) → PathHeld Q ws s st q ds → TurnedAs Q m j ws s′ u o (backtrack ds (tallied u (st .steps) 0)) r) → goes-to s′ (r .lead) (r .state) (r .goal) (r .cuts)
   goes-fewer s′ r e f left =
       let y : eqb (p .calls) k ≡ false = ne-eqb (p .calls) k (λ q. f (h .path-in .calls ∙ q)) in
-      let x : go-on P n k p [] cs (spend t (st .steps)) ≡ backtrack cs (spend t (st .steps)) = rw y refl in
-      subst (λ z. TurnedAs P n k ws s′ t (done (goes p cs) (st .steps)) z r) (sym (ap (λ ts. go-on P n k p ts cs (spend t (st .steps))) (no-stack e) ∙ x)) (left P n k p cs t (done (goes p cs) (st .steps)) h)
+      let x : go-on (once argument) n k p [] cs (spend t (st .steps)) ≡ backtrack cs (spend t (st .steps)) = rw y refl in
+      subst (λ z. TurnedAs P n k ws s′ t (done (goes p cs) (st .steps)) z r) (sym (ap (λ ts. go-on (once argument) n k p ts cs (spend t (st .steps))) (no-stack e) ∙ x)) (left P n k p cs t (done (goes p cs) (st .steps)) h)
 
   pub goes-goal : (st .head ≡ 0 → ⊥)
       → goes-to s Goal (record { head = at s (next-at (st .head)); trail = st .trail; variables = st .variables; goals = st .goals; constraints = st .constraints; calls = st .calls; choices = st .choices; steps = st .steps }) (at s (goal-at (st .head))) 0
@@ -90,7 +91,7 @@ module _ (P : Program) (n k : ℕ) (ws s : List ℕ) (st : State) (p : Path) (cs
       go (x ∷ xs) q =
           let g : Stored P ws s (registers st) (st .choices) (waiting-on p (x ∷ xs) (p .put)) cs = subst (λ ts. Stored P ws s (registers st) (st .choices) (waiting-on p ts (p .put)) cs) q h in
           let o = pop p x xs g in
-          (record { task = x; path = waiting-on p xs (p .put); choices = cs; tally = spend t (st .steps) }, ap (λ ts. go-on P n k p ts cs (spend t (st .steps))) q, o .1, o .2, refl)
+          (record { task = x; path = waiting-on p xs (p .put); choices = cs; tally = spend t (st .steps) }, ap (λ ts. go-on (once argument) n k p ts cs (spend t (st .steps))) q, o .1, o .2, refl)
 
 -- The turn.
 
@@ -112,8 +113,8 @@ module _ (P : Program) (n k : ℕ) (ws s s′ : List ℕ) (state : round.State) 
   abbrev pub turns-to : Turned → Type 0
   turns-to r = TurnedAs P n k ws s′ (state .tally) (took-goal k P state left) (turn P n k state) r
 
-  turn-is : {o : Outcome Taken} → (took-goal k P state left) ≡ o → turn P n k state ≡ after P n k state o
-  turn-is e = ap (λ l. after P n k state (took-goal k P state l)) same ∙ ap (after P n k state) e
+  turn-is : {o : Outcome Taken} → (took-goal k P state left) ≡ o → turn P n k state ≡ after (once argument) n k state o
+  turn-is e = ap (λ l. after (once argument) n k state (took-goal k P state l)) same ∙ ap (after (once argument) n k state) e
 
   module _ {y : Way} {st : State} (b : TookAs P ws s (state .choices) (took-goal k P state left) y st) where
     took-as : {z : Way} → y ≡ z → (took-goal k P state left) ≡ took-says (b .path) (b .choices) z (st .steps)
@@ -140,10 +141,10 @@ module _ (P : Program) (n k : ℕ) (ws s s′ : List ℕ) (state : round.State) 
       turn-cuts e = leaves-to 1 (turn-is (took-as e)) (held-cut b e)
 
       pub turn-onward : y ≡ way.Goes
-          → ((Q : Program) (m : ℕ) (q : Path) (ds : List ChoicePoint) (u : Tally) → PathHeld Q ws s st q ds → TurnedAs Q m k ws s′ u (done (goes q ds) (st .steps)) (go-on Q m k q (q .stack) ds (spend u (st .steps))) said)
+          → ((Q : Program) (m : ℕ) (q : Path) (ds : List ChoicePoint) (u : Tally) → PathHeld Q ws s st q ds → TurnedAs Q m k ws s′ u (done (goes q ds) (st .steps)) (go-on (once argument) m k q (q .stack) ds (spend u (st .steps))) said)
           → turns-to said
       unfolding took-says
       turn-onward e f =
           let is : (took-goal k P state left) ≡ done (goes (b .path) (b .choices)) (st .steps) = took-as e in
           subst (λ z. TurnedAs P n k ws s′ (state .tally) (took-goal k P state left) z said) (sym (turn-is is))
-          (subst (λ z. TurnedAs P n k ws s′ (state .tally) z (go-on P n k (b .path) (b .path .stack) (b .choices) (spend (state .tally) (st .steps))) said) (sym is) (f P n (b .path) (b .choices) (state .tally) (held-goes b e)))
+          (subst (λ z. TurnedAs P n k ws s′ (state .tally) z (go-on (once argument) n k (b .path) (b .path .stack) (b .choices) (spend (state .tally) (st .steps))) said) (sym is) (f P n (b .path) (b .choices) (state .tally) (held-goes b e)))

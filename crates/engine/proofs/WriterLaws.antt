@@ -33,7 +33,8 @@ use Rattle.engine.specs.Line.{Equations}
 use Rattle.engine.specs.Trial.{EquationsKept}
 use Rattle.engine.specs.Lines.{add-line, add-lines, occurrences}
 use Rattle.engine.proofs.WalkLaws.{Binding, binding-at}
-use Rattle.engine.proofs.AddLineLaws.{same-self, any-snoc}
+use Rattle.semantics.proofs.Repeats.{same-refl}
+use Rattle.engine.proofs.AddLineLaws.{any-snoc}
 use Rattle.engine.proofs.LinesLaws.{lacks-append, add-append}
 
 -- a line that would not be added
@@ -57,7 +58,7 @@ settled-added names ws l = go (stays names ws l) refl
 
     go : (b : Bool) → stays names ws l ≡ b → Settled names (choose b (λ _. ws ++ (v ∷ [])) (λ _. ws)) l
     go false e = e
-    go true e = never-new (line-in names l) (any-same v (ws ++ (v ∷ []))) (any-snoc v v ws ∙ ap (λ b. b || any-same v ws) (same-self v))
+    go true e = never-new (line-in names l) (any-same v (ws ++ (v ∷ []))) (any-snoc v v ws ∙ ap (λ b. b || any-same v ws) (same-refl v))
 
 more-false : (a b c : Bool) → (a && not b) ≡ false → (a && not (c || b)) ≡ false
 more-false true true true e = refl

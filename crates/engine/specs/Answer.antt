@@ -13,7 +13,9 @@ use Rattle.semantics.specs.Path.{Path, ChoicePoint}
 use Rattle.semantics.specs.Run.{usable}
 use Rattle.semantics.specs.Invariant.{Sound}
 use Rattle.engine.specs.Take.{PathHeld}
+use Rattle.engine.specs.Reference.{at}
 use Rattle.engine.specs.Term.{Touched, Laid}
+use Rattle.engine.specs.Lines.{Whole}
 use Rattle.rules.specs.Settings.{most-words}
 use Rattle.engine.specs.declared.search.state.State.{State}
 use Rattle.engine.specs.declared.writer.constraint.Added.{Added}
@@ -59,11 +61,13 @@ answer-says ws (Full left) = done ws left
 answer-says ws StepsOut = stop no-steps 0
 answer-says ws (WaitingOut left) = stop (at-bound waiting) left
 
--- the words stand behind those used, and n are used now
+-- the words stand behind those used, n are used now, and what is behind them is as it was
 pub record AnswerStands (output output′ : List ℕ) (used : ℕ) (ws : List ℕ) (n : ℕ) : Type 0 where
   pub used-now : n ≡ used + length ws
   pub fits : n ≤ usable (length output)
   pub stands : take n output′ ≡ take used output ++ ws
+  pub whole : Whole ws
+  pub behind : (i : ℕ) → n ≤ i → at output′ i ≡ at output i
 
 -- as the definition says, and written where there is room
 pub record AnsweredAs (P : Program) (ws s output s′ output′ : List ℕ) (st : State) (p : Path) (cs : List ChoicePoint) (used : ℕ) (o : Outcome (List ℕ)) (r : Answered) : Type 0 where

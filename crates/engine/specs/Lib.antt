@@ -15,6 +15,7 @@ pub mod Names
 pub mod Term
 pub mod Line
 pub mod Lines
+pub mod Index
 pub mod Trial
 pub mod Look
 pub mod Constraint

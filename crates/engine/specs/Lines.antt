@@ -23,7 +23,7 @@ unfoldable pub add-lines : List ℕ → List (List ℕ) → List Line → List (
 add-lines names done [] = done
 add-lines names done (l ∷ ls) = add-lines names (add-line names done l) ls
 
--- a line's first word counts the rest
+-- a line's or an answer's first word counts the rest
 pub record Whole (w : List ℕ) : Type 0 where
   pub kind : ℕ
   pub rest : List ℕ
@@ -39,7 +39,7 @@ pub record Stretch (o : List ℕ) (place to : ℕ) (w : List ℕ) : Type 0 where
   pub words : Spells o place w
   pub ends : to ≡ place + length w
 
--- and so do lines
+-- and so do lines, or answers
 pub record Rows (o : List ℕ) (place to : ℕ) (ws : List (List ℕ)) : Type 0 where
   pub stretch : Stretch o place to (joined ws)
   pub whole : Wholes ws

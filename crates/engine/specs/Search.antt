@@ -4,10 +4,11 @@ use mathlib.Core.Path.{_≡_}
 use mathlib.Core.List.{List, []}
 use lib.ListN.{length}
 use Rattle.rules.specs.Syntax.{Program}
+use Rattle.semantics.specs.Substitution.{argument}
 use Rattle.semantics.specs.Path.{Path, ChoicePoint}
 use Rattle.semantics.specs.Answer.{answer}
 use Rattle.semantics.specs.Round as round
-use Rattle.semantics.specs.Round.{Tally, going, completed, broken, end-of, give, onward, search}
+use Rattle.semantics.specs.Round.{Tally, broken, completed, end-of, give, going, once, onward, search}
 use Rattle.semantics.specs.Invariant.{ProgramIn, Fine, StateFine}
 use Rattle.engine.specs.Reference.{TaskAt}
 use Rattle.engine.specs.Take.{PathHeld, stop-of}
@@ -40,12 +41,12 @@ pub record Answers (P : Program) (wf : ProgramIn P) (n k : ℕ) (ws s : List ℕ
   pub path : Path
   pub choices : List ChoicePoint
   pub rest : ℕ
-  pub same : search P n k fuel state ≡ onward P n k (give P n k choices (counted-to (state .tally) (st .steps) cuts) (answer path n (st .steps))) (λ next. search P n k rest next)
+  pub same : search P n k fuel state ≡ onward (give (once argument) n k choices (counted-to (state .tally) (st .steps) cuts) (answer path n (st .steps))) (λ next. search P n k rest next)
   pub enough : st .steps < rest
   pub fewer : st .steps < state .tally .left
   pub held : PathHeld P ws s st path choices
   pub fine : Fine P wf n k path []
-  pub next-fine : (next : round.State) → give P n k choices (counted-to (state .tally) (st .steps) cuts) (answer path n (st .steps)) ≡ going next → StateFine P wf n k next
+  pub next-fine : (next : round.State) → give (once argument) n k choices (counted-to (state .tally) (st .steps) cuts) (answer path n (st .steps)) ≡ going next → StateFine P wf n k next
   pub fits : cuts + st .steps ≤ 4294967295
 
 unfoldable pub SearchedAs : (P : Program) → ProgramIn P → ℕ → ℕ → List ℕ → List ℕ → round.State → ℕ → Searched → Type 0

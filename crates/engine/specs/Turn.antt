@@ -4,10 +4,11 @@ use mathlib.Core.Path.{_≡_}
 use mathlib.Core.List.{List, []}
 use Rattle.rules.specs.Syntax.{Program}
 use Rattle.semantics.specs.Steps.{Outcome, done}
+use Rattle.semantics.specs.Substitution.{argument}
 use Rattle.semantics.specs.Path.{Path, ChoicePoint, Taken, goes, take-goal}
 use Rattle.semantics.specs.Answer.{answer}
 use Rattle.semantics.specs.Round as round
-use Rattle.semantics.specs.Round.{Tally, Next, going, over, completed, broken, spend, count-cut, end-of, give}
+use Rattle.semantics.specs.Round.{Next, Tally, broken, completed, count-cut, end-of, give, going, once, over, spend}
 use Rattle.engine.specs.Reference.{TaskAt}
 use Rattle.engine.specs.Take.{PathHeld, Due, stop-of}
 use Rattle.engine.specs.declared.search.state.State.{State}
@@ -33,7 +34,7 @@ tallied t l (suc c) = count-cut t l
 unfoldable pub NextAs : Program → ℕ → ℕ → List ℕ → List ℕ → Tally → Outcome Taken → Next → Lead → State → ℕ → ℕ → Type 0
 NextAs P n k ws s t o x Goal st w c = (state : round.State) × (x ≡ going state) × TaskAt ws w (state .task) × PathHeld P ws s st (state .path) (state .choices) × (state .tally ≡ tallied t (st .steps) c)
 NextAs P n k ws s t o x Over st w c = (x ≡ over (completed (tallied t (st .steps) c))) × ((p : Path) × PathHeld P ws s st p [])
-NextAs P n k ws s t o x Answer st w c = (p : Path) × (cs : List ChoicePoint) × (x ≡ give P n k cs (spend t (st .steps)) (answer p n (st .steps))) × PathHeld P ws s st p cs × (p .stack ≡ []) × (p .calls ≡ k) × (o ≡ done (goes p cs) (st .steps))
+NextAs P n k ws s t o x Answer st w c = (p : Path) × (cs : List ChoicePoint) × (x ≡ give (once argument) n k cs (spend t (st .steps)) (answer p n (st .steps))) × PathHeld P ws s st p cs × (p .stack ≡ []) × (p .calls ≡ k) × (o ≡ done (goes p cs) (st .steps))
 NextAs P n k ws s t o x (Stops why l) st w c = x ≡ over (broken (end-of (stop-of why)) (spend t l))
 
 -- of what the code returns

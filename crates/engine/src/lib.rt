@@ -1,6 +1,7 @@
 // The engine: a rule file is run through its rounds over lent words.
 mod clear;
 mod layout;
+mod repeats;
 mod report;
 mod round;
 mod rounds;
@@ -33,8 +34,8 @@ fn refuse(number: u32, place: usize) -> Report
     }
 }
 
-// Runs the program through its rounds. Answers go to `output`, one after the other; the first `SCRATCH_WORDS` of `scratch` are 0 afterwards, and those beyond as lent. A refusal leaves
-// both as lent.
+// Runs the program through its rounds. Answers go to `output`, one after the other; one with the same words as an earlier one is not written, but the run ends as output full if it would not fit. The first
+// `SCRATCH_WORDS` of `scratch` are 0 afterwards, and those beyond as lent. A refusal leaves both as lent.
 pub fn run(
     program: &[u32],
     rounds: u32,

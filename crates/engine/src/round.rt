@@ -1,4 +1,7 @@
 // One round: from answer to answer, up to its end.
+use crate::layout::MOST_OUTPUT;
+use crate::repeats::repeated::Compared;
+use crate::repeats::repeated::repeated;
 use crate::report::Bound;
 use crate::report::End;
 use crate::search::choice::backtrack;
@@ -12,6 +15,7 @@ use crate::search::table::relation;
 use crate::terms::trail::undo;
 use crate::writer::answer::Answered;
 use crate::writer::answer::write_answer;
+use word::at_most;
 ghost use mathlib.Core.Path.{_≡_};
 ghost use mathlib.Core.List.{List};
 ghost use Prim.Native.Nat.{ℕ};
@@ -21,15 +25,21 @@ ghost use Rattle.semantics.specs.Answer.{answer};
 ghost use Rattle.semantics.specs.Round as definition;
 ghost use Rattle.engine.specs.Report.{ran, end-says};
 ghost use Rattle.engine.specs.Take.{PathHeld, stop-of};
-ghost use Rattle.engine.specs.Rounds.{Clean, Starting, RoundedAs, Giving, AnswerGivenAs};
+ghost use Rattle.semantics.specs.Substitution.{argument};
+ghost use Rattle.engine.specs.Rounds.{Clean, FilledAs, IndexAs, Starting, RoundedAs, Listing, Giving, AnswerGivenAs};
 ghost use Rattle.engine.specs.declared.round.Rounded.the-variants.{Completed, Broken};
+
+// How far the output is filled: the words used, the answers, and the length of their index at the end of its usable words, 0 if there is none.
+pub struct Filled {
+    pub used: u32,
+    pub answers: u32,
+    pub index: u32,
+}
 
 pub struct Tally {
     // The steps left.
     pub left: u32,
-    // The output words used.
-    pub used: u32,
-    pub answers: u32,
+    pub filled: Filled,
 }
 
 // How a round ended: completed, with the number of branches it cut, or broken off.
@@ -38,10 +48,10 @@ pub enum Rounded {
     Broken(End, Tally),
 }
 
-// What comes of an answer: the round's end, or a goal to be taken next, by its reference, and the output words used then.
+// What comes of an answer: the round's end, or a goal to be taken next, by its reference, and how far the output is filled then.
 enum AnswerGiven {
     Ends(Rounded),
-    Goes(State, u32, u32),
+    Goes(State, u32, Filled),
 }
 
 fn end_of(stop: Stop) -> End
@@ -53,72 +63,78 @@ fn end_of(stop: Stop) -> End
     }
 }
 
-fn broken(end: End, left: u32, used: u32, answers: u32) -> Rounded
-    ensures { λ r. ⌜ r ≡ Broken end (record { left = left; used = used; answers = answers }) ⌝ }
+fn broken(end: End, left: u32, filled: Filled) -> Rounded
+    ensures { λ r. ⌜ r ≡ Broken end (record { left = left; filled = filled }) ⌝ }
 {
-    Rounded::Broken(
-        end,
-        Tally {
-            left,
-            used,
-            answers,
-        },
-    )
+    Rounded::Broken(end, Tally { left, filled })
 }
 
 // The round is completed: all that is bound is undone for the next.
-fn completed(scratch: &mut [u32], state: State, used: u32, answers: u32, cuts: u32) -> Rounded
+fn completed(scratch: &mut [u32], state: State, filled: Filled, cuts: u32) -> Rounded
     requires { ⌜ ((P : Program) × (ws : List ℕ) × (p : Path) × (cs : List ChoicePoint) × PathHeld P ws (now scratch) state p cs) ⌝ }
-    ensures { λ r. ⌜ (r ≡ Completed (record { left = state .steps; used = used; answers = answers }) cuts)
+    ensures { λ r. ⌜ (r ≡ Completed (record { left = state .steps; filled = filled }) cuts)
         × ((P : Program) (ws : List ℕ) (p : Path) (cs : List ChoicePoint) → PathHeld P ws (now (scratch .entry)) state p cs → Clean ws (now (scratch .exit)) P) ⌝ }
 {
     undo(scratch, 0, state.trail);
     Rounded::Completed(
         Tally {
             left: state.steps,
-            used,
-            answers,
+            filled,
         },
         cuts,
     )
 }
 
-// A path gives its answer, behind the `used` words of those before it, and is left.
+// The output with the answer that was written up to `next`, or without it if it repeats an earlier one of the run.
+fn list_answer(output: &mut [u32], filled: Filled, next: u32) -> Filled
+    requires { ⌜ ((o : List ℕ) × (a : definition.Tally) × (ws : List ℕ) × Listing o (now output) filled next a ws) ⌝ }
+    ensures { λ r. ⌜ ((o : List ℕ) (k l : ℕ) (a : definition.Tally) (ws : List ℕ) → Listing o (now (output .entry)) filled next a ws
+        → FilledAs (now (output .exit)) r (definition.list-answer (definition.once argument) a k l ws) × IndexAs (now (output .exit)) r (definition.list-answer (definition.once argument) a k l ws)) ⌝ }
+{
+    let end = at_most(output.len(), MOST_OUTPUT);
+    match repeated(output, filled.used, next, end, filled.answers, filled.index) {
+        Compared::Repeated(index) => Filled {
+            used: filled.used,
+            answers: filled.answers,
+            index,
+        },
+        Compared::New(index) => Filled {
+            used: next,
+            answers: filled.answers + 1,
+            index,
+        },
+    }
+}
+
+// A path gives its answer, behind those before it, and is left.
 fn give(
     program: &[u32],
     scratch: &mut [u32],
     output: &mut [u32],
     st: State,
     params: u32,
-    used: u32,
-    answers: u32,
+    filled: Filled,
     cuts: u32,
 ) -> AnswerGiven
-    requires { ⌜ ((P : Program) × (p : Path) × (cs : List ChoicePoint) × (a : definition.Tally) × Giving P (now program) (now scratch) (now output) st p cs params used answers cuts a) ⌝ }
+    requires { ⌜ ((P : Program) × (p : Path) × (cs : List ChoicePoint) × (a : definition.Tally) × Giving P (now program) (now scratch) (now output) st p cs params filled cuts a) ⌝ }
     ensures { λ r. ⌜ ((P : Program) (k : ℕ) (p : Path) (cs : List ChoicePoint) (a : definition.Tally)
-        → Giving P (now (program .entry)) (now (scratch .entry)) (now (output .entry)) st p cs params used answers cuts a
-        → AnswerGivenAs P (now (program .entry)) (now (scratch .exit)) (now (output .exit)) st answers cuts (definition.give P params k cs a (answer p params (st .steps))) r) ⌝ }
+        → Giving P (now (program .entry)) (now (scratch .entry)) (now (output .entry)) st p cs params filled cuts a
+        → AnswerGivenAs P (now (program .entry)) (now (scratch .exit)) (now (output .exit)) st cuts (definition.give (definition.once argument) params k cs a (answer p params (st .steps))) r) ⌝ }
 {
-    match write_answer(program, scratch, output, st, params, used) {
-        Answered::Full(left) => AnswerGiven::Ends(broken(End::Output, left, used, answers)),
-        Answered::StepsOut => AnswerGiven::Ends(broken(End::Steps, 0, used, answers)),
+    match write_answer(program, scratch, output, st, params, filled.used) {
+        Answered::Full(left) => AnswerGiven::Ends(broken(End::Output, left, filled)),
+        Answered::StepsOut => AnswerGiven::Ends(broken(End::Steps, 0, filled)),
         Answered::WaitingOut(left) => AnswerGiven::Ends(broken(
             End::Path(Bound::Waiting),
             left,
-            used,
-            answers,
+            filled,
         )),
-        Answered::Written(words, left) => {
+        Answered::Written(next, left) => {
+            let listed = list_answer(output, filled, next);
             let after = with_counts(st, st.trail, st.constraints, left);
             match backtrack(program, scratch, after) {
-                Resumed::Over => AnswerGiven::Ends(completed(
-                    scratch,
-                    after,
-                    words,
-                    answers + 1,
-                    cuts,
-                )),
-                Resumed::Goal(next, goal) => AnswerGiven::Goes(next, goal, words),
+                Resumed::Over => AnswerGiven::Ends(completed(scratch, after, listed, cuts)),
+                Resumed::Goal(resumed, goal) => AnswerGiven::Goes(resumed, goal, listed),
             }
         }
     }
@@ -150,27 +166,25 @@ pub(crate) fn round(
         steps: tally.left,
     };
     let mut goal = asked.body;
-    let mut used = tally.used;
-    let mut answers = tally.answers;
+    let mut filled = tally.filled;
     let mut cuts = 0;
     loop {
         match search(program, scratch, state, goal, number, cuts) {
             Searched::Stops(why, left) => {
-                return broken(end_of(why), left, used, answers);
+                return broken(end_of(why), left, filled);
             }
             Searched::Over(last, cut) => {
-                return completed(scratch, last, used, answers, cut);
+                return completed(scratch, last, filled, cut);
             }
             Searched::Answer(last, cut) => {
-                match give(program, scratch, output, last, params, used, answers, cut) {
+                match give(program, scratch, output, last, params, filled, cut) {
                     AnswerGiven::Ends(rounded) => {
                         return rounded;
                     }
-                    AnswerGiven::Goes(next, found, words) => {
+                    AnswerGiven::Goes(next, found, listed) => {
                         state = next;
                         goal = found;
-                        used = words;
-                        answers += 1;
+                        filled = listed;
                         cuts = cut;
                     }
                 }

@@ -1,6 +1,7 @@
 // The rounds of a run, one after the other.
 use crate::report::End;
 use crate::report::Report;
+use crate::round::Filled;
 use crate::round::Rounded;
 use crate::round::Tally;
 use crate::round::round;
@@ -21,8 +22,8 @@ fn report(end: End, round: u32, steps: u32, tally: Tally, cut: u32) -> Report
         end,
         round,
         steps: steps - tally.left,
-        answers: tally.answers,
-        words: tally.used,
+        answers: tally.filled.answers,
+        words: tally.filled.used,
         cut,
     }
 }
@@ -44,8 +45,11 @@ pub(crate) fn rounds(
     let mut cut = 0;
     let mut tally = Tally {
         left: steps,
-        used: 0,
-        answers: 0,
+        filled: Filled {
+            used: 0,
+            answers: 0,
+            index: 0,
+        },
     };
     loop {
         match round(program, scratch, output, query, number, tally) {

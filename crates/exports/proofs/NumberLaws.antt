@@ -15,6 +15,7 @@ use Rattle.rules.proofs.Checked.{place-small}
 use Rattle.semantics.specs.Round as round
 use Rattle.semantics.specs.Run as definition
 use Rattle.semantics.specs.Path.{as-written}
+use Rattle.semantics.specs.Round.{once}
 use Rattle.semantics.specs.Run.{Run, run-as-written, returns-by, refusal, ran, report-read-by, report-program-by, leave, counts}
 use Rattle.semantics.proofs.Basics.{clash}
 use Rattle.engine.specs.Report.{end-says, report-ended, RunPromise}
@@ -29,21 +30,21 @@ pub in-case : (e d : End) (n : EndNumbers) (a b p : ℕ) → e ≡ d → end-num
 in-case e d n a b p q h k = ap (λ (x : End). end-numbers (end-says x)) q ∙ h ∙ rw (k .0, k .1, k .2) refl
 
 -- the place of a refusal is small
-refusal-place : (words : List ℕ) (round-limit step-limit output scratch c p : ℕ) → returns-by as-written words round-limit step-limit output scratch ≡ refusal c p → p ≤ most-words
+refusal-place : (words : List ℕ) (round-limit step-limit output scratch c p : ℕ) → returns-by (once as-written) words round-limit step-limit output scratch ≡ refusal c p → p ≤ most-words
 refusal-place words round-limit step-limit output scratch c p e = settled (settings-good round-limit scratch) e
   where
     same-place : (d q : ℕ) → refusal d q ≡ refusal c p → q ≡ p
     same-place d q h = cc
 
-    of-program : (P : Program) → report-program-by as-written P round-limit step-limit output ≡ refusal c p → p ≤ most-words
+    of-program : (P : Program) → report-program-by (once as-written) P round-limit step-limit output ≡ refusal c p → p ≤ most-words
     of-program [] h = omega (arith, same-place 1 0 h)
     of-program (R ∷ Rs) h = clash (cc)
 
-    of-words : (a : Accept) → read words ≡ a → report-read-by as-written a round-limit step-limit output ≡ refusal c p → p ≤ most-words
+    of-words : (a : Accept) → read words ≡ a → report-read-by (once as-written) a round-limit step-limit output ≡ refusal c p → p ≤ most-words
     of-words (accepted P) z h = of-program P h
     of-words (refused d q) z h = omega (arith, same-place d q h, place-small words d q (sym (ap said z)) .1)
 
-    settled : (b : Bool) → report-read-by as-written (admit b words) round-limit step-limit output ≡ refusal c p → p ≤ most-words
+    settled : (b : Bool) → report-read-by (once as-written) (admit b words) round-limit step-limit output ≡ refusal c p → p ≤ most-words
     settled false h = omega (arith, same-place 9 0 h)
     settled true h = of-words (read words) refl h
 
@@ -56,7 +57,7 @@ no-place round.output-full = refl
 no-place (round.path-limit b) = refl
 
 module _ (words : List ℕ) (round-limit step-limit : ℕ) (output scratch lent : List ℕ) where
-  place-of : (x : definition.Report) → returns-by as-written words round-limit step-limit (length output) (length scratch) ≡ x → getD (end-numbers (report-ended (leave x output scratch .report))) 2 0 ≤ most-words
+  place-of : (x : definition.Report) → returns-by (once as-written) words round-limit step-limit (length output) (length scratch) ≡ x → getD (end-numbers (report-ended (leave x output scratch .report))) 2 0 ≤ most-words
   place-of (refusal c p) e = refusal-place words round-limit step-limit (length output) (length scratch) c p e
   place-of (ran r) e = omega (arith, no-place (r .end))
 
@@ -64,7 +65,7 @@ module _ (words : List ℕ) (round-limit step-limit : ℕ) (output scratch lent 
       → end-numbers (end-says (r .end)) ≡ n .end ∷ n .which ∷ n .place ∷ [] → n .place ≤ most-words
   place-fits r output′ scratch′ n k h =
       let z : getD (end-numbers (report-ended (run-as-written words round-limit step-limit output scratch .report))) 2 0 ≡ n .place = ap (λ (ns : List ℕ). getD ns 2 0) (sym (ap end-numbers (k .says .is-end)) ∙ h) in
-      omega (arith, z, place-of (returns-by as-written words round-limit step-limit (length output) (length scratch)) refl)
+      omega (arith, z, place-of (returns-by (once as-written) words round-limit step-limit (length output) (length scratch)) refl)
 
   -- too few words are lent
   pub called-short : length lent < 8 → CallPromise words round-limit step-limit output scratch lent 0 output scratch lent

@@ -4,7 +4,7 @@ use mathlib.Core.Path.{_≡_, refl, sym, ap, subst, _∙_}
 use mathlib.Core.List.{List, [], _++_, map}
 use native.Mathlib.Omega.{arith}
 use lib.ListN.{length, replicate, take}
-use Rattle.semantics.specs.Round.{Result}
+use Rattle.semantics.specs.Round.{Result, once}
 use Rattle.semantics.specs.Run as run
 use Rattle.engine.specs.Report.{RunPromise, end-says}
 use Rattle.engine.specs.declared.report.Report.{Report}
@@ -32,7 +32,7 @@ listed : {words : List ℕ} {rounds steps : ℕ} {output scratch : List ℕ} {r 
 listed {words} {rounds} {steps} {output} {scratch} {r} {output-after} z kept =
     let x = run.run-as-written words rounds steps output scratch in
     let s = kept .says in
-    let a : answers-on (x .output) ≡ report-answers (x .report) = page-answers x (run.returns-by as-written words rounds steps (length output) (length scratch)) output scratch refl z (λ w e. rw (s .is-output) at (kept .demands .runs w e .on-output .page-is)) in
+    let a : answers-on (x .output) ≡ report-answers (x .report) = page-answers x (run.returns-by (once as-written) words rounds steps (length output) (length scratch)) output scratch refl z (λ w e. rw (s .is-output) at (kept .demands .runs w e .on-output .page-is)) in
     rw (s .is-end, s .is-round, s .is-steps, s .is-answers, s .is-cut, s .is-output, a)
 
 -- first line and answers behind it

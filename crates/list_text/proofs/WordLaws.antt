@@ -13,6 +13,7 @@ use borrow.Author.Tests.{le-leb, lt-leb, leb-true, leb-false}
 use Rattle.rules.specs.Accept.{Accept, admit, read, refused}
 use Rattle.rules.specs.Reading.{choose}
 use Rattle.rules.specs.Settings.{settings-good, most-words}
+use Rattle.semantics.specs.Round.{once}
 use Rattle.semantics.specs.Run as run
 use Rattle.semantics.specs.Path.{as-written}
 use Rattle.word.specs.Word.{from-bytes}
@@ -90,7 +91,7 @@ start-decides bytes = by-length (leb (length bytes) 65540) refl
 -- words that are read alike run alike
 pub same-run : (ws vs : List ℕ) (rounds steps : ℕ) (output scratch : List ℕ) → read ws ≡ read vs → run.run-as-written ws rounds steps output scratch ≡ run.run-as-written vs rounds steps output scratch
 same-run ws vs rounds steps output scratch e =
-    ap (λ (a : Accept). run.leave (run.report-read-by as-written a rounds steps (length output)) output scratch) (by-test (settings-good rounds (length scratch)))
+    ap (λ (a : Accept). run.leave (run.report-read-by (once as-written) a rounds steps (length output)) output scratch) (by-test (settings-good rounds (length scratch)))
   where
     by-test : (b : Bool) → admit b ws ≡ admit b vs
     by-test true = e

@@ -78,7 +78,7 @@ first-line (refused number place) r s a c = joined (codes "refused " ∷ decimal
 -- the answers of the result
 abbrev pub report-answers : run.Report → List (List ℕ)
 report-answers (run.refusal number place) = []
-report-answers (run.ran r) = map (λ a. a .1) (r .answers)
+report-answers (run.ran r) = round.words-of (r .answers)
 
 -- the text of what a run returns
 abbrev pub report-text : run.Report → List ℕ

@@ -11,7 +11,7 @@ use borrow.Author.Tests.{ltb-true}
 use Rattle.rules.specs.Reading.{choose}
 use Rattle.rules.specs.Syntax.{Constraint, Goal, Goals, Program, Relation, Term, call, conj, constrain, disj, equal, more, one}
 use Rattle.semantics.specs.Path.{ChoicePoint, Passing, Path, Taken, Task, bound-to, cut, equal-taken, goals-count, goes, keeping, leaves, make-call-by, take-call-by, take-conj, take-constraint, take-disj, take-goal-by, taken-by, wait-all, waiting-on, within}
-use Rattle.semantics.specs.Round.{Answer, Next, State, Tally, after, backtrack, give, go-on, one-round-by, resume, rounds-by, search-by, start, turn-by, write}
+use Rattle.semantics.specs.Round.{Answer, Next, State, Tally, after, backtrack, give, go-on, list-answer, once, one-round-by, resume, rounds-by, search-by, start, turn-by}
 use Rattle.semantics.specs.Steps.{Bound, Outcome, and-then, constraints, disjunctions, done, goals, most, variables}
 use Rattle.semantics.specs.Substitution.{Substitution, shift}
 use Rattle.semantics.proofs.Alike.{BindingsLike, ConstraintLike, ConstraintsLike, Equivariant, OneToOne, Renaming, TermLike, TermsLike, bind-params-like, bindings-weaken, constraint-weaken, made-from, review-all-like, review-like, shift-constraint-like, shift-like, term-weaken, terms-weaken, unify-terms-like}
@@ -238,38 +238,38 @@ module _ (Waived : Bound → Type 0) (World : Type 0) (N : World → Renaming) (
           go (one-like i) = going-like (record { world = h .world; path-like = again; task-like = i; choices-like = hs; same-tally = refl })
           go (more-like i is) = going-like (record { world = h .world; path-like = again; task-like = i; choices-like = cons-like (record { world = h .world; path-like = h .path-like; rest-like = is }) hs; same-tally = refl })
 
-      give-like : (cs ds : List ChoicePoint) → Pointwise ChoiceLike cs ds → (t : Tally) {o o′ : Outcome (List ℕ)} → OutcomeLike Waived (λ x y. x ≡ y) o o′ → TurnLike (give P n k cs t o) (give Q n k ds t o′)
+      give-like : (cs ds : List ChoicePoint) → Pointwise ChoiceLike cs ds → (t : Tally) {o o′ : Outcome (List ℕ)} → OutcomeLike Waived (λ x y. x ≡ y) o o′ → TurnLike (give (once pass) n k cs t o) (give (once pass) n k ds t o′)
       give-like cs ds hs t (done-like {a = ws} {b = vs} {l = l} e) =
           choose-like TurnLike (leb (length ws) (t .room)) (leb (length vs) (t .room)) _ _ _ _ (ap (λ (ws : List ℕ). leb (length ws) (t .room)) e)
-          (subst (λ (vs : List ℕ). TurnLike (backtrack cs (write t k l ws)) (backtrack ds (write t k l vs))) e (back-like hs (write t k l ws))) over-like
+          (subst (λ (vs : List ℕ). TurnLike (backtrack cs (list-answer (once pass) t k l ws)) (backtrack ds (list-answer (once pass) t k l vs))) e (back-like hs (list-answer (once pass) t k l ws))) over-like
       give-like cs ds hs t stop-like = over-like
       give-like cs ds hs t (waived-like waived) = waived-next waived
 
-      go-on-like : (w : World) (p q : Path) {ts us : List Task} (cs ds : List ChoicePoint) → PathLike w p q → Pointwise (TaskLike w (k - p .calls)) ts us → Pointwise ChoiceLike cs ds → (t : Tally) → TurnLike (go-on P n k p ts cs t) (go-on Q n k q us ds t)
+      go-on-like : (w : World) (p q : Path) {ts us : List Task} (cs ds : List ChoicePoint) → PathLike w p q → Pointwise (TaskLike w (k - p .calls)) ts us → Pointwise ChoiceLike cs ds → (t : Tally) → TurnLike (go-on (once pass) n k p ts cs t) (go-on (once pass) n k q us ds t)
       go-on-like w p q cs ds h nil-like hs t = choose-like TurnLike (eqb (p .calls) k) (eqb (q .calls) k) _ _ _ _ (ap (λ c. eqb c k) (h .same-calls))
           (give-like cs ds hs t (answer-like (N w) (L .pairs w) Waived n p q (h .query-like) (h .bindings-like) (h .kept-like) (t .left))) (back-like hs t)
       go-on-like w p q cs ds h (cons-like {xs = ts} {ys = us} i is) hs t = going-like (record { world = w; path-like = restacked ts us (p .put) (q .put) h (h .same-put) is; task-like = i; choices-like = hs; same-tally = refl })
 
-      after-like : (s t : State) → StateLike s t → {o o′ : Outcome Taken} → TookLike o o′ → TurnLike (after P n k s o) (after Q n k t o′)
-      after-like s t h {o} {o′} i = subst (λ (u : Tally). TurnLike (after P n k s o) (after Q n k (record { task = t .task; path = t .path; choices = t .choices; tally = u }) o′)) (h .same-tally) (go i)
+      after-like : (s t : State) → StateLike s t → {o o′ : Outcome Taken} → TookLike o o′ → TurnLike (after (once pass) n k s o) (after (once pass) n k t o′)
+      after-like s t h {o} {o′} i = subst (λ (u : Tally). TurnLike (after (once pass) n k s o) (after (once pass) n k (record { task = t .task; path = t .path; choices = t .choices; tally = u }) o′)) (h .same-tally) (go i)
         where
-          go : {o o′ : Outcome Taken} → TookLike o o′ → TurnLike (after P n k s o) (after Q n k (record { task = t .task; path = t .path; choices = t .choices; tally = s .tally }) o′)
+          go : {o o′ : Outcome Taken} → TookLike o o′ → TurnLike (after (once pass) n k s o) (after (once pass) n k (record { task = t .task; path = t .path; choices = t .choices; tally = s .tally }) o′)
           go (done-like leaves-like) = back-like (h .choices-like) _
           go (done-like cut-like) = back-like (h .choices-like) _
           go (done-like (goes-like {p} {q} {cs} {ds} w i is)) = go-on-like w p q cs ds i (i .stack-like) is _
           go stop-like = over-like
           go (waived-like waived) = waived-next waived
 
-      turn-like : (s t : State) → StateLike s t → TurnLike (turn-by pass P n k s) (turn-by pass Q n k t)
+      turn-like : (s t : State) → StateLike s t → TurnLike (turn-by (once pass) P n k s) (turn-by (once pass) Q n k t)
       turn-like s t h = after-like s t h (subst (λ (l : ℕ). TookLike (take-goal-by pass k P (s .path) (s .choices) (s .task .0) (s .task .1) (s .tally .left)) (take-goal-by pass k Q (t .path) (t .choices) (t .task .0) (t .task .1) l))
           (ap (λ (t : Tally). t .left) (h .same-tally))
           (step-like TakenLike (s .tally .left) _ _ (λ l. taken-like (h .world) (s .path) (t .path) (h .path-like) (s .choices) (t .choices) (h .choices-like) (s .task .0) (t .task .0) (h .task-like) l)))
 
     module _ (R S : Relation) where
-      pub round-like : (k room left : ℕ) (written : List Answer) → QueryLike k R S → RoundedLike Waived (one-round-by pass P R k room left written) (one-round-by pass Q S k room left written)
+      pub round-like : (k room left : ℕ) (written : List Answer) → QueryLike k R S → RoundedLike Waived (one-round-by (once pass) P R k room left written) (one-round-by (once pass) Q S k room left written)
       round-like k room left written h =
           let t : Tally = record { left = left; room = room; cuts = 0; written = written } in
-          subst (λ (n : ℕ). RoundedLike Waived (one-round-by pass P R k room left written) (search-by pass Q n k (suc left) (start S t))) (h .same-params)
+          subst (λ (n : ℕ). RoundedLike Waived (one-round-by (once pass) P R k room left written) (search-by (once pass) Q n k (suc left) (start S t))) (h .same-params)
           (search-like Waived pass pass P Q (R .params) (R .params) k (StateLike (R .params) k) (λ s t i. i .same-tally) (turn-like (R .params) k) (suc left) (start R t) (start S t) (record {
             world = h .world;
             path-like = record { made-like = h .made; query-like = h .query; bindings-like = nil-like; kept-like = nil-like; same-put = refl; same-calls = refl; stack-like = nil-like };
@@ -279,6 +279,6 @@ module _ (Waived : Bound → Type 0) (World : Type 0) (N : World → Renaming) (
           }))
 
       -- the law: rounds k to k + later in lockstep
-      pub run-like : (limit later k room left last-cut : ℕ) (written : List Answer) → ((j : ℕ) → j ≤ k + later → QueryLike j R S) → ResultLike Waived (rounds-by limit pass P R later k room left last-cut written) (rounds-by limit pass Q S later k room left last-cut written)
+      pub run-like : (limit later k room left last-cut : ℕ) (written : List Answer) → ((j : ℕ) → j ≤ k + later → QueryLike j R S) → ResultLike Waived (rounds-by limit (once pass) P R later k room left last-cut written) (rounds-by limit (once pass) Q S later k room left last-cut written)
       run-like limit later k room left last-cut written h =
           rounds-like Waived pass pass P Q R S (λ room. Unit {0}) (λ j room left written t u e. tt) limit later k room left last-cut written tt (λ j room left written l u. round-like j room left written (h j l))

@@ -74,6 +74,10 @@ pub some-right : {A : Type 0} (Q : A → Type 0) (l r : List A) → Some Q r →
 some-right Q [] r h = h
 some-right Q (x ∷ l) r h = inr (some-right Q l r h)
 
+pub some-split : {A : Type 0} (Q : A → Type 0) (l r : List A) → Some Q (l ++ r) → Some Q l ⊎ Some Q r
+some-split Q [] r h = inr h
+some-split Q (x ∷ l) r h = ⊎-elim (λ y. inl (inl y)) (λ y. ⊎-elim (λ z. inl (inr z)) inr (some-split Q l r y)) h
+
 -- what is true of each element, with one of which Q is true
 pub some-each : {A B : Type 0} (Q S : A → Type 0) (l : List A) → ((a : A) → S a → Q a → B) → Each S l → Some Q l → B
 some-each Q S [] f hs h = absurd h

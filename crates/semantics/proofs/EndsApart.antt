@@ -5,7 +5,7 @@ use mathlib.Core.Path.{_∙_, _≡_, ap, refl, sym}
 use Rattle.rules.specs.Syntax.{Program, Relation, atom, equal, symbol, var}
 use Rattle.rules.specs.Written.{goal-words, goals-words, term-words, terms-words}
 use Rattle.semantics.specs.Path.{Passing, as-written}
-use Rattle.semantics.specs.Round.{End, State, Tally, broken, finished, going, output-full, over, path-limit, rounds-by, rounds-used, spend, steps-used}
+use Rattle.semantics.specs.Round.{End, State, Tally, broken, finished, going, once, output-full, over, path-limit, rounds-by, rounds-used, spend, steps-used}
 use Rattle.semantics.specs.Situation.{Situation, TurnBreaks, Turns}
 use Rattle.semantics.proofs.Basics.{clash}
 use Rattle.semantics.proofs.Ends.{ends-just, one-end}
@@ -26,11 +26,11 @@ one-break pass P n k s e e′ l l′ b b′ =
 abbrev A : Relation
 A = record { params = 1; vars = 1; body = equal (var 0) (atom (symbol 7)) }
 
-finishes : rounds-by 4 as-written (A ∷ []) A 0 0 2 4 0 [] .end ≡ finished
+finishes : rounds-by 4 (once as-written) (A ∷ []) A 0 0 2 4 0 [] .end ≡ finished
 unfolding term-words terms-words goal-words goals-words
 finishes = refl
 
-stops-early : rounds-by 3 as-written (A ∷ []) A 0 0 2 3 0 [] .end ≡ steps-used
+stops-early : rounds-by 3 (once as-written) (A ∷ []) A 0 0 2 3 0 [] .end ≡ steps-used
 unfolding term-words terms-words goal-words goals-words
 stops-early = refl
 

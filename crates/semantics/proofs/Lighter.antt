@@ -12,6 +12,7 @@ use Rattle.rules.specs.Accept.{admit}
 use Rattle.rules.specs.Settings.{scratch-words}
 use Rattle.semantics.specs.Earlier.{leave-before-12, run-before-12, scratch-words-before-12}
 use Rattle.semantics.specs.Path.{as-written}
+use Rattle.semantics.specs.Round.{once}
 use Rattle.semantics.specs.Run.{Report, Run, leave, ran, refusal, report-read-by, returns-by, run-as-written}
 use Rattle.semantics.specs.Steps.{constraints, disjunctions, goals, most, variables, waiting}
 use Rattle.semantics.proofs.ZeroedLaws.{zeroed-beyond, zeroed-part}
@@ -31,7 +32,7 @@ with-beyond x beyond = record { report = x .report; output = x .output; scratch 
 module _ (words : List ℕ) (round-limit step-limit : ℕ) (output : List ℕ) where
   -- what a call returns with a scratch that is long enough
   with-enough : Report
-  with-enough = report-read-by as-written (admit (leb round-limit 255) words) round-limit step-limit (length output)
+  with-enough = report-read-by (once as-written) (admit (leb round-limit 255) words) round-limit step-limit (length output)
 
   -- the settings are good by a bound on the scratch that it meets, if the round limit is
   long-enough : (bound : ℕ) (scratch : List ℕ) → bound ≤ length scratch → (leb round-limit 255 && leb bound (length scratch)) ≡ leb round-limit 255
@@ -43,11 +44,11 @@ module _ (words : List ℕ) (round-limit step-limit : ℕ) (output : List ℕ) w
 
   run-is : (scratch : List ℕ) → scratch-words ≤ length scratch → run-as-written words round-limit step-limit output scratch ≡ leave with-enough output scratch
   unfolding with-enough
-  run-is scratch h = ap (λ b. leave (report-read-by as-written (admit b words) round-limit step-limit (length output)) output scratch) (long-enough scratch-words scratch h)
+  run-is scratch h = ap (λ b. leave (report-read-by (once as-written) (admit b words) round-limit step-limit (length output)) output scratch) (long-enough scratch-words scratch h)
 
   run-before-is : (scratch : List ℕ) → scratch-words-before-12 ≤ length scratch → run-before-12 words round-limit step-limit output scratch ≡ leave-before-12 with-enough output scratch
   unfolding with-enough
-  run-before-is scratch h = ap (λ b. leave-before-12 (report-read-by as-written (admit b words) round-limit step-limit (length output)) output scratch) (long-enough scratch-words-before-12 scratch h)
+  run-before-is scratch h = ap (λ b. leave-before-12 (report-read-by (once as-written) (admit b words) round-limit step-limit (length output)) output scratch) (long-enough scratch-words-before-12 scratch h)
 
   -- "Answers, ends, step counts .. must come out the same": with a scratch of 12,288 words or more, report and output are what they were with any of 16,384 words or more, so with that scratch itself if it is so long.
   pub outcome-stayed : (scratch longer : List ℕ) → scratch-words ≤ length scratch → scratch-words-before-12 ≤ length longer →
@@ -60,7 +61,7 @@ module _ (words : List ℕ) (round-limit step-limit : ℕ) (output : List ℕ) w
 
   -- "Scratch beyond 12,288 words is left untouched", by every call
   pub beyond-untouched : (scratch : List ℕ) → drop scratch-words (run-as-written words round-limit step-limit output scratch .scratch) ≡ drop scratch-words scratch
-  beyond-untouched scratch = left (returns-by as-written words round-limit step-limit (length output) (length scratch))
+  beyond-untouched scratch = left (returns-by (once as-written) words round-limit step-limit (length output) (length scratch))
     where
       left : (x : Report) → drop scratch-words (leave x output scratch .scratch) ≡ drop scratch-words scratch
       left (refusal number place) = refl

@@ -5,9 +5,8 @@ use mathlib.Core.List.{List, [], _∷_, map}
 use mathlib.Core.Logic.{_↔_, ⊎-elim}
 use mathlib.Core.Path.{_≡_, ap, ap₂, refl, subst, sym}
 use native.Mathlib.Omega.{arith}
-use lib.Dec.{eqb}
 use lib.ListN.{length, length-append}
-use borrow.Author.Tests.{eqb-true, not-false}
+use borrow.Author.Tests.{not-false}
 use Rattle.rules.specs.Lists.{Each}
 use Rattle.rules.specs.Reading.{choose}
 use Rattle.rules.specs.Syntax.{Atom, Constraint, Goal, Goals, Program, Term, atom, constrain, differ, disj, empty, var}
@@ -18,6 +17,7 @@ use Rattle.semantics.specs.Shows.{payloads}
 use Rattle.semantics.specs.Substitution.{same-atom}
 use Rattle.semantics.proofs.Basics.{and-true, by-choose, clash, one-of}
 use Rattle.semantics.proofs.Fill.{Met}
+use Rattle.semantics.proofs.Repeats.{same-true}
 use Rattle.semantics.proofs.ReadBack.{LineFits, goal-determined}
 use Rattle.semantics.proofs.TermLaws.{same-atom-false, same-atom-true}
 
@@ -27,12 +27,6 @@ listed-each P names before (l ∷ ls) h =
     by-choose (Each P) (stays names before l) _ _
     (λ e. (h .0 (and-true _ _ e .0), listed-each P names (line-words names l ∷ before) ls (h .1)))
     (λ e. listed-each P names before ls (h .1))
-
-same-true : (v w : List ℕ) → same-words v w ≡ true → v ≡ w
-same-true [] [] e = refl
-same-true [] (w ∷ ws) e = clash (cc)
-same-true (v ∷ vs) [] e = clash (cc)
-same-true (v ∷ vs) (w ∷ ws) e = let (p, q) = and-true (eqb v w) (same-words vs ws) e in ap₂ _∷_ (eqb-true v w p) (same-true vs ws q)
 
 module _ (names : List ℕ) where
   -- a line whose words are of a number that fits has payloads that fit

@@ -5,7 +5,7 @@ use mathlib.Core.Path.{_≡_, refl, subst}
 use native.Mathlib.Omega.{arith}
 use Rattle.rules.specs.Syntax.{Program, Relation}
 use Rattle.semantics.specs.Path.{Passing}
-use Rattle.semantics.specs.Round.{Answer, Next, Result, Rounded, State, Tally, after-cuts, after-round, broken, completed, going, one-round-by, onward, over, path-limit, rounds-by, search-by, steps-used, turn-by}
+use Rattle.semantics.specs.Round.{Answer, Next, Result, Rounded, State, Tally, after-cuts, after-round, broken, completed, going, once, one-round-by, onward, over, path-limit, rounds-by, search-by, steps-used, turn-by}
 use Rattle.semantics.specs.Steps.{Bound}
 use Rattle.semantics.proofs.Liftings.{none-waived}
 
@@ -40,22 +40,22 @@ module _ (Waived : Bound → Type 0) where
 
   module _ (pass pass′ : Passing) (P Q : Program) where
     module _ (n n′ k : ℕ) (Related : State → State → Type 0) (tallies : (s t : State) → Related s t → s .tally ≡ t .tally)
-        (turns : (s t : State) → Related s t → NextLike Related (turn-by pass P n k s) (turn-by pass′ Q n′ k t)) where
-      pub search-like : (fuel : ℕ) (s t : State) → Related s t → RoundedLike (search-by pass P n k fuel s) (search-by pass′ Q n′ k fuel t)
+        (turns : (s t : State) → Related s t → NextLike Related (turn-by (once pass) P n k s) (turn-by (once pass′) Q n′ k t)) where
+      pub search-like : (fuel : ℕ) (s t : State) → Related s t → RoundedLike (search-by (once pass) P n k fuel s) (search-by (once pass′) Q n′ k fuel t)
       search-like zero s t h = subst (λ (u : Tally). RoundedLike (broken steps-used (s .tally)) (broken steps-used u)) (tallies s t h) same-rounded
       search-like (suc fuel) s t h = go (turns s t h) (λ s t h. search-like fuel s t h)
         where
-          go : {x y : Next} → NextLike Related x y → ((s t : State) → Related s t → RoundedLike (search-by pass P n k fuel s) (search-by pass′ Q n′ k fuel t)) →
-              RoundedLike (onward P n k x (λ s. search-by pass P n k fuel s)) (onward Q n′ k y (λ s. search-by pass′ Q n′ k fuel s))
+          go : {x y : Next} → NextLike Related x y → ((s t : State) → Related s t → RoundedLike (search-by (once pass) P n k fuel s) (search-by (once pass′) Q n′ k fuel t)) →
+              RoundedLike (onward x (λ s. search-by (once pass) P n k fuel s)) (onward y (λ s. search-by (once pass′) Q n′ k fuel s))
           go (going-like {s} {t} h) ih = ih s t h
           go over-like ih = same-rounded
           go (waived-next w) ih = waived-rounded w
 
     -- Rounds k to k + later. They may ask something of the output words left, if every round that is completed keeps it.
-    module _ (R S : Relation) (Room : ℕ → Type 0) (keeps : (j room left : ℕ) (written : List Answer) (t : Tally) → Room room → one-round-by pass P R j room left written ≡ completed t → Room (t .room)) where
+    module _ (R S : Relation) (Room : ℕ → Type 0) (keeps : (j room left : ℕ) (written : List Answer) (t : Tally) → Room room → one-round-by (once pass) P R j room left written ≡ completed t → Room (t .room)) where
       pub rounds-like : (limit later k room left last-cut : ℕ) (written : List Answer) → Room room →
-          ((j room left : ℕ) (written : List Answer) → j ≤ k + later → Room room → RoundedLike (one-round-by pass P R j room left written) (one-round-by pass′ Q S j room left written)) →
-          ResultLike (rounds-by limit pass P R later k room left last-cut written) (rounds-by limit pass′ Q S later k room left last-cut written)
+          ((j room left : ℕ) (written : List Answer) → j ≤ k + later → Room room → RoundedLike (one-round-by (once pass) P R j room left written) (one-round-by (once pass′) Q S j room left written)) →
+          ResultLike (rounds-by limit (once pass) P R later k room left last-cut written) (rounds-by limit (once pass′) Q S later k room left last-cut written)
       rounds-like limit zero k room left last-cut written h f = after-round-like limit k last-cut _ _ (f k room left written (omega arith) h) (λ t e. same-result)
       rounds-like limit (suc later) k room left last-cut written h f = after-round-like limit k last-cut _ _ (f k room left written (omega arith) h)
           (λ t e. rounds-like limit later (suc k) (t .room) (t .left) (t .cuts) (t .written) (keeps k room left written t h e) (λ j room left written l. f j room left written (omega arith)))

@@ -8,7 +8,7 @@ use lib.ListN.{getElem?, length}
 use Rattle.rules.specs.Accept.{Accept, accepted, read-with}
 use Rattle.rules.specs.Syntax.{Program, Relation, atom, call, conj, disj, equal, more, one, pair, symbol, var}
 use Rattle.semantics.specs.Path.{Passing, as-written}
-use Rattle.semantics.specs.Round.{Answer, rounds-by}
+use Rattle.semantics.specs.Round.{Answer, once, rounds-by}
 use Rattle.semantics.specs.Run.{Report, leave, ran, report-program-by, report-read-by, run-as-written, run-by, usable}
 use Rattle.semantics.proofs.Alike.{Equivariant, OneToOne, as-written-equivariant, atom-like, pair-like, var-like}
 use Rattle.semantics.proofs.AlikeRuns.{Enters, GoalLike, QueryLike, call-like, conj-like, disj-like, equal-like, goal-weaken, more-like, neither-there, one-like, run-like}
@@ -45,26 +45,26 @@ module _ (M : ℕ → ℕ → Type 0) where
 
     module _ (pass : Passing) (equivariant : Equivariant pass) where
       -- with query relations that match
-      pub matched-rounds : (R S : Relation) → RelationLike R S → (limit later k room left last-cut : ℕ) (written : List Answer) → rounds-by limit pass P R later k room left last-cut written ≡ rounds-by limit pass Q S later k room left last-cut written
+      pub matched-rounds : (R S : Relation) → RelationLike R S → (limit later k room left last-cut : ℕ) (written : List Answer) → rounds-by limit (once pass) P R later k room left last-cut written ≡ rounds-by limit (once pass) Q S later k room left last-cut written
       matched-rounds R S h limit later k room left last-cut written =
           rounds-same CallLike pass equivariant P Q matched R S limit later k room left last-cut written (λ j l. same-query CallLike j R S (h .same-params) (h .same-vars) (goal-weaken (λ x y e. ap (λ z. 0 + z) e) (λ r q a m. m) (h .bodies)))
 
   module _ (pass : Passing) (equivariant : Equivariant pass) where
     -- so what a run reports is the same, if the queries match
-    pub matched-report : (P Q : Program) → Matching P Q → M 0 0 → (round-limit step-limit output : ℕ) → report-program-by pass P round-limit step-limit output ≡ report-program-by pass Q round-limit step-limit output
+    pub matched-report : (P Q : Program) → Matching P Q → M 0 0 → (round-limit step-limit output : ℕ) → report-program-by (once pass) P round-limit step-limit output ≡ report-program-by (once pass) Q round-limit step-limit output
     matched-report P Q matching m round-limit step-limit output = go P Q matching (matching 0 0 m)
       where
-        go : (P Q : Program) → Matching P Q → OptionLike RelationLike (getElem? P 0) (getElem? Q 0) → report-program-by pass P round-limit step-limit output ≡ report-program-by pass Q round-limit step-limit output
+        go : (P Q : Program) → Matching P Q → OptionLike RelationLike (getElem? P 0) (getElem? Q 0) → report-program-by (once pass) P round-limit step-limit output ≡ report-program-by (once pass) Q round-limit step-limit output
         go [] [] f none-like = refl
         go (R ∷ Rs) (S ∷ Ss) f (some-like h) = ap ran (matched-rounds (R ∷ Rs) (S ∷ Ss) f pass equivariant R S h step-limit round-limit 0 (usable output) step-limit 0 [])
 
     -- and so is the whole run of words that are read as these programs
     pub matched-run : (P Q : Program) → Matching P Q → M 0 0 → (words words′ : List ℕ) (round-limit step-limit : ℕ) (output scratch : List ℕ) →
-        read-with round-limit (length scratch) words ≡ accepted P → read-with round-limit (length scratch) words′ ≡ accepted Q → run-by pass words round-limit step-limit output scratch ≡ run-by pass words′ round-limit step-limit output scratch
+        read-with round-limit (length scratch) words ≡ accepted P → read-with round-limit (length scratch) words′ ≡ accepted Q → run-by (once pass) words round-limit step-limit output scratch ≡ run-by (once pass) words′ round-limit step-limit output scratch
     matched-run P Q matching m words words′ round-limit step-limit output scratch e f = ap (λ (x : Report). leave x output scratch) (reports e ∙ matched-report P Q matching m round-limit step-limit (length output) ∙ sym (reports f))
       where
-        reports : {a b : Accept} → a ≡ b → report-read-by pass a round-limit step-limit (length output) ≡ report-read-by pass b round-limit step-limit (length output)
-        reports q = ap (λ (a : Accept). report-read-by pass a round-limit step-limit (length output)) q
+        reports : {a b : Accept} → a ≡ b → report-read-by (once pass) a round-limit step-limit (length output) ≡ report-read-by (once pass) b round-limit step-limit (length output)
+        reports q = ap (λ (a : Accept). report-read-by (once pass) a round-limit step-limit (length output)) q
 
   -- document 01's run
   pub matched-as-written : (P Q : Program) → Matching P Q → M 0 0 → (words words′ : List ℕ) (round-limit step-limit : ℕ) (output scratch : List ℕ) →
@@ -83,7 +83,7 @@ module _ (K : ℕ → Type 0) (P Q : Program) (closed : (r : ℕ) (R : Relation)
       go none i = none-like
       go (some R) i = some-like (record { same-params = refl; same-vars = refl; bodies = goal-self (same-number tt) (λ x. refl) (λ r q a. Kept r q) K (λ r a k. (k, refl)) (R .body) (closed r R k i) })
 
-  pub unreached-report : (pass : Passing) → Equivariant pass → K 0 → (round-limit step-limit output : ℕ) → report-program-by pass P round-limit step-limit output ≡ report-program-by pass Q round-limit step-limit output
+  pub unreached-report : (pass : Passing) → Equivariant pass → K 0 → (round-limit step-limit output : ℕ) → report-program-by (once pass) P round-limit step-limit output ≡ report-program-by (once pass) Q round-limit step-limit output
   unreached-report pass equivariant k = matched-report Kept pass equivariant P Q kept-matching (k, refl)
 
 -- Programs that are not the same: 1 and 2 are exchanged, as the numbers of relations and as those of variables.
@@ -112,7 +112,7 @@ abbrev gives : ℕ → Relation
 gives a = record { params = 1; vars = 1; body = equal (var 0) (atom (symbol a)) }
 
 relations-exchanged : (pass : Passing) → Equivariant pass → (round-limit step-limit output : ℕ) →
-    report-program-by pass (either 1 2 ∷ gives 7 ∷ gives 8 ∷ []) round-limit step-limit output ≡ report-program-by pass (either 2 1 ∷ gives 8 ∷ gives 7 ∷ []) round-limit step-limit output
+    report-program-by (once pass) (either 1 2 ∷ gives 7 ∷ gives 8 ∷ []) round-limit step-limit output ≡ report-program-by (once pass) (either 2 1 ∷ gives 8 ∷ gives 7 ∷ []) round-limit step-limit output
 relations-exchanged pass equivariant = matched-report Exchanged pass equivariant (either 1 2 ∷ gives 7 ∷ gives 8 ∷ []) (either 2 1 ∷ gives 8 ∷ gives 7 ∷ []) matching zero-stays
   where
     given : (a : ℕ) → RelationLike Exchanged (gives a) (gives a)
@@ -128,7 +128,7 @@ abbrev pairs-up : ℕ → ℕ → Relation
 pairs-up x y = record { params = 1; vars = 3; body = conj (more (equal (var x) (atom (symbol 7))) (more (equal (var y) (atom (symbol 8))) (one (equal (var 0) (pair (var x) (var y)))))) }
 
 variables-exchanged : (pass : Passing) → Equivariant pass → (limit later k room left last-cut : ℕ) (written : List Answer) →
-    rounds-by limit pass (pairs-up 1 2 ∷ []) (pairs-up 1 2) later k room left last-cut written ≡ rounds-by limit pass (pairs-up 2 1 ∷ []) (pairs-up 2 1) later k room left last-cut written
+    rounds-by limit (once pass) (pairs-up 1 2 ∷ []) (pairs-up 1 2) later k room left last-cut written ≡ rounds-by limit (once pass) (pairs-up 2 1 ∷ []) (pairs-up 2 1) later k room left last-cut written
 variables-exchanged pass equivariant limit later k room left last-cut written =
     result-same (run-like none-waived (Unit {0}) (λ w. Exchanged) same-number (λ j r q a. ⊥) pass equivariant (pairs-up 1 2 ∷ []) (pairs-up 2 1 ∷ [])
     (record { pairs = λ w. exchanged-pairs; fewer = λ j r q a m. m; enters = λ w j made made′ r q a e m. absurd m }) (pairs-up 1 2) (pairs-up 2 1) limit later k room left last-cut written (λ j l. query j))

@@ -13,11 +13,12 @@ use Rattle.rules.specs.Calls.{goal-fault, goals-fault, relations-fault}
 use Rattle.rules.specs.Accept.{read}
 use Rattle.rules.specs.Settings.{settings-good, scratch-words}
 use Rattle.semantics.specs.Path.{as-written}
+use Rattle.semantics.specs.Round.{once}
 use Rattle.semantics.specs.Run.{Report, leave, ran, returns-by, run-as-written, usable}
 use Rattle.semantics.specs.Rows.{Row, rows}
 
 abbrev pub computed : Row → Report
-computed r = returns-by as-written (r .words) (r .round-limit) (r .step-limit) (r .output) scratch-words
+computed r = returns-by (once as-written) (r .words) (r .round-limit) (r .step-limit) (r .output) scratch-words
 
 -- the one computed test
 pub rows-hold : map computed rows ≡ map (λ r. ran (r .expected)) rows
@@ -30,7 +31,7 @@ RowRuns r = (output scratch : List ℕ) → length output ≡ r .output → scra
 
 row-runs : (r : Row) → computed r ≡ ran (r .expected) → RowRuns r
 row-runs r h output scratch e l =
-    let q : returns-by as-written (r .words) (r .round-limit) (r .step-limit) (length output) (length scratch) ≡ ran (r .expected) = rw (e, le-leb scratch-words (length scratch) l) h in
+    let q : returns-by (once as-written) (r .words) (r .round-limit) (r .step-limit) (length output) (length scratch) ≡ ran (r .expected) = rw (e, le-leb scratch-words (length scratch) l) h in
     ap (λ (x : Report). leave x output scratch) q
 
 same-all : {A B : Type 0} (f g : A → B) (xs : List A) → map f xs ≡ map g xs → Each (λ x. f x ≡ g x) xs

@@ -7,7 +7,7 @@ use lib.Dec.{leb}
 use lib.ListN.{length}
 use Rattle.rules.specs.Syntax.{Constraint, Goal, Goals, Program, Relation, Term, absento, atom, call, conj, constrain, differ, disj, equal, more, one, pair, typed, var}
 use Rattle.semantics.specs.Path.{Passing}
-use Rattle.semantics.specs.Round.{Answer, one-round-by, rounds-by}
+use Rattle.semantics.specs.Round.{Answer, once, one-round-by, rounds-by}
 use Rattle.semantics.specs.Steps.{most, variables}
 use Rattle.semantics.proofs.Alike.{ConstraintLike, Equivariant, OneToOne, Renaming, TermLike, TermsLike, absento-like, atom-like, differ-like, made-from, pair-like, typed-like, var-like}
 use Rattle.semantics.proofs.AlikeRuns.{Enters, GoalLike, GoalsLike, ProgramLike, QueryLike, call-like, conj-like, constrain-like, disj-like, entered, equal-like, more-like, one-like, round-like, run-like}
@@ -84,8 +84,8 @@ module _ (CallLike : ℕ → ℕ → ℕ → ℕ → Type 0) where
   same-query k R S e f h = record { same-params = e; world = tt; made = f; query = λ x l. refl; bodies = h }
 
   module _ (pass : Passing) (equivariant : Equivariant pass) (P Q : Program) (L : SameProgram P Q) (R S : Relation) where
-    pub round-same : (k room left : ℕ) (written : List Answer) → SameQuery k R S → one-round-by pass P R k room left written ≡ one-round-by pass Q S k room left written
+    pub round-same : (k room left : ℕ) (written : List Answer) → SameQuery k R S → one-round-by (once pass) P R k room left written ≡ one-round-by (once pass) Q S k room left written
     round-same k room left written h = rounded-same (round-like none-waived (Unit {0}) same-number same-number CallLike pass equivariant P Q L R S k room left written h)
 
-    pub rounds-same : (limit later k room left last-cut : ℕ) (written : List Answer) → ((j : ℕ) → j ≤ k + later → SameQuery j R S) → rounds-by limit pass P R later k room left last-cut written ≡ rounds-by limit pass Q S later k room left last-cut written
+    pub rounds-same : (limit later k room left last-cut : ℕ) (written : List Answer) → ((j : ℕ) → j ≤ k + later → SameQuery j R S) → rounds-by limit (once pass) P R later k room left last-cut written ≡ rounds-by limit (once pass) Q S later k room left last-cut written
     rounds-same limit later k room left last-cut written h = result-same (run-like none-waived (Unit {0}) same-number same-number CallLike pass equivariant P Q L R S limit later k room left last-cut written h)

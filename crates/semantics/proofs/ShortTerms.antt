@@ -14,7 +14,7 @@ use Rattle.rules.specs.Written.{term-words}
 use Rattle.semantics.specs.Path.{ChoicePoint, Passing, Path, Taken, Task, as-written, bind-params-by, cut, equal-taken, goals-count, goes, leaves, make-call-by, take-goal-by, taken-by, wait-all, waiting-on, within}
 use Rattle.semantics.specs.Review.{review, review-all}
 use Rattle.semantics.specs.Round.{State, Tally, start}
-use Rattle.semantics.specs.Situation.{ChecksFor, PathLeft, Pairing, Reached, Turns, Unifies, after-equality, agreed, bound, by-equality, by-writer, failed, gave-answer, gave-none, goes-on, here, is-at-pair, largest-in-constraint, largest-in-goal, largest-in-goals, largest-of, largest-term, onto, parted, takes-goal, tries-last, tries-next, was-cut, when-taken}
+use Rattle.semantics.specs.Situation.{ChecksFor, PathLeft, Pairing, Reached, Turns, Unifies, after-equality, agreed, bound, by-equality, by-writer, failed, gave-answer, gave-none, gave-repeat, goes-on, here, is-at-pair, largest-in-constraint, largest-in-goal, largest-in-goals, largest-of, largest-term, onto, parted, takes-goal, tries-last, tries-next, was-cut, when-taken}
 use Rattle.semantics.specs.Steps.{Bound, Outcome, and-then, constraints, disjunctions, done, goals, most, stop, variables}
 use Rattle.semantics.specs.Substitution.{Substitution, argument, same-atom, shift, shift-constraint, walk}
 use Rattle.semantics.specs.Unify.{Looked, Pairs, agrees, bind, binds, fails, look, occurs-check, parts, unify, unify-terms}
@@ -254,7 +254,8 @@ module _ (T : ℕ) where
       left-short (failed l e) h = h .choices-short
       left-short (was-cut l e) h = h .choices-short
       left-short {s} (gave-none p cs l e r i) h = subst TakenShort e (takes-short s h) .1
-      left-short {s} (gave-answer p m x ws l e i) h = subst TakenShort (x .takes) (takes-short s h) .1
+      left-short {s} (gave-answer p m x ws l e i new) h = subst TakenShort (x .takes) (takes-short s h) .1
+      left-short {s} (gave-repeat p m x ws l e i given) h = subst TakenShort (x .takes) (takes-short s h) .1
 
       -- a turn keeps it
       turns-short : {s s′ : State} → Turns pass P n k s s′ → ShortState s → ShortState s′

@@ -1,7 +1,7 @@
 -- Whole rounds and whole runs: demand 3.
 use Prim.Native.Nat.{_<_, _≤_, suc, zero, ℕ}
 use mathlib.Core.List.{List, [], _++_, _∷_, append-nil}
-use mathlib.Core.Logic.{_↔_, inl, ⊎-elim}
+use mathlib.Core.Logic.{inl, ⊎-elim}
 use mathlib.Core.Option.{Option·some-injective}
 use mathlib.Core.Path.{_≡_, ap, fun-ext, refl, subst, sym}
 use native.Mathlib.Decide.{decLe, decLt}
@@ -13,7 +13,7 @@ use Rattle.semantics.specs.Demand.{AnswerRight, Completed, Demand3, Show
 use Rattle.semantics.specs.Invariant.{ProgramIn, RelationIn, StateFine}
 use Rattle.semantics.specs.Logic.{Assignment, Gives, Holds, Tree}
 use Rattle.semantics.specs.Round.{Answer, End, Result, Rounded, Tally, after-cuts, after-round, broken, completed, finished, one-round, result, rounds, rounds-used, start}
-use Rattle.semantics.proofs.Basics.{clash, each-append, each-map, some-both, some-each, some-left, some-map, some-right}
+use Rattle.semantics.proofs.Basics.{clash, each-append, each-map, some-both, some-each, some-left, some-map}
 use Rattle.semantics.proofs.Cover.{Covers, _⇔_}
 use Rattle.semantics.proofs.Names.{inner}
 use Rattle.semantics.proofs.Sound.{sound-start}
@@ -27,10 +27,10 @@ pub record RoundWrote (P : Program) (k : ℕ) (before written : List Answer) : T
   pub is-new : written ≡ before ++ new
   pub each-new : Each (λ (a : Answer). (a .0 ≡ k) × AnswerRight P a) new
 
--- If it is completed, its answers show just the tuples that the relations give with k calls; if it counted no cut, there is no tuple with more.
+-- If it is completed, some answer by then shows each tuple that the relations give with k calls; if it counted no cut, there is no tuple with more.
 pub record RoundDone (P : Program) (k : ℕ) (before : List Answer) (t : Tally) : Type 0 where
   pub wrote : RoundWrote P k before (t .written)
-  pub exact : (tuple : List Tree) → Some (ShowsIt P tuple) (wrote .new) ↔ Gives P tuple k
+  pub shown : (tuple : List Tree) → Gives P tuple k → Some (ShowsIt P tuple) (t .written)
   pub no-cut : t .cuts ≡ 0 → (tuple : List Tree) (m : ℕ) → Gives P tuple m → m ≤ k
 
 abbrev pub RoundClaim : Program → ℕ → List Answer → Rounded → Type 0
@@ -90,7 +90,7 @@ module _ (R : Relation) (Rs : Program) (wf : ProgramIn (R ∷ Rs)) where
       small,
       record {
         wrote = wrote (keeps .so-far);
-        exact = λ tuple. (some-each (ShowsIt P tuple) _ (keeps .so-far .new) (λ a r h. r .only tuple h) (keeps .so-far .each-right), λ g. ⊎-elim (λ x. absurd x) (⊎-elim (λ x. x .1) (λ x. absurd (omega arith))) (keeps .complete tuple k (omega arith) g));
+        shown = λ tuple g. ⊎-elim (λ x. absurd x) (⊎-elim (λ x. x .1) (λ x. absurd (omega arith))) (keeps .complete tuple k (omega arith) g);
         no-cut = λ e tuple m g. elim (decLe m k) [ yes h ↦ h | no f ↦ ⊎-elim (λ x. absurd x) (⊎-elim (λ x. omega arith) (λ x. absurd (omega arith))) (keeps .complete tuple m (omega arith) g) ];
       },
     )
@@ -110,38 +110,44 @@ module _ (R : Relation) (Rs : Program) (wf : ProgramIn (R ∷ Rs)) where
 
 -- Rounds one after the other, of a run with this step limit
 module _ (limit : ℕ) (P : Program) where
-  -- the answers of the rounds before k
+  -- the answers before round k, or while it lasts
   record History (k : ℕ) (written : List Answer) : Type 0 where
     each : Each (AnswerRight P) written
-    reached : (tuple : List Tree) (j : ℕ) → j < k → Gives P tuple j → Some (ShowsIn P j tuple) written
+    early : Each (λ (a : Answer). a .0 ≤ k) written
+    reached : (tuple : List Tree) (j : ℕ) → j < k → Gives P tuple j → Some (ShowsUpTo P j tuple) written
 
-  history-grows : {k l : ℕ} {before written : List Answer} → History k before → RoundWrote P l before written → History k written
-  history-grows {k} {before = before} h w = subst (History k) (sym (w .is-new)) (record {
+  history-grows : {k : ℕ} {before written : List Answer} → History k before → RoundWrote P k before written → History k written
+  history-grows {k} {before} h w = subst (History k) (sym (w .is-new)) (record {
     each = each-append (AnswerRight P) before (w .new) .1 (h .each, each-map (λ a r. r .1) (w .new) (w .each-new));
+    early = each-append (λ (a : Answer). a .0 ≤ k) before (w .new) .1 (h .early, each-map (λ a r. omega (arith, r .0)) (w .new) (w .each-new));
     reached = λ tuple j i g. some-left _ before (w .new) (h .reached tuple j i g);
   })
 
   history-suc : {k : ℕ} {before : List Answer} {t : Tally} → History k before → RoundDone P k before t → History (suc k) (t .written)
   history-suc {k} {before} {t} h d = record {
     each = grown .each;
-    reached = λ tuple j i g. elim (decLt j k) [ yes l ↦ grown .reached tuple j l g | no f ↦ subst (λ (j : ℕ). Some (ShowsIn P j tuple) (t .written)) (omega arith) (here tuple (subst (Gives P tuple) (omega arith) g)) ];
+    early = each-map (λ a r. omega arith) (t .written) (grown .early);
+    reached = λ tuple j i g. elim (decLt j k) [ yes l ↦ grown .reached tuple j l g | no f ↦ subst (λ (j : ℕ). Some (ShowsUpTo P j tuple) (t .written)) (omega arith) (here tuple (subst (Gives P tuple) (omega arith) g)) ];
   }
     where
       grown : History k (t .written)
       grown = history-grows h (d .wrote)
 
-      here : (tuple : List Tree) → Gives P tuple k → Some (ShowsIn P k tuple) (t .written)
-      here tuple g = subst (Some (ShowsIn P k tuple)) (sym (d .wrote .is-new)) (some-right _ before (d .wrote .new) (some-both (ShowsIt P tuple) _ (ShowsIn P k tuple) (d .wrote .new) (λ a r x. (r .0, x)) (d .wrote .each-new) (d .exact tuple .1 g)))
+      here : (tuple : List Tree) → Gives P tuple k → Some (ShowsUpTo P k tuple) (t .written)
+      here tuple g = some-both (ShowsIt P tuple) _ (ShowsUpTo P k tuple) (t .written) (λ a r x. (r, x)) (grown .early) (d .shown tuple g)
 
   -- the completed rounds are those below l, up to which the history goes
   demand : (e : End) (k l last-cut : ℕ) (t : Tally) → ((j : ℕ) → Completed e k j → j < l) → (e ≡ finished → (tuple : List Tree) (m : ℕ) → Gives P tuple m → m < l) → History l (t .written) → Demand3 P (result limit e k last-cut t)
   demand e k l last-cut t below fin h = record {
     each-answer = h .each;
-    round-exact = λ j c tuple. (some-each (ShowsIn P j tuple) _ (t .written) (λ a r x. subst (Gives P tuple) (x .0) (r .only tuple (x .1))) (h .each), h .reached tuple j (below j c));
-    up-to-round = λ j c tuple. (some-each (ShowsUpTo P j tuple) _ (t .written) (λ a r x. (a .0, x .0, r .only tuple (x .1))) (h .each), λ (i, i-j, g). some-map (ShowsIn P i tuple) (ShowsUpTo P j tuple) (t .written) (λ a x. (omega arith, x .1)) (h .reached tuple i (omega (arith, below j c)) g));
-    first-shown = λ j c tuple f. (h .reached tuple j (below j c) (f .gives), λ i less x. f .none-fewer i less (some-each (ShowsIn P i tuple) _ (t .written) (λ a r y. subst (Gives P tuple) (y .0) (r .only tuple (y .1))) (h .each) x));
-    when-finished = λ q tuple. (some-each (ShowsIt P tuple) _ (t .written) (λ a r x. (a .0, r .only tuple x)) (h .each), λ (i, g). some-map (ShowsIn P i tuple) (ShowsIt P tuple) (t .written) (λ a x. x .1) (h .reached tuple i (fin q tuple i g) g));
+    round-exact = λ j c tuple. (right-in j tuple, h .reached tuple j (below j c));
+    up-to-round = λ j c tuple. (some-each (ShowsUpTo P j tuple) _ (t .written) (λ a r x. (a .0, x .0, r .only tuple (x .1))) (h .each), λ (i, i-j, g). some-map (ShowsUpTo P i tuple) (ShowsUpTo P j tuple) (t .written) (λ a x. (omega (arith, x .0), x .1)) (h .reached tuple i (omega (arith, below j c)) g));
+    first-shown = λ j c tuple f. (some-both (ShowsUpTo P j tuple) _ (ShowsIn P j tuple) (t .written) (λ a r x. (elim (decLt (a .0) j) [ yes less ↦ absurd (f .none-fewer (a .0) less (r .only tuple (x .1))) | no more ↦ omega (arith, x .0) ], x .1)) (h .each) (h .reached tuple j (below j c) (f .gives)), λ i less x. f .none-fewer i less (right-in i tuple x));
+    when-finished = λ q tuple. (some-each (ShowsIt P tuple) _ (t .written) (λ a r x. (a .0, r .only tuple x)) (h .each), λ (i, g). some-map (ShowsUpTo P i tuple) (ShowsIt P tuple) (t .written) (λ a x. x .1) (h .reached tuple i (fin q tuple i g) g));
   }
+    where
+      right-in : (j : ℕ) (tuple : List Tree) → Some (ShowsIn P j tuple) (t .written) → Gives P tuple j
+      right-in j tuple = some-each (ShowsIn P j tuple) _ (t .written) (λ a r x. subst (Gives P tuple) (x .0) (r .only tuple (x .1))) (h .each)
 
   broken-demand : (e : End) (k last-cut : ℕ) (t : Tally) → Breaks e → History k (t .written) → Demand3 P (result limit e k last-cut t)
   broken-demand e k last-cut t b = demand e k k last-cut t (completed-before e b k) (λ q. absurd (subst Breaks q b))
@@ -163,4 +169,4 @@ module _ (R : Relation) (Rs : Program) (wf : ProgramIn (R ∷ Rs)) where
 
   -- Demand 3 of a program that is well formed and has a query
   pub demand3 : (limit rounds-limit room : ℕ) → room < 268435456 → Demand3 (R ∷ Rs) (rounds limit (R ∷ Rs) R rounds-limit 0 room limit 0 [])
-  demand3 limit rounds-limit room small = rounds-demand limit rounds-limit 0 room limit 0 [] small (record { each = tt; reached = λ tuple j l g. absurd (omega arith) })
+  demand3 limit rounds-limit room small = rounds-demand limit rounds-limit 0 room limit 0 [] small (record { each = tt; early = tt; reached = λ tuple j l g. absurd (omega arith) })

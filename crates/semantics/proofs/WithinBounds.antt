@@ -14,7 +14,7 @@ use Rattle.rules.specs.Syntax.{Constraint, Goal, Goals, Program, Relation, Term
 use Rattle.semantics.specs.Answer.{answer}
 use Rattle.semantics.specs.Path.{ChoicePoint, Passing, Path, Taken, Task, bound-to, called-by, cut, equal-taken, goals-count, goes, keeping, leaves, make-call-by, take-goal-by, taken-by, wait-all, waiting-on, within}
 use Rattle.semantics.specs.Review.{review, review-all}
-use Rattle.semantics.specs.Round.{Next, State, Tally, after, backtrack, give, go-on, going, over, resume, spend, start, turn-by}
+use Rattle.semantics.specs.Round.{Next, State, Tally, after, backtrack, give, go-on, going, once, over, resume, spend, start, turn-by}
 use Rattle.semantics.specs.Situation.{call-uses, has, so-many, takes-goal, uses}
 use Rattle.semantics.specs.Steps.{Bound, Outcome, and-then, constraints, disjunctions, done, goals, most, stop, variables, waiting}
 use Rattle.semantics.specs.Substitution.{Substitution, shift, shift-constraint}
@@ -170,19 +170,19 @@ module _ (k : ℕ) (first : Bound → ℕ) where
         others ds no-new f = h
         others ds (one-new base rest e) f = (record { each-bound = λ b. subst (λ (m : ℕ). m ≤ max (most b) (first b)) (sym (e b ds)) (f b); few-calls = w .few-calls }, h)
 
-    go-on-within : (p : Path) (stack : List Task) (cs : List ChoicePoint) (t : Tally) → Within p cs → Others cs → NextWithin (go-on P n k p stack cs t)
+    go-on-within : (p : Path) (stack : List Task) (cs : List ChoicePoint) (t : Tally) → Within p cs → Others cs → NextWithin (go-on (once pass) n k p stack cs t)
     go-on-within p [] cs t w h = by-choose NextWithin (eqb (p .calls) k) _ _ (λ q. given (answer p n (t .left))) (λ q. back-within cs t h)
       where
-        given : (o : Outcome (List ℕ)) → NextWithin (give P n k cs t o)
+        given : (o : Outcome (List ℕ)) → NextWithin (give (once pass) n k cs t o)
         given (stop why l) = tt
         given (done ws l) = by-choose NextWithin (leb (length ws) (t .room)) _ _ (λ q. back-within cs _ h) (λ q. tt)
     go-on-within p (task ∷ stack) cs t w h = record { path-within = record { each-bound = w .each-bound; few-calls = w .few-calls }; others-within = h }
 
     -- a turn keeps it
-    pub turn-within : (s : State) → StateWithin s → NextWithin (turn-by pass P n k s)
+    pub turn-within : (s : State) → StateWithin s → NextWithin (turn-by (once pass) P n k s)
     turn-within s w = go (takes-goal pass P n k s) (goal-took pass k P (s .path) (s .choices) (s .task .0) (s .task .1) (s .tally .left))
       where
-        go : (o : Outcome Taken) → TookAs pass k P (s .path) (s .choices) (s .task .1) o → NextWithin (after P n k s o)
+        go : (o : Outcome Taken) → TookAs pass k P (s .path) (s .choices) (s .task .1) o → NextWithin (after (once pass) n k s o)
         go (stop why l) x = tt
         go (done leaves l) x = back-within (s .choices) _ (w .others-within)
         go (done cut l) x = back-within (s .choices) _ (w .others-within)

@@ -1,9 +1,10 @@
 -- The starred runs of document 01, "Runs to reproduce", its run with 255 variables, and small runs for "Errors this trade has made", for the order of answers and lines, for the
--- branches cut in the last completed round, for the occurs check, and for each bound of a path, as one list of rows.
+-- branches cut in the last completed round, for the occurs check, for repeats, and for each bound of a path, as one list of rows.
 use Prim.Native.Nat.{ℕ, zero, suc}
-use mathlib.Core.List.{List, [], _∷_, _++_}
+use mathlib.Core.List.{List, [], _∷_, _++_, map}
 use lib.ListN.{length}
 use Rattle.word.specs.Word.{word}
+use Rattle.rules.specs.Lists.{joined}
 use Rattle.rules.specs.Written.{part}
 use Rattle.semantics.specs.Steps as bound
 use Rattle.semantics.specs.Round.{End, finished, rounds-used, steps-used, output-full, path-limit, Answer, Result}
@@ -232,6 +233,24 @@ query-twice = part 13 (word 2 1 ∷ word 2 2 ∷ part 10 (is-pair 1 ++ part 5 (w
 abbrev pub yes : List ℕ
 yes = word 15 0 ∷ []
 
+-- Document 02, Note 2: q equal to one of these atoms, one alternative for each
+abbrev pub either : List ℕ → List ℕ
+either atoms = part 13 (word 2 1 ∷ word 2 1 ∷ part 11 (joined (map (λ (w : ℕ). word 5 2 ∷ word 0 0 ∷ w ∷ []) atoms)))
+
+-- relation 1 makes its parameter 5, or calls itself, or makes it 6: round 2 gives both answers of round 1 again
+abbrev pub five-or-six : List ℕ
+five-or-six =
+    part 13 (word 2 1 ∷ word 2 1 ∷ word 12 2 ∷ word 2 1 ∷ word 0 0 ∷ [])
+    ++ part 13 (word 2 1 ∷ word 2 1 ∷ part 11 (word 5 2 ∷ word 0 0 ∷ word 2 5 ∷ word 12 2 ∷ word 2 1 ∷ word 0 0 ∷ word 5 2 ∷ word 0 0 ∷ word 2 6 ∷ []))
+
+-- two alternatives that hold, of a query without parameters: the answer's words are its header alone
+abbrev pub holds-twice : List ℕ
+holds-twice = query (part 11 (word 5 2 ∷ word 3 0 ∷ word 3 0 ∷ word 5 2 ∷ word 3 0 ∷ word 3 0 ∷ []))
+
+-- symbolo(q), numbero(q) or symbolo(q): the first two answers differ in a constraint
+abbrev pub sorts : List ℕ
+sorts = part 13 (word 2 1 ∷ word 2 1 ∷ part 11 (word 7 1 ∷ word 0 0 ∷ word 8 1 ∷ word 0 0 ∷ word 7 1 ∷ word 0 0 ∷ []))
+
 -- `15:1 1:7`
 abbrev pub seven : List ℕ
 seven = word 15 1 ∷ word 1 7 ∷ []
@@ -253,7 +272,7 @@ rows =
     ∷ row A 16 1000000 1 output-full 0 4 [] 0
     ∷ row A 16 1000000 2 finished 0 4 ((0, seven) ∷ []) 0
     ∷ row B 16 1000000 4096 finished 0 4 [] 0
-    ∷ row C 2 1000000 4096 rounds-used 2 20 ((1, five) ∷ (2, five) ∷ []) 1
+    ∷ row C 2 1000000 4096 rounds-used 2 20 ((1, five) ∷ []) 1
     ∷ row C 0 1000000 4096 rounds-used 0 1 [] 1
     ∷ row D 16 1000000 4096 finished 0 8 ((0, word 15 4 ∷ word 0 0 ∷ word 6 2 ∷ word 0 0 ∷ word 2 5 ∷ []) ∷ []) 0
     ∷ row E 16 1000000 4096 finished 0 5 [] 0
@@ -284,7 +303,15 @@ rows =
     ∷ row doubling 3 1000000 4096 rounds-used 3 37 [] 8
     ∷ row doubling 16 25 4096 steps-used 3 25 [] 4
     ∷ row doubling-variables 16 1000000 4096 (path-limit bound.variables) 9 1531 [] 256
-    ∷ row doubling-five 16 1000000 5 output-full 2 27 ((1, five) ∷ (2, five) ∷ []) 2
+    ∷ row doubling-five 16 1000000 3 output-full 2 19 ((1, five) ∷ []) 2
+    ∷ row (either (word 2 5 ∷ word 2 5 ∷ [])) 16 1000000 4096 finished 0 9 ((0, five) ∷ []) 0
+    ∷ row (either (word 2 5 ∷ word 2 5 ∷ [])) 16 1000000 4 finished 0 9 ((0, five) ∷ []) 0
+    ∷ row (either (word 2 5 ∷ word 2 5 ∷ [])) 16 1000000 3 output-full 0 9 ((0, five) ∷ []) 0
+    ∷ row (either (word 1 1 ∷ word 1 2 ∷ word 1 3 ∷ word 1 1 ∷ word 1 2 ∷ [])) 16 1000000 4096 finished 0 21 ((0, word 15 1 ∷ word 1 1 ∷ []) ∷ (0, word 15 1 ∷ word 1 2 ∷ []) ∷ (0, word 15 1 ∷ word 1 3 ∷ []) ∷ []) 0
+    ∷ row five-or-six 2 1000000 4096 rounds-used 2 31 ((1, five) ∷ (1, word 15 1 ∷ word 2 6 ∷ []) ∷ []) 1
+    ∷ row holds-twice 0 9 1 output-full 0 5 ((0, yes) ∷ []) 0
+    ∷ row holds-twice 0 9 2 finished 0 5 ((0, yes) ∷ []) 0
+    ∷ row sorts 16 1000000 4096 finished 0 13 ((0, word 15 3 ∷ word 0 0 ∷ word 7 1 ∷ word 0 0 ∷ []) ∷ (0, word 15 3 ∷ word 0 0 ∷ word 8 1 ∷ word 0 0 ∷ []) ∷ []) 0
     ∷ row (met-twice 5) 16 1000000 4096 finished 0 13 ((0, yes) ∷ []) 0
     ∷ row (met-twice 5) 16 12 4096 steps-used 0 12 [] 0
     ∷ row (met-twice 6) 16 1000000 4096 finished 0 27 ((0, yes) ∷ []) 0

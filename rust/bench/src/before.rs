@@ -25,7 +25,8 @@ pub fn time(numbers: &[&str]) {
 }
 
 /// `bench beside EARLIER`, the benchmark of the earlier landing: the steps of a run, or that it came to its limit, nanoseconds a step, the
-/// best of all turns, and how many times as long a run takes, the median of the turns.
+/// best of all turns, and how many times as long a run takes, the median of the turns. Each lends as much output as its own landing needs:
+/// before repeats were struck out, just the words written.
 pub fn table(earlier: &Path) -> String {
     let this = env::current_exe().expect("the benchmark's own path");
     let engines = [earlier, &this];
@@ -33,12 +34,16 @@ pub fn table(earlier: &Path) -> String {
     text += "| program | steps before | after | before, ns a step | after | after / before |\n";
     text += "|---|--:|--:|--:|--:|--:|\n";
     for program in programs::compared().iter().chain(&programs::endless()) {
-        text += &row(program, engines);
+        text += &row(program.name, program, engines);
+    }
+    for choices in programs::choices().iter().flatten() {
+        let name = format!("{}, {} given", choices.program.name, choices.given);
+        text += &row(&name, &choices.program, engines);
     }
     text
 }
 
-fn row(program: &Program, engines: [&Path; 2]) -> String {
+fn row(name: &str, program: &Program, engines: [&Path; 2]) -> String {
     let words = words::words(&rules::parse(&program.text));
     let numbers = [vec![program.rounds, LIMIT], words].concat();
     let arguments: Vec<String> = numbers.iter().map(u32::to_string).collect();
@@ -61,6 +66,6 @@ fn row(program: &Program, engines: [&Path; 2]) -> String {
         LIMIT => format!("{LIMIT}, the limit"),
         _ => steps.to_string(),
     });
-    let (name, ratio) = (program.name, median(ratios));
+    let ratio = median(ratios);
     format!("| {name} | {steps_before} | {steps_after} | {before:.2} | {after:.2} | {ratio:.3} |\n")
 }

@@ -6,6 +6,7 @@ mod opening;
 mod plain;
 mod programs;
 mod prolog;
+mod repeats;
 mod rules;
 mod words;
 
@@ -39,26 +40,36 @@ struct Bench {
 }
 
 impl Bench {
-    /// Runs both engines once and sees that they agree on everything. The output is cut to what is written, so that clearing its rest
-    /// takes no time.
+    /// Runs both engines once. Then the output is cut to what is written and some room to spare, so that clearing its rest takes little
+    /// time: four words an answer, as no index has more, and as many as the longest answer has, as a repeat is written before it is seen
+    /// to be one.
     fn new(words: Vec<u32>, rounds: u32, steps: u32) -> (Bench, Report) {
         let mut bench = Bench {
             words,
             rounds,
             steps,
-            output: vec![1; 1 << 22],
-            scratch: vec![1; SCRATCH_WORDS],
+            output: vec![0; 1 << 22],
+            scratch: vec![0; SCRATCH_WORDS],
         };
-        let report = bench.proved();
-        let page = bench.output.clone();
-        bench.output.fill(2);
-        bench.scratch.fill(2);
-        assert_eq!(bench.plain(), report);
-        assert!(page == bench.output, "the two engines write the same page");
-        assert!(bench.scratch.iter().all(|&word| word == 0));
-        bench.output.truncate(report.words);
+        let report = bench.agreed();
+        let spare = 4 * report.answers as usize + longest(&bench.output[..report.words]);
+        bench.output.truncate(report.words + spare);
         bench.output.shrink_to_fit();
         (bench, report)
+    }
+
+    /// Runs both engines and sees that they agree on everything.
+    fn agreed(&mut self) -> Report {
+        self.output.fill(1);
+        self.scratch.fill(1);
+        let report = self.proved();
+        let page = self.output.clone();
+        self.output.fill(2);
+        self.scratch.fill(2);
+        assert_eq!(self.plain(), report);
+        assert!(page == self.output, "the two engines write the same page");
+        assert!(self.scratch.iter().all(|&word| word == 0));
+        report
     }
 
     fn proved(&mut self) -> Report {
@@ -84,6 +95,18 @@ impl Bench {
             )
         }
     }
+}
+
+/// The words of the longest answer.
+fn longest(page: &[u32]) -> usize {
+    let mut longest = 0;
+    let mut rest = page;
+    while let Some(&header) = rest.first() {
+        let words = 1 + (header & 0x0fff_ffff) as usize;
+        longest = longest.max(words);
+        rest = &rest[words..];
+    }
+    longest
 }
 
 /// The best seconds of one run, over at least `SPAN` seconds.
@@ -327,6 +350,7 @@ fn tables(date: &str, file: &str) {
     let version = swi.map_or("SWI-Prolog is not installed".to_string(), |swi| swi.1);
     let (second, second_goal) = second_table();
     let (third, third_goal) = opening::table();
+    let (fourth, fourth_goals) = repeats::table();
     let text = include_str!("benchmark.md")
         .replace("{date}", date)
         .replace("{processor}", &processor())
@@ -336,7 +360,9 @@ fn tables(date: &str, file: &str) {
         .replace("{second}", second.trim_end())
         .replace("{second goal}", &second_goal)
         .replace("{third}", third.trim_end())
-        .replace("{third goal}", &third_goal);
+        .replace("{third goal}", &third_goal)
+        .replace("{fourth}", fourth.trim_end())
+        .replace("{fourth goals}", &fourth_goals);
     print!("{text}");
     fs::write(file, text).unwrap_or_else(|error| {
         eprintln!("{file}: {error}");

@@ -105,10 +105,13 @@ pub unsafe fn run(
     memory.fill_relations(program.len() as u32);
     let mut writer = Writer {
         memory,
-        end: output.len().min(PAYLOAD as usize),
-        output: output.as_mut_ptr(),
+        output: Output {
+            words: output.as_mut_ptr(),
+            end: output.len().min(PAYLOAD as usize),
+        },
         used: 0,
         answers: 0,
+        index: 0,
     };
     let mut left = steps;
     let mut number = 0;
@@ -688,32 +691,158 @@ fn exceeds(state: &mut State, bound: Bound) -> Stop {
     Stop::Path(bound)
 }
 
+/// The output. The answers stand from its first word on, and their index, if there is one, in the last of the usable words.
+#[derive(Clone, Copy)]
+struct Output {
+    words: *mut u32,
+    /// The usable words.
+    end: usize,
+}
+
+/// The first index is made with so many answers, and has so many slots. A slot is 0, or the place of an answer plus 1.
+const FIRST_ANSWERS: u32 = 8;
+const FIRST_SLOTS: usize = 32;
+/// The hash's factor.
+const FACTOR: u64 = 708568507;
+
+enum Entered {
+    /// An answer with the same words was there.
+    Repeated,
+    New,
+    /// All slots are taken, by other answers.
+    Lost,
+}
+
+impl Output {
+    #[inline(always)]
+    fn read(self, at: usize) -> u32 {
+        // SAFETY: `at` is below `self.end`, which is at most the output's length.
+        unsafe { *self.words.add(at) }
+    }
+
+    #[inline(always)]
+    fn write(self, at: usize, word: u32) {
+        // SAFETY: as for `read`.
+        unsafe { *self.words.add(at) = word }
+    }
+
+    /// Past the part at a place.
+    #[inline(always)]
+    fn past(self, place: usize) -> usize {
+        place + 1 + payload(self.read(place)) as usize
+    }
+
+    /// Of the words from `start` up to `next`.
+    #[inline(always)]
+    fn hash(self, start: usize, next: usize) -> u64 {
+        (start..next).fold(0, |hash, at| {
+            let product = (hash + u64::from(self.read(at))) * FACTOR;
+            (product >> 32) + (product & 0xffff_ffff)
+        })
+    }
+
+    /// Do the words from `start` up to `next` stand at `place` too?
+    #[inline(always)]
+    fn same(self, place: usize, start: usize, next: usize) -> bool {
+        (start..next).all(|at| self.read(place + at - start) == self.read(at))
+    }
+
+    /// Is the answer from `start` up to `next` among those before it, looked at one after the other?
+    fn among(self, start: usize, next: usize) -> bool {
+        let mut place = 0;
+        while place < start {
+            if self.same(place, start, next) {
+                return true;
+            }
+            place = self.past(place);
+        }
+        false
+    }
+
+    /// Seeks the answer from `start` up to `next` in an index of so many slots, and enters it if it is not there.
+    #[inline(always)]
+    fn enter(self, index: usize, start: usize, next: usize) -> Entered {
+        let first = self.end - index;
+        // The header says no more than how many words follow.
+        let low = self.hash(start + 1, next) & 0xffff_ffff;
+        let mut slot = (low * index as u64 >> 32) as usize;
+        for _ in 0..index {
+            match self.read(first + slot) {
+                0 => {
+                    self.write(first + slot, start as u32 + 1);
+                    return Entered::New;
+                }
+                entry if self.same(entry as usize - 1, start, next) => return Entered::Repeated,
+                _ => slot = if slot + 1 == index { 0 } else { slot + 1 },
+            }
+        }
+        Entered::Lost
+    }
+
+    /// An index of all answers up to `used`. It has more slots than there are answers.
+    fn build(self, index: usize, used: usize) {
+        for at in self.end - index..self.end {
+            self.write(at, 0);
+        }
+        let mut place = 0;
+        while place < used {
+            let next = self.past(place);
+            self.enter(index, place, next);
+            place = next;
+        }
+    }
+
+    /// Are more slots made? Only if as many words stay free, or if those that there are are nearly full.
+    fn worthwhile(answers: u32, index: usize, free: usize, wanted: usize) -> bool {
+        wanted <= free / 2 || answers as usize >= index - index / 8 && wanted <= free
+    }
+
+    /// The slots from now on, with so many answers: at least two for each, if that many fit.
+    fn fitted(self, index: usize, used: usize, answers: u32) -> usize {
+        let wanted = match index {
+            0 if answers == FIRST_ANSWERS => FIRST_SLOTS,
+            _ if answers as usize >= index / 2 => 2 * index,
+            _ => index,
+        };
+        if wanted == index || !Output::worthwhile(answers, index, self.end - used, wanted) {
+            return index;
+        }
+        self.build(wanted, used);
+        wanted
+    }
+
+    /// Is the answer from `start` up to `next` a repeat? And the slots afterwards: none once answers reach into them.
+    fn repeated(self, index: usize, start: usize, next: usize) -> (bool, usize) {
+        if index != 0 && index <= self.end - next {
+            match self.enter(index, start, next) {
+                Entered::Repeated => return (true, index),
+                Entered::New => return (false, index),
+                Entered::Lost => {}
+            }
+        }
+        (self.among(start, next), 0)
+    }
+}
+
 /// Puts words: they are stored, or compared with those that are there already.
 struct Writer {
     memory: Memory,
-    output: *mut u32,
-    /// The usable words of the output.
-    end: usize,
+    output: Output,
     used: usize,
     answers: u32,
+    /// The slots of the index, or 0.
+    index: usize,
 }
 
 impl Writer {
-    #[inline(always)]
-    fn read(&self, at: usize) -> u32 {
-        // SAFETY: `at` is below `self.end`, which is at most the output's length.
-        unsafe { *self.output.add(at) }
-    }
-
     /// One word: whether it is there now.
     #[inline(always)]
     fn put_word(&self, at: usize, word: u32, write: bool) -> bool {
         if write {
-            // SAFETY: as for `read`.
-            unsafe { *self.output.add(at) = word };
+            self.output.write(at, word);
             return true;
         }
-        self.read(at) == word
+        self.output.read(at) == word
     }
 
     /// One word before `end`: the place after it.
@@ -831,10 +960,10 @@ impl Writer {
         }
     }
 
-    fn repeated(&self, line: Line, first: usize, at: usize) -> bool {
+    fn line_repeated(&self, line: Line, first: usize, at: usize) -> bool {
         let mut place = first;
         while place < at {
-            let next = place + 1 + payload(self.read(place)) as usize;
+            let next = self.output.past(place);
             if self.put_line(line, place, next, false) == Some(next) {
                 return true;
             }
@@ -846,10 +975,10 @@ impl Writer {
     /// Adds a line unless it is dropped or repeated. `None` for a page on which something did not fit.
     fn add_line(&self, line: Line, first: usize, page: Option<usize>) -> Option<usize> {
         let at = page?;
-        if !self.line_named(line) || self.repeated(line, first, at) {
+        if !self.line_named(line) || self.line_repeated(line, first, at) {
             return Some(at);
         }
-        self.put_line(line, at, self.end, true)
+        self.put_line(line, at, self.output.end, true)
     }
 
     fn add_absent(
@@ -915,14 +1044,14 @@ impl Writer {
 
     fn put_parameter(&self, parameter: u32, at: usize) -> Option<usize> {
         match self.memory.get(parameter) {
-            0 => self.put(at, self.end, self.number(parameter), true),
-            bound => self.put_term(bound - 1, at, self.end, true),
+            0 => self.put(at, self.output.end, self.number(parameter), true),
+            bound => self.put_term(bound - 1, at, self.output.end, true),
         }
     }
 
     /// The query terms behind the answer's own word.
     fn begin(&self, params: u32) -> Option<usize> {
-        if self.end <= self.used {
+        if self.output.end <= self.used {
             return None;
         }
         (0..params).try_fold(self.used + 1, |at, parameter| {
@@ -930,7 +1059,7 @@ impl Writer {
         })
     }
 
-    /// Writes the answer of a path behind those already there.
+    /// Writes the answer of a path behind those already there, where it stays unless it is a repeat.
     fn answer(&mut self, state: &mut State, params: u32) -> Result<(), Stop> {
         let memory = self.memory;
         for parameter in 0..params {
@@ -955,8 +1084,13 @@ impl Writer {
         clear_names(memory, top);
         let next = page.ok_or(Stop::Output)?;
         self.put_head(self.used, next, ANSWER, true);
-        self.used = next;
-        self.answers += 1;
+        let (repeated, index) = self.output.repeated(self.index, self.used, next);
+        self.index = index;
+        if !repeated {
+            self.used = next;
+            self.answers += 1;
+            self.index = self.output.fitted(index, next, self.answers);
+        }
         Ok(())
     }
 }

@@ -43,6 +43,45 @@ pub fn endless() -> Vec<Program> {
     ]
 }
 
+/// A program that gives so many answers, some of them again.
+pub struct Choices {
+    pub program: Program,
+    pub given: u32,
+    pub written: u32,
+}
+
+/// Each kind of run with 2,000, 20,000 and 200,000 answers.
+pub fn choices() -> [[Choices; 3]; 3] {
+    let different = [[10, 10, 20], [20, 20, 50], [40, 50, 100]];
+    let ten = [[10, 20], [40, 50], [100, 200]];
+    let twice = [[10, 10, 10], [20, 20, 25], [40, 50, 50]];
+    [
+        different.map(|told| choice("all different", &[], &told)),
+        ten.map(|untold| choice("ten, again and again", &untold, &[10])),
+        twice.map(|told| choice("all of them twice", &[2], &told)),
+    ]
+}
+
+/// Numbers below each of these are chosen, first those that no answer tells.
+fn choice(name: &'static str, untold: &[u32], told: &[u32]) -> Choices {
+    let below = [untold, told].concat();
+    let names: Vec<String> = (0..below.len()).map(|i| format!("n{i}")).collect();
+    let any = |(name, &below): (&String, &u32)| {
+        let numbers: Vec<String> = (0..below).map(|n| format!("(same {name} {n})")).collect();
+        format!("(any {})", numbers.join(" "))
+    };
+    let choices: Vec<String> = names.iter().zip(&below).map(any).collect();
+    let text = include_str!("../programs/choices.rules")
+        .replace("{told}", &names[untold.len()..].join(" "))
+        .replace("{untold}", &names[..untold.len()].join(" "))
+        .replace("{choices}", &choices.join(" "));
+    Choices {
+        program: program(name, text, 255),
+        given: below.iter().product(),
+        written: told.iter().product(),
+    }
+}
+
 /// What joins two goals so that 2 is the only answer?
 const CONNECTIVE: &str = "(rule query (x) ()
   (eval-program ('run ('z) (x ('disj ('== 'z 1) ('disj ('== 'z 2) ('== 'z 3))) ('== 'z 2))) (2)))";

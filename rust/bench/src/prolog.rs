@@ -1,5 +1,5 @@
 //! The same rules for SWI-Prolog: a rule is a predicate with two arguments more, the calls left before and after it. Types are
-//! attributes, absence waits by freeze/2, the occurs check is on.
+//! attributes, absence waits by freeze/2, the occurs check is on. A trie strikes out repeats; it takes no answer with a constraint.
 
 use crate::rules::{Goal, Rule, Rules, Term};
 use std::fmt::Write;
@@ -27,13 +27,16 @@ kc_absent(T, Tag) :- var(T), !, freeze(T, kc_absent(T, Tag)).
 kc_absent([A|B], Tag) :- !, kc_absent(A, Tag), kc_absent(B, Tag).
 kc_absent(T, Tag) :- T \== Tag.
 
-kc_round(Round) :- nb_setval(kc_cut, false), ( kc_query(Round, 0), nb_getval(kc_answers, N), M is N + 1, nb_setval(kc_answers, M), fail ; true ).
-kc_rounds(Round, Limit) :- kc_round(Round), nb_getval(kc_cut, true), Round < Limit, !, Next is Round + 1, kc_rounds(Next, Limit).
-kc_rounds(_, _).
+kc_round(Round, Trie) :-
+    nb_setval(kc_cut, false),
+    ( kc_query(Answer, Round, 0), trie_insert(Trie, Answer), nb_getval(kc_answers, N), M is N + 1, nb_setval(kc_answers, M), fail ; true ).
+kc_rounds(Round, Limit, Trie) :-
+    kc_round(Round, Trie), nb_getval(kc_cut, true), Round < Limit, !, Next is Round + 1, kc_rounds(Next, Limit, Trie).
+kc_rounds(_, _, _).
 
 kc_main(Limit) :-
     nb_setval(kc_answers, 0),
-    get_time(Start), kc_rounds(0, Limit), get_time(End),
+    get_time(Start), trie_new(Trie), kc_rounds(0, Limit, Trie), get_time(End),
     nb_getval(kc_answers, Answers), Seconds is End - Start,
     format("~w ~6f~n", [Answers, Seconds]).
 "#;
@@ -44,7 +47,12 @@ pub fn program(rules: &Rules, rounds: u32, style: Style) -> String {
     let query = &rules.rules[0];
     let params: Vec<String> = (0..query.params).map(|i| format!("V{i}")).collect();
     let head = call(&query.name, &params, "Round", "Left");
-    writeln!(text, "kc_query(Round, End) :- {head}, Left =:= End.").unwrap();
+    writeln!(
+        text,
+        "kc_query([{}], Round, End) :- {head}, Left =:= End.",
+        params.join(", ")
+    )
+    .unwrap();
     for rule in &rules.rules {
         let alternatives = match (&rule.body, style) {
             (Goal::Any(goals), Style::Clauses) => goals.as_slice(),

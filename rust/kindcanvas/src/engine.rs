@@ -83,7 +83,7 @@ pub struct Report {
     pub round: u32,
     /// The steps taken in all rounds.
     pub steps: u32,
-    /// The answers written.
+    /// The answers written: none has the same words as an earlier one.
     pub answers: u32,
     /// The output words used.
     pub words: usize,
@@ -179,7 +179,9 @@ pub fn check(words: &[u32]) -> Result<(), Refusal> {
     }
 }
 
-/// Runs the program through its rounds. Answers go to `output`, one after the other, with zeros behind them. Of `scratch` the
+/// Runs the program through its rounds. Answers go to `output`, one after the other, with zeros behind them. One with the same
+/// words as an earlier one is not written, but the run ends as output full if it would not fit. Repeats are found fast while
+/// `output` has words to spare, four an answer; in one that gets full each answer is compared with all before it. Of `scratch` the
 /// first [`SCRATCH_WORDS`] are 0 afterwards; those beyond stay as lent. A refusal leaves both as lent.
 ///
 /// ```

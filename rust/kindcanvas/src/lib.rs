@@ -24,14 +24,14 @@
 //! ```
 //! use kindcanvas::{Ending, Limits, Program};
 //!
-//! // A query that calls relation 1, which is 5 or calls itself: each further call gives the same answer again.
+//! // A query that calls relation 1, which is 5 or calls itself: each further call gives the same answer, which is listed once.
 //! let program: Program = "13:5 2:1 2:1 12:2 2:1 0:0  13:9 2:1 2:1 11:6 12:2 2:1 0:0 5:2 0:0 2:5".parse()?;
 //! let outcome = program.run(Limits { rounds: 2, ..Limits::default() });
 //! assert_eq!(outcome.report().end, Ending::Rounds);
 //! assert_eq!(outcome.report().completed(), Some(2));
 //! // One branch was left open: it asks for a third call.
 //! assert_eq!(outcome.report().cut, 1);
-//! assert_eq!(outcome.answers().len(), 2);
+//! assert_eq!(outcome.answers().len(), 1);
 //! # Ok::<(), kindcanvas::ParseError>(())
 //! ```
 //!

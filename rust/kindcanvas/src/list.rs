@@ -1,7 +1,6 @@
 //! A run's list for people: each answer with its conditions, then what the list means.
 
 use kindcanvas::{Answer, Ending, Limits, Outcome, Program, Report, USABLE_WORDS};
-use std::collections::HashSet;
 use std::io::{self, Write};
 use words::Names;
 
@@ -24,20 +23,9 @@ pub fn print(
             "_0, _1 and so on stand for any value that meets the conditions of their answer."
         )?;
     }
-    let answers = counted(report.answers, "answer", "answers") + &repeats(outcome);
+    let answers = counted(report.answers, "answer", "answers");
     let steps = counted(report.steps, "step", "steps");
     writeln!(out, "{answers} in {steps}.\n{}", meaning(limits, report))
-}
-
-/// How many answers are different, if some repeat: there is one for each way to it.
-fn repeats(outcome: &Outcome) -> String {
-    let answers = outcome.answers().len();
-    let different = outcome.answers().collect::<HashSet<Answer>>().len();
-    match different {
-        _ if different == answers => String::new(),
-        1 => ", all the same,".to_string(),
-        _ => format!(", {different} of them different,"),
-    }
 }
 
 fn counted(count: u32, one: &str, many: &str) -> String {

@@ -27,7 +27,7 @@ A page is the words of answers, one after the other; a list that ./list has prin
 --output-words N  room for the answers: 0 to 268435455 words, else 4096
 
 In the list 'B7 or '7 is a symbol, 7 a number, _0 an open variable, () the empty list,
-(a b) a list and (a b . c) one that ends in c. An answer is listed once for each way to it.
+(a b) a list and (a b . c) one that ends in c. An answer is listed once, where it came first.
 A branch that a round left open asks for more calls than the round's number.
 
 status 0  the list is complete; for check, the file is a program; for show, the answer is there

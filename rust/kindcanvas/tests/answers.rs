@@ -85,7 +85,7 @@ fn random_programs() {
     // How often each kind of term and constraint came.
     let mut terms = [0; 5];
     let mut constraints = [0; 6];
-    for number in 0..20_000 {
+    for number in 0..30_000 {
         let case = case(&mut rng);
         let Ok(program) = Program::new(case.words.clone()) else {
             continue;

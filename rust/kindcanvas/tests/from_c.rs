@@ -30,7 +30,7 @@ fn answers_opened_from_c() {
         "check 0\n\
          run 8: end 1 answers 2\n\
          answer 0: refusal 0 start 0 end 2: 15:1 2:5\n\
-         answer 1: refusal 0 start 2 end 4: 15:1 2:5\n\
+         answer 1: refusal 0 start 2 end 4: 15:1 1:7\n\
          answer 2: refusal 10 start 4 end 4:\n\
          answer 0: refusal 0 start 0 end 1: 15:0\n\
          answer 1: refusal 10 start 1 end 1:\n\

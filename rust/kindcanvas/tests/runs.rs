@@ -13,6 +13,7 @@ use kindcanvas::{Bound, Ending, Refusal, Report};
 use reference::cases::{self, Case};
 use reference::coverage::{covered, wanted};
 use reference::gen::{self, Rng};
+use reference::repeats::all_again;
 use reference::run::leave_scratch;
 use reference::shrink::shrink;
 use reference::table;
@@ -234,6 +235,19 @@ fn other_readings_of_occurs_checks_are_found() {
     }
 }
 
+/// Other readings of the rule on repeats (document 02, Note 2), by programs that are neither long nor made for many answers: to make
+/// one with many answers small takes its time, and where these just fill the output they have to stay.
+#[test]
+fn other_readings_of_repeats_are_found() {
+    for reading in Fault::OF_REPEATS {
+        let wrong = move |case: &Case| match case.words.len() {
+            0..=200 if !case.made.ends_with("many answers") => case.run_with(Some(reading)),
+            _ => case.run(),
+        };
+        made_small(&format!("{reading:?}"), wrong, 24, 60);
+    }
+}
+
 /// The first cases that such a reference gets wrong are made small and told as text: each to at most so many words, and most to
 /// as few as suffice.
 fn made_small(name: &str, wrong: impl Fn(&Case) -> Expected, suffice: usize, most: usize) {
@@ -260,6 +274,18 @@ fn tables() {
     for row in table::refusals() {
         let name = format!("refusals.txt line {}", row.line);
         compare(&Case::new("table", row.words), 8, &name);
+    }
+}
+
+/// 600 answers and all of them again: with words for one more behind them, with fewer, and with many.
+#[test]
+fn many_answers_twice() {
+    for output in [1_199, 1_200, 1_201, 1_202, 4_096] {
+        let case = Case {
+            output,
+            ..Case::new("600 twice", all_again(600))
+        };
+        compare(&case, 8, &format!("output {output}"));
     }
 }
 

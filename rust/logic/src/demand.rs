@@ -40,6 +40,8 @@ pub struct Seen {
     /// The tuples that were looked at, and those of them that the relations give.
     pub tuples: usize,
     pub given: usize,
+    /// Those of them that a completed round shows no more, as an earlier one has shown them, though they are given with its calls.
+    pub not_again: usize,
 }
 
 struct Answer {
@@ -105,19 +107,24 @@ impl Subject<'_> {
             answers: answers.len(),
             tuples: 0,
             given: 0,
+            not_again: 0,
         };
         for tuple in self.tuples(&answers, below) {
             let given = self.given(&tuple);
             let shown = shown(&answers, &tuple);
             for (limit, run) in runs.iter().enumerate() {
                 let shown = shown & rounds_before(limit as u32 + 1);
+                let completed = rounds_before(match run.end {
+                    End::BrokenOff => run.round,
+                    _ => run.round + 1,
+                });
                 // Once a run has finished, all calls are within its rounds.
-                let exact = match run.end {
-                    End::Finished => u32::MAX,
-                    End::Rounds => rounds_before(run.round + 1),
-                    End::BrokenOff => rounds_before(run.round),
-                };
-                if (given ^ shown) & exact != 0 || shown & !given != 0 {
+                let beyond = run.end == End::Finished && given & !completed != 0;
+                // An answer shows only what is given with its round's number of calls. An answer of a round may be missing, as it
+                // repeats an earlier one (document 02, Note 2); so of all completed rounds the first in which a tuple is shown
+                // is the first number of calls with which it is given.
+                let first_shown = first(shown & completed);
+                if shown & !given != 0 || first_shown != first(given & completed) || beyond {
                     return Err(format!(
                         "round limit {limit}: {:?}, round {}, answers {}\ntuple {}: the relations give it with calls \
                          {:?}, the answers show it in rounds {:?}",
@@ -128,6 +135,9 @@ impl Subject<'_> {
                         numbers(given),
                         numbers(shown)
                     ));
+                }
+                if limit as u32 == self.most {
+                    seen.not_again += (given & !shown & completed != 0) as usize;
                 }
             }
             seen.tuples += 1;
@@ -224,6 +234,11 @@ fn shown(answers: &[Answer], tuple: &[Term]) -> u32 {
 
 fn rounds_before(round: u32) -> u32 {
     1u32.checked_shl(round).map_or(u32::MAX, |bit| bit - 1)
+}
+
+/// The lowest of the numbers, if there is one.
+fn first(bits: u32) -> Option<u32> {
+    (bits != 0).then(|| bits.trailing_zeros())
 }
 
 fn numbers(bits: u32) -> Vec<u32> {

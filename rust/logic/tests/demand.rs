@@ -1,4 +1,4 @@
-//! Engines held to demand 3 on random programs, and that it finds the errors this trade has made.
+//! Engines held to demand 3 on random programs, and that it finds the errors this trade has made and answers struck out wrongly.
 
 mod programs;
 
@@ -6,7 +6,7 @@ use logic::demand::{End, Run, Seen, Subject};
 use logic::syntax::show;
 use reference::gen::{self, Rng};
 use reference::run::SCRATCH_WORDS;
-use reference::{run_with, Fault};
+use reference::{repeats, run_with, Fault};
 
 const PROGRAMS: usize = 10_000;
 /// Runs have round limits up to this, and relations are looked at with as many calls.
@@ -27,8 +27,9 @@ fn check(engine: impl Fn(&Case, u32) -> Run) -> Result<Vec<Seen>, String> {
     let mut all = Vec::new();
     for number in 0..PROGRAMS {
         let case = Case {
-            words: match number % 4 {
-                0 => gen::program(&mut rng),
+            words: match number % 8 {
+                0 | 4 => gen::program(&mut rng),
+                1 => repeats::few(&mut rng),
                 _ => programs::program(&mut rng, 3),
             },
             // Mostly enough; sometimes the run breaks off.
@@ -52,13 +53,18 @@ fn expect_right(name: &str, engine: impl Fn(&Case, u32) -> Run) {
     let all = check(engine).unwrap_or_else(|wrong| panic!("{name}, {wrong}"));
     let sum = |count: fn(&Seen) -> usize| all.iter().map(count).sum::<usize>();
     let (answers, tuples, given) = (sum(|s| s.answers), sum(|s| s.tuples), sum(|s| s.given));
+    let not_again = sum(|s| s.not_again);
     println!(
-        "{name}: {} programs, {answers} answers, {given} of {tuples} tuples given",
+        "{name}: {} programs, {answers} answers, {given} of {tuples} tuples given, {not_again} not shown again",
         all.len()
     );
     assert!(all.len() * 100 > PROGRAMS * 99);
     assert!(answers * 2 > PROGRAMS);
     assert!(given * 4 > tuples && given * 4 < tuples * 3);
+    assert!(
+        not_again * 200 > given,
+        "repeats came only {not_again} times"
+    );
     for end in [End::Finished, End::Rounds, End::BrokenOff] {
         let runs = all.iter().filter(|seen| seen.end == end).count();
         assert!(runs * 20 > PROGRAMS, "{end:?} came only {runs} times");
@@ -117,7 +123,7 @@ fn the_reference() {
 #[test]
 fn each_fault_is_found() {
     let mut missed = Vec::new();
-    for fault in Fault::OF_ANSWERS {
+    for fault in Fault::OF_ANSWERS.into_iter().chain(Fault::STRIKING) {
         match check(|case, rounds| reference(Some(fault), case, rounds)) {
             Err(wrong) => println!("{fault:?}, {wrong}"),
             Ok(_) => missed.push(fault),

@@ -3,10 +3,11 @@
 use crate::fault::Fault;
 use crate::gen::{self, pair, part, relation, wrapped, Rng};
 use crate::read::PROGRAM_WORDS;
+use crate::repeats;
 use crate::run::{run_with, Outcome, ROUND_LIMIT, SCRATCH_WORDS, VARIABLES, WAITING};
 use crate::shared;
 use crate::table;
-use crate::trace::DISTANCES;
+use crate::trace::{Given, DISTANCES};
 use crate::word::*;
 use std::fmt;
 
@@ -74,8 +75,10 @@ const SMALL: usize = 120;
 const STEPS: u32 = 2_000;
 
 /// How programs are made.
-pub const MADE: [&str; 22] = [
+pub const MADE: [&str; 25] = [
     "program",
+    "repeats",
+    "many answers",
     "shared parts",
     "constraints",
     "damaged",
@@ -94,6 +97,7 @@ pub const MADE: [&str; 22] = [
     "larger damaged",
     "walk of a long list",
     "very long lists",
+    "very many answers",
     "many shared parts",
     "full length",
     "many rounds",
@@ -102,7 +106,9 @@ pub const MADE: [&str; 22] = [
 /// A case that is small enough for slow checkers too.
 pub fn case(rng: &mut Rng) -> Case {
     let (made, words) = match rng.below(100) {
-        0..=33 => ("program", small(rng, gen::program)),
+        0..=26 => ("program", small(rng, gen::program)),
+        27..=31 => ("repeats", small(rng, repeats::few)),
+        32..=33 => return many_answers(rng),
         34..=39 => ("shared parts", small(rng, shared::parts)),
         40..=54 => ("constraints", small(rng, gen::constrained)),
         55..=58 => ("damaged", small(rng, gen::damaged)),
@@ -119,6 +125,14 @@ pub fn case(rng: &mut Rng) -> Case {
     around(rng, Case::new(made, words), rounds, steps)
 }
 
+/// As many different answers as a case of this size can give, or fewer.
+fn many_answers(rng: &mut Rng) -> Case {
+    let different = rng.pick(&[16, 24, 40, 80, 160, 300]);
+    let different = rng.between(different / 2, different);
+    let words = repeats::many(rng, different, 1_000);
+    around(rng, Case::new("many answers", words), 3, STEPS)
+}
+
 /// Long lists, and programs round about the bounds on a path, with as many rounds as they need.
 fn near_a_bound(rng: &mut Rng, which: usize) -> Case {
     let (made, words) = match which {
@@ -129,8 +143,8 @@ fn near_a_bound(rng: &mut Rng, which: usize) -> Case {
         70..=75 => ("many variables", many_variables(rng)),
         76..=79 => ("many goals", many_goals(rng)),
         80..=81 => ("shared parts near a bound", shared_near_a_bound(rng)),
-        82..=87 => ("many disjunctions", many_disjunctions(rng)),
-        88..=92 => ("many constraints", many_constraints(rng)),
+        82..=86 => ("many disjunctions", many_disjunctions(rng)),
+        87..=92 => ("many constraints", many_constraints(rng)),
         93..=97 => ("terms that deepen", deep_terms(rng)),
         _ => ("deep first parts", deep_first_parts(rng)),
     };
@@ -160,8 +174,13 @@ fn calls_ahead(rng: &mut Rng, words: Vec<u32>) -> Vec<u32> {
 /// A case of any size.
 pub fn larger(rng: &mut Rng) -> Case {
     let (made, words) = match rng.below(25) {
-        0..=5 => ("larger program", gen::accepted(rng)),
-        6..=11 => ("program", gen::program(rng)),
+        0 => {
+            let different = rng.between(400, 1_300);
+            let words = repeats::many(rng, different, 8_000);
+            return around(rng, Case::new("very many answers", words), 3, 20_000);
+        }
+        1..=6 => ("larger program", gen::accepted(rng)),
+        7..=11 => ("program", gen::program(rng)),
         12..=14 => ("larger damaged", gen::damaged(rng)),
         15..=16 => {
             let length = rng.below(60);
@@ -235,22 +254,62 @@ fn around(rng: &mut Rng, mut case: Case, rounds: u32, steps: u32) -> Case {
         case.output = rng.below(10);
         return case;
     };
-    let used = outcome.words.len();
-    case.output = used + rng.below(20);
-    match rng.below(14) {
+    let needed = outcome.trace.needed();
+    case.output = match outcome.answers >= MANY_ANSWERS && rng.chance(60) {
+        true => beside_answers(rng, &outcome),
+        false => needed + rng.below(20),
+    };
+    match rng.below(15) {
         0..=3 => (),
         4 => case.steps = outcome.steps,
         5 => case.steps = outcome.steps + 1,
         6 => case.steps = outcome.steps.saturating_sub(1),
         7 => case.steps = rng.below(outcome.steps as usize + 1) as u32,
-        8 => case.output = used,
-        9 => case.output = used.saturating_sub(1),
-        10 => case.output = rng.below(used + 1),
+        8 => case.output = needed,
+        9 => case.output = needed.saturating_sub(1),
+        10 => case.output = rng.below(needed + 1),
         11 => case.output = 0,
-        12 => case.rounds = outcome.round,
+        // Enough for all that is written; a repeat may need more.
+        12 => case.output = outcome.words.len(),
+        13 => case.rounds = outcome.round,
         _ => case.rounds = outcome.round.saturating_sub(1),
     }
     case
+}
+
+/// So many answers are many: an engine may keep some words for each of them behind those that are written, to find repeats by.
+pub const MANY_ANSWERS: usize = 8;
+
+/// May it keep so many words? A power of two, from 32 on.
+pub fn may_keep(words: usize) -> bool {
+    words >= 32 && words.is_power_of_two()
+}
+
+/// Output words of which, at one of the answers, about as many are left as there are answers, or as a power of two near that, or fewer, or
+/// a few times as many.
+fn beside_answers(rng: &mut Rng, outcome: &Outcome) -> usize {
+    let given = &outcome.trace.given;
+    let places = |wanted: &dyn Fn(&Given) -> bool| -> Vec<usize> {
+        let places = 0..given.len();
+        places.filter(|&at| wanted(&given[at])).collect()
+    };
+    let most = given.iter().map(|given| given.words).max();
+    let longest = places(&|given| Some(given.words) == most);
+    // A word for each answer, and none for another.
+    let full = places(&|given| may_keep(given.written));
+    let at = match rng.below(6) {
+        0..=1 => given.len() - 1,
+        2..=3 => rng.pick(&longest),
+        4 if !full.is_empty() => rng.pick(&full),
+        _ => rng.below(given.len()),
+    };
+    let answers = given[at].written;
+    let fewer = rng.below(answers + 1);
+    let kept = rng.pick(&[answers, answers.next_power_of_two()]);
+    let times = [1, 1, 2, 4, 8].map(|times| times * kept);
+    let left = rng.pick(&[&[0, fewer, fewer], &times[..]].concat());
+    // One less, as many, or one more.
+    given[at].needs() + left + rng.below(3) - 1
 }
 
 /// On either side of a bound.

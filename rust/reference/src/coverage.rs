@@ -1,14 +1,15 @@
 //! What a case covers, found by looking at the case and its result, not by asking how it was made.
 
-use crate::cases::{Case, MADE};
+use crate::cases::{may_keep, Case, MADE, MANY_ANSWERS};
 use crate::fault::Fault;
 use crate::listing;
+use crate::pages;
 use crate::read::{read, Refusal, PROGRAM_WORDS};
-use crate::run::{End, Outcome, ROUND_LIMIT, SCRATCH_WORDS};
+use crate::run::{End, Outcome, OUTPUT_WORDS, ROUND_LIMIT, SCRATCH_WORDS};
 use crate::syntax::{Goal, GoalId, Program, Term, TermId};
-use crate::trace::{Bounded, During, Event, DISTANCES, LAST_BASES, OUTER_VARIABLES};
+use crate::trace::{Bounded, During, Event, Given, DISTANCES, LAST_BASES, OUTER_VARIABLES};
 use crate::word::*;
-use std::collections::BTreeSet;
+use std::collections::{BTreeSet, HashSet};
 
 /// A list of so many elements is long, pairs so deep in first parts are deep.
 const MANY: usize = 100;
@@ -48,7 +49,6 @@ pub fn wanted() -> Vec<String> {
         "occurs check failed",
         "types met",
         "answer in a later round",
-        "answer repeated",
         "answer: open variable in two places",
         "answer: several under one disjunction",
         "line repeated",
@@ -75,6 +75,19 @@ pub fn wanted() -> Vec<String> {
     }
     all.extend(Fault::OF_CHECKS.map(told_apart));
     all.extend([End::Steps, End::Path(5)].map(only_if_entered_again));
+    all.extend(REPEATS.map(String::from));
+    all.extend(DIFFERENCES.map(String::from));
+    all.extend(Fault::OF_REPEATS.map(told_apart));
+    for answers in ANSWERS {
+        for space in SPACES {
+            all.extend(WHICH.map(|which| of_many(which, answers, space)));
+        }
+    }
+    all.extend(LEAPS.as_flattened().iter().map(|leap| leap.to_string()));
+    for which in EITHER {
+        all.push(as_many_left(which));
+        all.extend(EDGES.map(|edge| leaves(which, edge)));
+    }
     all.extend((1..=9).map(|number| format!("refused {number}")));
     for bounded in Bounded::ALL {
         all.extend(["one below", "reached", "exceeded"].map(|what| format!("{bounded:?}: {what}")));
@@ -142,8 +155,12 @@ pub fn covered(case: &Case, result: &Result<Outcome, Refusal>) -> BTreeSet<Strin
             all.extend(bounds(outcome));
             all.extend(events(outcome));
             all.extend(answers(outcome));
+            all.extend(repeats(case, outcome).into_iter().map(String::from));
+            all.extend(differences(outcome).into_iter().map(String::from));
+            all.extend(many_answers(case, outcome));
             all.extend(cuts(outcome));
             all.extend(readings_of_checks(case, outcome));
+            all.extend(readings_of_repeats(case, outcome));
             all.extend(last_word_found(&case.words, outcome));
             let program = read(&case.words).expect("it was run");
             all.extend(syntax(&program));
@@ -231,7 +248,7 @@ fn limits(case: &Case, outcome: &Outcome) -> Vec<&'static str> {
         changed.run().expect("the limits are allowed").end
     };
     let one_too_low = |limited: End, change: fn(&mut Case)| end == limited && with(change) != end;
-    let used = outcome.words.len();
+    let needed = outcome.trace.needed();
     let all_rounds = case.rounds == ROUND_LIMIT;
     let last_round = outcome.round == case.rounds;
     let facts = [
@@ -257,7 +274,7 @@ fn limits(case: &Case, outcome: &Outcome) -> Vec<&'static str> {
             "output: no words, no answer",
         ),
         (
-            end != End::Output && used == case.output && used > 0,
+            end != End::Output && needed == case.output && needed > 0,
             "output: just enough",
         ),
         (
@@ -265,7 +282,7 @@ fn limits(case: &Case, outcome: &Outcome) -> Vec<&'static str> {
             "output: one word short",
         ),
         (
-            end != End::Output && used > 0 && used < case.output,
+            end != End::Output && needed > 0 && needed < case.output,
             "output: longer than needed",
         ),
         (case.scratch == SCRATCH_WORDS, "scratch: just enough"),
@@ -432,19 +449,41 @@ fn readings_of_checks(case: &Case, outcome: &Outcome) -> Vec<String> {
     if !outcome.trace.events.iter().any(twice) {
         return Vec::new();
     }
-    let told = outcome.told();
-    let mut all = Vec::new();
-    for reading in Fault::OF_CHECKS {
-        let other = case.run_with(Some(reading)).expect("the same program");
-        if other.told() != told {
-            all.push(told_apart(reading));
-        }
-        let limited = matches!(other.end, End::Steps | End::Path(5));
-        if reading == Fault::EnteredAgain && limited && other.end != outcome.end {
-            all.push(only_if_entered_again(other.end));
-        }
+    let others = other_runs(case, &Fault::OF_CHECKS);
+    let mut all = told_apart_from(outcome, &others);
+    let (_, again) = &others[0];
+    let limited = matches!(again.end, End::Steps | End::Path(5));
+    if limited && again.end != outcome.end {
+        all.push(only_if_entered_again(again.end));
     }
     all
+}
+
+/// The other readings of Note 2 of document 02 by which the run would be another. Without a repeat it could be so only by those that
+/// take other answers for one. Long runs are left out: there are enough short ones.
+fn readings_of_repeats(case: &Case, outcome: &Outcome) -> Vec<String> {
+    let given = &outcome.trace.given;
+    let readings = match given.iter().any(|given| given.repeats.is_some()) {
+        _ if outcome.steps > 1_000 => &[],
+        true => &Fault::OF_REPEATS[..],
+        false if given.len() > 1 => &Fault::STRIKING,
+        false => &[],
+    };
+    told_apart_from(outcome, &other_runs(case, readings))
+}
+
+/// The runs of the case by these readings.
+fn other_runs(case: &Case, readings: &[Fault]) -> Vec<(Fault, Outcome)> {
+    let run = |reading| case.run_with(Some(reading)).expect("the same program");
+    let runs = readings.iter().map(|&reading| (reading, run(reading)));
+    runs.collect()
+}
+
+/// The readings by which the run is another.
+fn told_apart_from(outcome: &Outcome, others: &[(Fault, Outcome)]) -> Vec<String> {
+    let told = outcome.told();
+    let apart = others.iter().filter(|(_, other)| other.told() != told);
+    apart.map(|(reading, _)| told_apart(*reading)).collect()
 }
 
 fn stopped(during: During, steps: bool) -> String {
@@ -479,19 +518,19 @@ fn events(outcome: &Outcome) -> impl Iterator<Item = String> + '_ {
     })
 }
 
+/// The answers without their headers, each as its query terms and its constraints.
+fn split_answers(outcome: &Outcome) -> impl Iterator<Item = (&[u32], &[u32])> {
+    let answers = pages::answers(&outcome.words).into_iter();
+    answers.map(|place| {
+        let inside = &outcome.words[place][1..];
+        let lines = inside.iter().position(|&word| kind(word) >= EQUAL);
+        inside.split_at(lines.unwrap_or(inside.len()))
+    })
+}
+
 fn answers(outcome: &Outcome) -> Vec<String> {
     let mut all = Vec::new();
-    let mut earlier: BTreeSet<&[u32]> = BTreeSet::new();
-    let mut rest = &outcome.words[..];
-    while let Some(&first) = rest.first() {
-        let (answer, later) = rest.split_at(1 + payload(first) as usize);
-        if !earlier.insert(answer) {
-            all.push("answer repeated".to_string());
-        }
-        let lines = answer
-            .iter()
-            .position(|&word| kind(word) >= EQUAL && kind(word) < ANSWER);
-        let (terms, lines) = answer.split_at(lines.unwrap_or(answer.len()));
+    for (terms, lines) in split_answers(outcome) {
         let variables: Vec<&u32> = terms
             .iter()
             .filter(|&&word| kind(word) == VARIABLE)
@@ -509,10 +548,209 @@ fn answers(outcome: &Outcome) -> Vec<String> {
         for line in lines.windows(2).filter(|line| kind(line[0]) == ABSENTO) {
             all.push(of_tag(kind(line[1]), "listed"));
         }
-        rest = later;
     }
     if outcome.answer_rounds.iter().any(|&round| round >= 2) {
         all.push("answer in a later round".to_string());
+    }
+    all
+}
+
+/// What has to happen to repeats, but for how many answers there are.
+const REPEATS: [&str; 11] = [
+    "repeat in one round",
+    "repeat of an earlier round",
+    "repeat of the answer just before",
+    "repeat with others between",
+    "repeat of an answer of no words",
+    "repeat of an answer with constraints",
+    "repeat just fits",
+    "repeat one word too long",
+    "repeat several words too long",
+    "repeat and no word left",
+    "repeat with the last step",
+];
+
+fn repeats(case: &Case, outcome: &Outcome) -> BTreeSet<&'static str> {
+    let room = case.output.min(OUTPUT_WORDS);
+    let mut all = BTreeSet::new();
+    let lines: Vec<bool> = split_answers(outcome)
+        .map(|(_, lines)| !lines.is_empty())
+        .collect();
+    for given in &outcome.trace.given {
+        let Some(earlier) = given.repeats else {
+            continue;
+        };
+        let facts = [
+            outcome.answer_rounds[earlier] == given.round,
+            outcome.answer_rounds[earlier] < given.round,
+            earlier + 1 == given.written,
+            earlier + 1 < given.written,
+            given.words == 1,
+            lines[earlier],
+            given.needs() == room,
+            given.needs() == room + 1,
+            given.needs() > room + 1,
+            given.used == room,
+            given.steps == case.steps,
+        ];
+        all.extend(holding(facts.into_iter().zip(REPEATS)));
+    }
+    all
+}
+
+/// What two answers of one run have to differ in: one word, of three or more, or of four or more if it is no outer one; or
+/// otherwise in little.
+const DIFFERENCES: [&str; 6] = [
+    "answers differ in the first word",
+    "answers differ in a middle word",
+    "answers differ in the last word",
+    "answers differ in constraints",
+    "answers differ in that one goes on",
+    "answers differ in the order of their words",
+];
+
+fn differences(outcome: &Outcome) -> BTreeSet<&'static str> {
+    let mut all = BTreeSet::new();
+    if outcome.answers < 2 {
+        return all;
+    }
+    // What is left of an answer without that in which it differs from another.
+    let mut left: HashSet<(&str, Vec<u32>)> = HashSet::new();
+    let [first, middle, last, constraints, goes_on, order] = DIFFERENCES;
+    let mut inside: Vec<Vec<u32>> = Vec::new();
+    for (terms, lines) in split_answers(outcome) {
+        let answer = [terms, lines].concat();
+        let end = answer.len().saturating_sub(1);
+        let mut sorted = answer.clone();
+        sorted.sort();
+        let mut add = |what, words| {
+            if !left.insert((what, words)) {
+                all.insert(what);
+            }
+        };
+        add(constraints, terms.to_vec());
+        add(order, sorted);
+        for (place, what, least) in [(0, first, 2), (end / 2, middle, 3), (end, last, 2)] {
+            if answer.len() >= least {
+                let mut without = answer.clone();
+                without[place] = u32::MAX;
+                add(what, without);
+            }
+        }
+        inside.push(answer);
+    }
+    // In order, one that goes on follows what it goes on from.
+    inside.sort();
+    if inside.windows(2).any(|two| two[1].starts_with(&two[0])) {
+        all.insert(goes_on);
+    }
+    all
+}
+
+/// Numbers of answers written, each up to the next.
+const ANSWERS: [usize; 6] = [MANY_ANSWERS, 16, 32, 64, 128, 512];
+
+/// The output words left, by the number of answers written.
+const SPACES: [&str; 5] = [
+    "fewer words left than answers",
+    "as many words left as answers, or more",
+    "twice as many words left, or more",
+    "four times as many words left, or more",
+    "eight times as many words left, or more",
+];
+
+/// An answer that fits, when there are many.
+const WHICH: [&str; 3] = ["new answer", "early answer again", "late answer again"];
+
+/// An answer so long that what it leaves is in the first of the spaces and what it found was not near it, and what comes after. A
+/// repeat is struck: its words are free again.
+const LEAPS: [[&str; 4]; 2] = [
+    [
+        "long answer leaves fewer words than answers",
+        "new answer after the long one",
+        "early answer again after the long one",
+        "late answer again after the long one",
+    ],
+    [
+        "long repeat leaves fewer words than answers",
+        "new answer after the long repeat",
+        "early answer again after the long repeat",
+        "late answer again after the long repeat",
+    ],
+];
+
+/// The same without regard to which it repeats.
+const EITHER: [&str; 2] = ["new answer", "repeat"];
+
+/// The words left behind it, on and around a number that an engine may keep, or want to be free.
+const EDGES: [&str; 3] = [
+    "one word less than a power of two",
+    "as many words as a power of two",
+    "one word more than a power of two",
+];
+
+fn leaves(which: &str, edge: &str) -> String {
+    format!("{which} leaves {edge}")
+}
+
+/// A word kept for each answer, and none to spare: twice as many do not fit.
+fn as_many_left(which: &str) -> String {
+    format!("{which}, a power of two written, as many words left behind it, but not twice as many")
+}
+
+fn of_many(which: &str, answers: usize, space: &str) -> String {
+    format!("{which}, {answers} or more written, {space}")
+}
+
+/// Which of the spaces the words left are.
+fn space(left: usize, answers: usize) -> usize {
+    match left / answers {
+        times @ 0..=1 => times,
+        2..=3 => 2,
+        4..=7 => 3,
+        _ => 4,
+    }
+}
+
+/// What there was among many answers, and how much room beside them.
+fn many_answers(case: &Case, outcome: &Outcome) -> BTreeSet<String> {
+    let room = case.output.min(OUTPUT_WORDS);
+    let mut all = BTreeSet::new();
+    let mut leapt = [false; 2];
+    let many = |given: &&Given| given.written >= MANY_ANSWERS && given.needs() <= room;
+    for given in outcome.trace.given.iter().filter(many) {
+        let written = given.written;
+        // Early and late are the first and the last quarter.
+        let which = match given.repeats {
+            None => Some(0),
+            Some(number) if number < written / 4 => Some(1),
+            Some(number) if number >= written - written / 4 => Some(2),
+            Some(_) => None,
+        };
+        let answers = ANSWERS.iter().rfind(|&&answers| answers <= written);
+        let answers = *answers.expect("they are many");
+        let before = space(room - given.used, written);
+        if let Some(which) = which {
+            all.insert(of_many(WHICH[which], answers, SPACES[before]));
+            let after = leapt.into_iter().zip(LEAPS.map(|leap| leap[1 + which]));
+            all.extend(holding(after).map(String::from));
+        }
+        let either = given.repeats.is_some() as usize;
+        let left = room - given.needs();
+        if before >= 3 && space(left, written) == 0 {
+            all.insert(LEAPS[either][0].to_string());
+            leapt[either] = true;
+        }
+        if may_keep(written) && space(left, written) == 1 {
+            all.insert(as_many_left(EITHER[either]));
+        }
+        // An engine may keep up to four times as many words as answers, once twice these are free.
+        for (edge, name) in EDGES.into_iter().enumerate() {
+            let power = (left + 1).saturating_sub(edge);
+            if may_keep(power) && (written..=8 * written).contains(&power) {
+                all.insert(leaves(EITHER[either], name));
+            }
+        }
     }
     all
 }

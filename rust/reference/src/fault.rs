@@ -36,6 +36,30 @@ pub enum Fault {
     SecondArrivalFree,
     /// A second arrival exceeds the bound of waiting nodes if entering the value would.
     SecondArrivalBounded,
+    /// Every answer is written, as before Note 2 of document 02.
+    RepeatsWritten,
+    /// Answers are compared before the output-full test, so that a repeat needs no room.
+    ComparedBeforeFull,
+    /// An answer is compared with those of its own round alone.
+    ComparedInRound,
+    /// An answer is compared with the last one written alone.
+    ComparedWithLast,
+    /// Of two with the same words the earlier one is struck out.
+    EarlierStruck,
+    /// A repeat takes a step.
+    RepeatTakesStep,
+    /// A repeat is counted as an answer.
+    RepeatCounted,
+    /// A repeat's words are taken from those left.
+    RepeatTakesRoom,
+    /// Answers are compared by their query terms alone, without the constraints.
+    ComparedByTerms,
+    /// Answers with the same words in another order are the same.
+    ComparedInAnyOrder,
+    /// All words but the last are compared.
+    ComparedButLastWord,
+    /// A run is finished once a round gave repeats and no other answer.
+    FinishedWithRepeats,
 }
 
 impl Fault {
@@ -61,6 +85,29 @@ impl Fault {
         Fault::MarksKept,
         Fault::SecondArrivalFree,
         Fault::SecondArrivalBounded,
+    ];
+
+    /// Other readings of Note 2 of document 02. Those of `STRIKING` strike out answers that should stay.
+    pub const OF_REPEATS: [Fault; 12] = [
+        Fault::RepeatsWritten,
+        Fault::ComparedBeforeFull,
+        Fault::ComparedInRound,
+        Fault::ComparedWithLast,
+        Fault::EarlierStruck,
+        Fault::RepeatTakesStep,
+        Fault::RepeatCounted,
+        Fault::RepeatTakesRoom,
+        Fault::ComparedByTerms,
+        Fault::ComparedInAnyOrder,
+        Fault::ComparedButLastWord,
+        Fault::FinishedWithRepeats,
+    ];
+
+    pub const STRIKING: [Fault; 4] = [
+        Fault::EarlierStruck,
+        Fault::ComparedByTerms,
+        Fault::ComparedInAnyOrder,
+        Fault::ComparedButLastWord,
     ];
 }
 

@@ -8,6 +8,7 @@ pub mod gen;
 pub mod listing;
 pub mod pages;
 pub mod read;
+pub mod repeats;
 pub mod run;
 pub mod shared;
 pub mod shrink;

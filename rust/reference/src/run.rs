@@ -5,9 +5,9 @@
 use crate::fault::Fault;
 use crate::read::{read, Refusal};
 use crate::syntax::*;
-use crate::trace::{Bounded, During, Event, Trace, DISTANCES};
+use crate::trace::{Bounded, During, Event, Given, Trace, DISTANCES};
 use crate::word::*;
-use std::collections::{BTreeMap, BTreeSet};
+use std::collections::{BTreeMap, BTreeSet, HashMap};
 
 /// How a run ended.
 #[derive(Clone, Copy, Debug, PartialEq, Eq)]
@@ -103,8 +103,7 @@ pub fn run_with(
         step_limit: steps,
         room: output_len.min(OUTPUT_WORDS),
         steps: 0,
-        answer_rounds: Vec::new(),
-        words: Vec::new(),
+        answers: Answers::default(),
         trace: Trace::default(),
     };
     let mut round = 0;
@@ -114,7 +113,7 @@ pub fn run_with(
             Err(end) => break end,
             Ok(branches) => cut = branches,
         }
-        if cut == 0 || search.has(Fault::FinishedWithoutAnswer) && !search.answered(round) {
+        if cut == 0 || search.finished_too_soon(round) {
             break End::Finished;
         }
         if round == rounds {
@@ -122,13 +121,18 @@ pub fn run_with(
         }
         round += 1;
     };
+    let Answers { rounds, words, .. } = search.answers;
+    let counted = match search.fault {
+        Some(Fault::RepeatCounted) => search.trace.given.len() - (end == End::Output) as usize,
+        _ => rounds.len(),
+    };
     Ok(Outcome {
         end,
         round,
         steps: search.steps,
-        answers: search.answer_rounds.len(),
-        answer_rounds: search.answer_rounds,
-        words: search.words,
+        answers: counted,
+        answer_rounds: rounds,
+        words,
         cut,
         trace: search.trace,
     })
@@ -267,9 +271,19 @@ struct Search<'p> {
     /// Output words that may be used.
     room: usize,
     steps: u32,
-    answer_rounds: Vec<u32>,
-    words: Vec<u32>,
+    answers: Answers,
     trace: Trace,
+}
+
+/// The answers written so far.
+#[derive(Default)]
+struct Answers {
+    /// The round of each.
+    rounds: Vec<u32>,
+    /// Their words, one after the other.
+    words: Vec<u32>,
+    /// What each is compared by, with its number from 0.
+    numbers: HashMap<Vec<u32>, usize>,
 }
 
 impl Search<'_> {
@@ -277,9 +291,17 @@ impl Search<'_> {
         self.fault == Some(fault)
     }
 
-    /// Whether the round, which is the last one so far, gave an answer.
-    fn answered(&self, round: u32) -> bool {
-        self.answer_rounds.last() == Some(&round)
+    /// With an error put in, a run is finished after a round, the last one so far, that cut some branch.
+    fn finished_too_soon(&self, round: u32) -> bool {
+        let gave = |given: &Given| given.round == round;
+        let answered = self.trace.given.last().is_some_and(gave);
+        match self.fault {
+            Some(Fault::FinishedWithoutAnswer) => !answered,
+            Some(Fault::FinishedWithRepeats) => {
+                answered && self.answers.rounds.last() != Some(&round)
+            }
+            _ => false,
+        }
     }
 
     /// One step, unless the limit is used up or the step would exceed the bound given.
@@ -789,14 +811,68 @@ impl Search<'_> {
                 }
             }
         }
+        let terms = inside.len();
         inside.extend(lines.concat());
-        if 1 + inside.len() > self.room - self.words.len() {
+        self.give(part(ANSWER, &[inside]), 1 + terms, round)
+    }
+
+    /// An answer, of which so many words are its header and query terms, is written unless it repeats an earlier one.
+    fn give(&mut self, answer: Vec<u32>, terms: usize, round: u32) -> Result<(), End> {
+        let compared = self.compared(&answer, terms, round);
+        let repeats = self.answers.numbers.get(&compared).copied();
+        let used = self.answers.words.len();
+        self.trace.given.push(Given {
+            round,
+            steps: self.steps,
+            words: answer.len(),
+            used,
+            written: self.answers.rounds.len(),
+            repeats,
+        });
+        // "The output-full test comes before that comparison" (document 02, Note 2): a repeat ends the run too, if it does not fit.
+        let needs_room = repeats.is_none() || !self.has(Fault::ComparedBeforeFull);
+        if answer.len() > self.room - used && needs_room {
             return Err(End::Output);
         }
-        self.words.push(word(ANSWER, inside.len() as u32));
-        self.words.extend(inside);
-        self.answer_rounds.push(round);
+        // "an answer with the same words as an earlier one of the run is not written", and "Comparing counts no steps".
+        if let Some(earlier) = repeats {
+            match self.fault {
+                Some(Fault::RepeatsWritten) => (),
+                Some(Fault::EarlierStruck) => self.answers.strike(earlier),
+                Some(Fault::RepeatTakesStep) => return self.step(None),
+                Some(Fault::RepeatTakesRoom) => {
+                    self.room -= answer.len();
+                    return Ok(());
+                }
+                _ => return Ok(()),
+            }
+        }
+        if self.has(Fault::ComparedWithLast) {
+            self.answers.numbers.clear();
+        }
+        let number = self.answers.rounds.len();
+        self.answers.numbers.insert(compared, number);
+        self.answers.words.extend(answer);
+        self.answers.rounds.push(round);
         Ok(())
+    }
+
+    /// What an answer is compared by: its words, but for an error put in.
+    fn compared(&self, answer: &[u32], terms: usize, round: u32) -> Vec<u32> {
+        let mut compared = answer.to_vec();
+        match self.fault {
+            Some(Fault::ComparedInRound) => compared.push(round),
+            Some(Fault::ComparedByTerms) => {
+                compared.truncate(terms);
+                compared[0] = 0;
+            }
+            Some(Fault::ComparedInAnyOrder) => compared.sort(),
+            Some(Fault::ComparedButLastWord) => {
+                compared.pop();
+            }
+            _ => (),
+        }
+        compared
     }
 
     /// What an answer says of a constraint, without what holds already and what mentions a variable with no name.
@@ -870,6 +946,22 @@ impl Search<'_> {
                 })
             }
             _ => unreachable!("no constraint"),
+        }
+    }
+}
+
+impl Answers {
+    /// With an error put in, the earlier one of two is struck out, and all behind it move up.
+    fn strike(&mut self, number: usize) {
+        let mut from = 0;
+        for _ in 0..number {
+            from += 1 + payload(self.words[from]) as usize;
+        }
+        let behind = from + 1 + payload(self.words[from]) as usize;
+        self.words.drain(from..behind);
+        self.rounds.remove(number);
+        for later in self.numbers.values_mut() {
+            *later -= (*later > number) as usize;
         }
     }
 }

@@ -117,9 +117,33 @@ impl Bounded {
     }
 }
 
+/// An answer of a path, be it written or not.
+#[derive(Clone, Copy, Debug, PartialEq, Eq)]
+pub struct Given {
+    pub round: u32,
+    /// The steps that the run had taken when the writer was through.
+    pub steps: u32,
+    /// The words that it has.
+    pub words: usize,
+    /// The words and the answers written before it.
+    pub used: usize,
+    pub written: usize,
+    /// The number, from 0, of the one among these answers with the same words.
+    pub repeats: Option<usize>,
+}
+
+impl Given {
+    /// The output words without which it does not fit.
+    pub fn needs(&self) -> usize {
+        self.used + self.words
+    }
+}
+
 #[derive(Clone, Debug, Default, PartialEq, Eq)]
 pub struct Trace {
     pub events: BTreeSet<Event>,
+    /// All answers of the run in order, with the one that did not fit.
+    pub given: Vec<Given>,
     /// The branches cut in each round, those of a broken round so far.
     pub cuts: Vec<u32>,
     /// The step of the latest second arrival.
@@ -134,6 +158,11 @@ pub struct Trace {
 impl Trace {
     pub fn note(&mut self, event: Event) {
         self.events.insert(event);
+    }
+
+    /// The output words without which some answer would not have fitted, be it written or not.
+    pub fn needed(&self) -> usize {
+        self.given.iter().map(Given::needs).max().unwrap_or(0)
     }
 
     /// Those of the events that happened.

@@ -1,47 +1,48 @@
 //! The occurs check by Note 10 of document 02: what it claims holds of the reference, and other readings show.
 
+mod readings;
+
+use readings::{show_in_random_cases, show_in_the_table, Shown};
 use reference::cases::{case, Case};
 use reference::gen::Rng;
-use reference::listing::listing;
 use reference::shared;
-use reference::{largest_term, read, table, End, Fault};
+use reference::{largest_term, read, End, Fault};
 
-/// Each other reading with a run of the table on which it shows, and what it would make of that run, worked out by hand.
-const SHOWN: [(Fault, &str, &str); 8] = [
+const SHOWN: [Shown; 8] = [
     (
         Fault::EnteredAgain,
         "one variable twice",
-        "end finished round 0 steps 15 answers 1 cut 0",
+        "end finished round 0 steps 15 answers 1 cut 0 | 15:0",
     ),
     (
         Fault::EnteredAgainInTrials,
         "one variable twice, on trial",
-        "end finished round 0 steps 31 answers 1 cut 0",
+        "end finished round 0 steps 31 answers 1 cut 0 | 15:0",
     ),
     (
         Fault::AbsenceEntersOnce,
         "one variable twice in an absence",
-        "end finished round 0 steps 20 answers 1 cut 0",
+        "end finished round 0 steps 20 answers 1 cut 0 | 15:0",
     ),
     (
         Fault::FirstVariableMarked,
         "one variable for two parameters",
-        "end finished round 1 steps 23 answers 1 cut 0",
+        "end finished round 1 steps 23 answers 1 cut 0 | 15:0",
     ),
     (
         Fault::ValueMarked,
         "one value under two variables",
-        "end finished round 0 steps 18 answers 1 cut 0",
+        "end finished round 0 steps 18 answers 1 cut 0 | 15:0",
     ),
     (
         Fault::MarksKept,
         "one variable for two checks",
-        "end finished round 0 steps 18 answers 1 cut 0",
+        "end finished round 0 steps 18 answers 1 cut 0 | 15:0",
     ),
     (
         Fault::SecondArrivalFree,
         "one variable twice",
-        "end finished round 0 steps 12 answers 1 cut 0",
+        "end finished round 0 steps 12 answers 1 cut 0 | 15:0",
     ),
     (
         Fault::SecondArrivalBounded,
@@ -52,33 +53,12 @@ const SHOWN: [(Fault, &str, &str); 8] = [
 
 #[test]
 fn other_readings_show_in_the_table() {
-    let rows = table::runs();
-    assert_eq!(SHOWN.map(|(reading, ..)| reading), Fault::OF_CHECKS);
-    for (reading, label, told) in SHOWN {
-        let row = rows.iter().find(|row| row.label == label);
-        let case = &row.expect(label).case;
-        let listed = listing(&case.run_with(Some(reading)));
-        assert_eq!(listed.lines().next(), Some(told), "{reading:?}");
-        assert_ne!(listing(&case.run()), listed, "{reading:?}");
-    }
+    show_in_the_table(&Fault::OF_CHECKS, &SHOWN);
 }
 
 #[test]
 fn other_readings_show_in_random_cases() {
-    let mut rng = Rng::new(12);
-    let mut shown = [0; Fault::OF_CHECKS.len()];
-    for _ in 0..10_000 {
-        let case = case(&mut rng);
-        let Ok(outcome) = case.run() else {
-            continue;
-        };
-        for (count, reading) in shown.iter_mut().zip(Fault::OF_CHECKS) {
-            let other = case.run_with(Some(reading)).expect("the same program");
-            *count += (other.told() != outcome.told()) as usize;
-        }
-    }
-    println!("{:?}: {shown:?}", Fault::OF_CHECKS);
-    assert!(shown.iter().all(|&count| count >= 5), "{shown:?}");
+    show_in_random_cases(&Fault::OF_CHECKS, 12, 10_000);
 }
 
 /// "Then one check looks at no more than T times (v + 1) nodes, T being the words of the program's largest term and v the bound

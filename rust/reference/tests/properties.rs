@@ -68,16 +68,24 @@ fn limits_break_off_where_they_must() {
             _ => assert_eq!(full.cut > 0, full.round > 0, "{text}"),
         }
 
-        // Output just long enough, and one word short.
-        let used = full.words.len();
+        // Output just long enough, for a repeat too, and one word short.
+        let needed = full.trace.needed();
         if full.end != End::Output {
-            assert_eq!(run_with(&words, rounds, STEPS, used), full, "{text}");
+            assert_eq!(run_with(&words, rounds, STEPS, needed), full, "{text}");
         }
-        if used > 0 {
-            let short = run_with(&words, rounds, STEPS, used - 1);
+        let first = full.trace.given.iter().find(|one| one.needs() == needed);
+        if let Some(first) = first {
+            let short = run_with(&words, rounds, STEPS, needed - 1);
             assert_eq!(short.end, End::Output, "{text}");
-            assert_eq!(short.answers, full.answers - 1, "{text}");
+            assert_eq!(short.answers, first.written, "{text}");
+            assert_eq!(short.steps, first.steps, "{text}");
             assert!(full.words.starts_with(&short.words), "{text}");
+        }
+        // Without the last word written the last answer is missing.
+        if let Some(less) = full.words.len().checked_sub(1) {
+            let short = run_with(&words, rounds, STEPS, less);
+            assert_eq!(short.end, End::Output, "{text}");
+            assert!(short.answers < full.answers, "{text}");
         }
 
         // A lower round limit gives the answers of its rounds.

@@ -2,6 +2,7 @@
 
 use reference::gen::{pair, part, relation};
 use reference::listing::listing;
+use reference::repeats::all_again;
 use reference::run::SCRATCH_WORDS;
 use reference::table;
 use reference::word::{show, word};
@@ -81,9 +82,8 @@ fn runs_of_document_01() {
     assert_run(H, End::Finished, 0, 12, "");
 
     let c = run_rounds(&table::words(C), 2);
-    let answers = "15:1 2:5 15:1 2:5".to_string();
-    assert_eq!(told(&c), (End::Rounds, 2, 20, answers));
-    assert_eq!(c.answer_rounds, [1, 2]);
+    assert_eq!(told(&c), (End::Rounds, 2, 20, "15:1 2:5".into()));
+    assert_eq!(c.answer_rounds, [1]);
     let c = run_rounds(&table::words(C), 0);
     assert_eq!(told(&c), (End::Rounds, 0, 1, String::new()));
 
@@ -181,12 +181,17 @@ fn output_room() {
         (ended.end, show(&ended.words)),
         (End::Finished, "15:4 0:0 6:2 0:0 2:5".into())
     );
-    // The second answer of two doesn't fit.
+    // A repeat that doesn't fit ends the run too; where it fits, it takes no room, however often it comes.
     let c = table::words(C);
     let ended = run_limited(&c, u32::MAX, 3);
     assert_eq!((ended.end, ended.round, ended.answers), (End::Output, 2, 1));
-    let ended = run(&c, 2, u32::MAX, 4, SCRATCH_WORDS).unwrap();
-    assert_eq!((ended.end, ended.round, ended.answers), (End::Rounds, 2, 2));
+    for rounds in [2, 3, 16] {
+        let ended = run(&c, rounds, u32::MAX, 4, SCRATCH_WORDS).unwrap();
+        assert_eq!(
+            (ended.end, ended.round, ended.answers),
+            (End::Rounds, rounds, 1)
+        );
+    }
     // Words past the usable ones make no difference.
     let ended = run_limited(&a, u32::MAX, usize::MAX);
     assert_eq!(ended.end, End::Finished);
@@ -299,7 +304,7 @@ fn path_2_goals() {
     // A disjunction puts one goal to wait on each path.
     let two = "11:6 5:2 3:0 3:0 5:2 3:0 3:0";
     let ended = run_rounds(&and_then(1021, two), 9);
-    assert_eq!((ended.end, ended.answers), (End::Finished, 2));
+    assert_eq!((ended.end, ended.trace.given.len()), (End::Finished, 2));
     // A call that is cut puts none.
     let call = and_then(1022, "12:1 2:0");
     assert_eq!(run_rounds(&call, 0).end, End::Rounds);
@@ -803,14 +808,40 @@ fn calls_and_parameters() {
     );
 }
 
+/// As in the table's rows on Note 2, and with many answers.
 #[test]
-fn repeated_answers_are_given_again() {
+fn repeated_answers_are_not_written() {
     assert_run(
         "13:9 2:1 2:1 11:6 5:2 0:0 1:7 5:2 0:0 1:7",
         End::Finished,
         0,
         1 + 4 + 4,
-        "15:1 1:7 15:1 1:7",
+        "15:1 1:7",
     );
     assert_run("13:5 2:0 2:0 5:2 3:0 3:0", End::Finished, 0, 2, "15:0");
+    // Each repeat is of the one with its number.
+    let twice = all_again(600);
+    let ended = run_rounds(&twice, 0);
+    let answers = (0..600).flat_map(|number| [word(15, 1), word(2, number)]);
+    assert_eq!(
+        told(&ended),
+        (
+            End::Finished,
+            0,
+            1 + 1_200 * 4,
+            show(&answers.collect::<Vec<u32>>())
+        )
+    );
+    let repeats = ended.trace.given[600..].iter().map(|given| given.repeats);
+    assert!(repeats.eq((0..600).map(Some)));
+    // The first repeat needs two words more, and the others no more than that.
+    for (output, end, steps) in [
+        (1_202, End::Finished, 1 + 1_200 * 4),
+        (1_201, End::Output, 1 + 601 * 4),
+        (1_200, End::Output, 1 + 601 * 4),
+        (1_199, End::Output, 1 + 600 * 4),
+    ] {
+        let ended = run_limited(&twice, u32::MAX, output);
+        assert_eq!((ended.end, ended.steps), (end, steps), "{output}");
+    }
 }

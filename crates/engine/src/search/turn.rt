@@ -13,6 +13,7 @@ ghost use Prim.Native.Nat.{ℕ};
 ghost use Rattle.rules.specs.Syntax.{Program};
 ghost use Rattle.semantics.specs.Steps.{Outcome, done};
 ghost use Rattle.semantics.specs.Path.{Path, ChoicePoint, Taken, goes};
+ghost use Rattle.semantics.specs.Substitution.{argument};
 ghost use Rattle.semantics.specs.Round as definition;
 ghost use Rattle.engine.specs.Take.{PathHeld};
 ghost use Rattle.engine.specs.Turn.{Turning, took-goal, tallied, TurnedAs};
@@ -43,7 +44,7 @@ fn leave_path(program: &[u32], scratch: &mut [u32], st: State, cuts: u32) -> Tur
 fn go_on(program: &[u32], scratch: &mut [u32], st: State, round: u32) -> Turned
     requires { ⌜ ((P : Program) × (p : Path) × (cs : List ChoicePoint) × PathHeld P (now program) (now scratch) st p cs) ⌝ }
     ensures { λ r. ⌜ ((P : Program) (n : ℕ) (p : Path) (cs : List ChoicePoint) (t : definition.Tally) → PathHeld P (now (program .entry)) (now (scratch .entry)) st p cs
-        → TurnedAs P n round (now (program .entry)) (now (scratch .exit)) t (done (goes p cs) (st .steps)) (definition.go-on P n round p (p .stack) cs (definition.spend t (st .steps))) r) ⌝ }
+        → TurnedAs P n round (now (program .entry)) (now (scratch .exit)) t (done (goes p cs) (st .steps)) (definition.go-on (definition.once argument) n round p (p .stack) cs (definition.spend t (st .steps))) r) ⌝ }
 {
     if st.head == 0 {
         if st.calls == round {

@@ -42,7 +42,7 @@ pub(crate) fn same_line(
 }
 
 // Whether the line has the same words as an earlier one of this answer.
-pub(crate) fn repeated(
+pub(crate) fn line_repeated(
     program: &[u32],
     scratch: &[u32],
     output: &mut [u32],
@@ -86,7 +86,7 @@ pub(crate) fn add_line(
         return at;
     }
     if line_named(program, scratch, line) {
-        if repeated(program, scratch, output, line, first, at) {
+        if line_repeated(program, scratch, output, line, first, at) {
             return at;
         }
         match put_line(program, scratch, output, line, at, end, true) {

@@ -1,4 +1,4 @@
-/* Runs document 01's case C from C, and opens its answers on the page; then those of a damaged page and of an empty one. */
+/* Runs document 01's case C with one more alternative from C, and opens its answers on the page; then those of a damaged page and of an empty one. */
 #include "kindcanvas.h"
 
 #include <inttypes.h>
@@ -9,8 +9,8 @@
 #define LENGTH(words) (sizeof(words) / sizeof((words)[0]))
 
 static const uint32_t program[] = {
-    WORD(13, 5), WORD(2, 1),  WORD(2, 1), WORD(12, 2), WORD(2, 1), WORD(0, 0), WORD(13, 9), WORD(2, 1),
-    WORD(2, 1),  WORD(11, 6), WORD(12, 2), WORD(2, 1), WORD(0, 0), WORD(5, 2), WORD(0, 0),  WORD(2, 5),
+    WORD(13, 5), WORD(2, 1),  WORD(2, 1), WORD(12, 2), WORD(2, 1), WORD(0, 0), WORD(13, 12), WORD(2, 1), WORD(2, 1), WORD(11, 9),
+    WORD(12, 2), WORD(2, 1),  WORD(0, 0), WORD(5, 2),  WORD(0, 0), WORD(2, 5), WORD(5, 2),   WORD(0, 0), WORD(1, 7),
 };
 
 /* The second answer lacks a word. */

@@ -24,7 +24,7 @@ use Prim.Native.Nat.{ℕ}
 use mathlib.Core.Path.{_≡_, refl}
 use mathlib.Core.List.{List, [], _∷_}
 use Rattle.semantics.specs.Steps.{variables, goals, disjunctions, constraints, waiting}
-use Rattle.semantics.specs.Round.{finished, rounds-used, steps-used, output-full, path-limit}
+use Rattle.semantics.specs.Round.{finished, rounds-used, steps-used, output-full, path-limit, once}
 use Rattle.semantics.specs.Path.{as-written}
 use Rattle.semantics.specs.Run.{refusal, ran, returns-by}
 ";
@@ -156,7 +156,7 @@ fn row(number: usize, case: &Case, result: &Result<Outcome, Refusal>, unfolding:
         ),
     };
     format!(
-        "\nrow-{number} : returns-by as-written ({}) {} {} {} {} ≡ {report}\n{unfolding}\nrow-{number} = refl\n",
+        "\nrow-{number} : returns-by (once as-written) ({}) {} {} {} {} ≡ {report}\n{unfolding}\nrow-{number} = refl\n",
         list(&case.words),
         case.rounds,
         case.steps,

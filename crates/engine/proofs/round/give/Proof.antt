@@ -1,7 +1,7 @@
--- `give` has the writer write a path's answer, and backtracks.
+-- `give` has the writer write a path's answer, lists it unless it is a repeat, and backtracks.
 use mathlib.Core.List.{[]}
-use native.Mathlib.Omega.{arith}
-use Rattle.engine.proofs.RoundLaws.{gives-full, gives-steps-out, gives-path-out, wrote, wrote-held, none-left, gives-last, gives-next}
+use mathlib.Core.Path.{_∙_}
+use Rattle.engine.proofs.RoundLaws.{gives-full, gives-steps-out, gives-path-out, wrote, after-listing, listed-held, none-left, gives-last, gives-next}
 use borrow.Author.Needs.{needs}
 use Rattle.engine.proofs.round.give.Statement.{statement}
 use Rattle.engine.proofs.round.give.Tie as tie
@@ -27,39 +27,49 @@ enum-known-left-2 c = search needs
 broken-requires-3 : tie.Need-broken-requires-3
 broken-requires-3 c κs = search needs
 
-enum-known-words : tie.Need-enum-known-words
-enum-known-words c = search needs
+enum-known-next : tie.Need-enum-known-next
+enum-known-next c = search needs
+
+list-answer-requires : tie.Need-list-answer-requires
+list-answer-requires c κs =
+    let q = c .before .before .before .before .before .before .before .before .before .before .before .before .before .before .pre in
+    let writer = c .before .before .before .before .before .before .before .before in
+    let said = writer .write-answer .ensures (q .0) (q .1) (q .2) (q .4 .answering) in
+    (_, q .3, said .words, wrote (q .4) 0 (writer .write-answer .kept .1 .1 .0) said (c .before .before .next .given .1))
 
 with-counts-requires : tie.Need-with-counts-requires
 with-counts-requires c κs = search needs
 
 backtrack-requires : tie.Need-backtrack-requires
 backtrack-requires c κs =
-    let q = c .before .before .before .before .before .before .before .before .before .before .before .before .before .before .before .pre in
-    let writer = c .before .before .before .before .before .before .before .before .before in
-    let said = writer .write-answer .ensures (q .0) (q .1) (q .2) (q .4 .answering) in
-    let y = wrote (q .4) 0 (writer .write-answer .kept .1 .1 .0) said (c .before .before .before .words .given .1) in
-    (q .0, q .1, q .2, wrote-held (q .4) 0 (writer .write-answer .kept .1 .1 .0) said y _ (c .before .with-counts .ensures))
+    let q = c .before .before .before .before .before .before .before .before .before .before .before .before .before .before .before .before .before .before .before .pre in
+    let listing = c .before .before .before .before in
+    let writer = listing .before .before .before .before .before .before .before .before .before in
+    let said = writer .write-answer .ensures (q .0) (q .1) (q .2) ((q .4) .answering) in
+    let same = writer .write-answer .kept .1 .1 .0 in
+    let is-written = listing .before .before .before .next .given .1 in
+    let y = after-listing (q .4) 0 same said is-written (listing .list-answer .ensures _ 0 _ (q .3) (said .words) (wrote (q .4) 0 same said is-written)) in
+    (q .0, q .1, q .2, listed-held (q .4) 0 same said y _ (c .before .with-counts .ensures))
 
 enum-told-2 : tie.Need-enum-told-2
 enum-told-2 c = search needs
 
-add-completed : tie.Need-add-completed
-add-completed c = omega (arith, c .before .before .before .before .before .before .before .before .before .before .before .before .before .before .before .before .before .before .before .before .before .pre .4 .fits)
-
 completed-requires : tie.Need-completed-requires
 completed-requires c κs =
-    let q = c .before .before .before .before .before .before .before .before .before .before .before .before .before .before .before .before .before .before .before .before .before .pre in
-    let writer = c .before .before .before .before .before .before .before .before .before .before .before .before .before .before .before in
-    let said = writer .write-answer .ensures (q .0) (q .1) (q .2) (q .4 .answering) in
-    let y = wrote (q .4) 0 (writer .write-answer .kept .1 .1 .0) said (c .before .before .before .before .before .before .before .before .before .words .given .1) in
+    let q = c .before .before .before .before .before .before .before .before .before .before .before .before .before .before .before .before .before .before .before .before .before .before .before .before .before .pre in
+    let listing = c .before .before .before .before .before .before .before .before .before .before in
+    let writer = listing .before .before .before .before .before .before .before .before .before in
+    let said = writer .write-answer .ensures (q .0) (q .1) (q .2) ((q .4) .answering) in
+    let same = writer .write-answer .kept .1 .1 .0 in
+    let is-written = listing .before .before .before .next .given .1 in
+    let y = after-listing (q .4) 0 same said is-written (listing .list-answer .ensures _ 0 _ (q .3) (said .words) (wrote (q .4) 0 same said is-written)) in
     let is = c .before .before .before .before .before .before .before .with-counts .ensures in
-    let led = c .before .before .before .before .before .backtrack .ensures (q .0) (q .1) (q .2) (y .tally) (wrote-held (q .4) 0 (writer .write-answer .kept .1 .1 .0) said y _ is) in
-    let o = none-left (q .4) 0 (writer .write-answer .kept .1 .1 .0) said y _ is _ _ led (c .before .enum-told2 .given .1) in
+    let led = c .before .before .before .before .before .backtrack .ensures (q .0) (q .1) (q .2) (y .tally) (listed-held (q .4) 0 same said y _ is) in
+    let o = none-left (q .4) 0 same said y _ is _ _ led (c .before .enum-told2 .given .1) in
     (q .0, _, o .path, [], o .held)
 
-enum-known-next : tie.Need-enum-known-next
-enum-known-next c = search needs
+enum-known-resumed : tie.Need-enum-known-resumed
+enum-known-resumed c = search needs
 
 same-length : tie.Need-same-length
 same-length c = search needs
@@ -105,29 +115,35 @@ same-length-8 c = search needs
 
 returns-4 : tie.Need-returns-4
 returns-4 c = λ P k p cs a g.
-    let writer = c .before .before .before .before .before .before .before .before .before .before .before .before .before .before .before .before .before .before in
+    let listing = c .before .before .before .before .before .before .before .before .before .before .before .before .before in
+    let writer = listing .before .before .before .before .before .before .before .before .before in
     let said = writer .write-answer .ensures P p cs (g .answering) in
-    let y = wrote g k (writer .write-answer .kept .1 .1 .0) said (c .before .before .before .before .before .before .before .before .before .before .before .before .words .given .1) in
+    let same = writer .write-answer .kept .1 .1 .0 in
+    let is-written = listing .before .before .before .next .given .1 in
+    let y = after-listing g k same said is-written (listing .list-answer .ensures _ k _ a (said .words) (wrote g k same said is-written)) in
     let is = c .before .before .before .before .before .before .before .before .before .before .with-counts .ensures in
-    let led = c .before .before .before .before .before .before .before .before .backtrack .ensures P p cs (y .tally) (wrote-held g k (writer .write-answer .kept .1 .1 .0) said y _ is) in
+    let led = c .before .before .before .before .before .before .before .before .backtrack .ensures P p cs (y .tally) (listed-held g k same said y _ is) in
     let over = c .before .before .before .before .enum-told2 .given .1 in
-    let o = none-left g k (writer .write-answer .kept .1 .1 .0) said y _ is _ _ led over in
-    rw (c .before .before .completed .ensures .0) (gives-last g k (writer .write-answer .kept .1 .1 .0) said y _ is _ _ led over (c .before .before .completed .ensures .1 P _ (o .path) [] (o .held)))
+    let o = none-left g k same said y _ is _ _ led over in
+    rw (c .before .before .completed .ensures .0) (gives-last g k same said y _ is _ _ led over (c .before .before .completed .ensures .1 P _ (o .path) [] (o .held)))
 
 same-length-9 : tie.Need-same-length-9
-same-length-9 c = search needs
+same-length-9 c = c .before .before .before .before .before .backtrack .kept .1 .0 ∙ c .before .before .before .before .before .before .before .before .before .before .before .before .before .before .before .before .before .before .before .write-answer .kept .1 .0
 
 same-length-10 : tie.Need-same-length-10
-same-length-10 c = search needs
+same-length-10 c = c .before .before .before .before .before .before .before .before .before .before .list-answer .kept .0 ∙ c .before .before .before .before .before .before .before .before .before .before .before .before .before .before .before .before .before .before .before .write-answer .kept .1 .1 .0
 
 returns-5 : tie.Need-returns-5
 returns-5 c = λ P k p cs a g.
-    let writer = c .before .before .before .before .before .before .before .before .before .before .before .before .before .before .before in
+    let listing = c .before .before .before .before .before .before .before .before .before .before in
+    let writer = listing .before .before .before .before .before .before .before .before .before in
     let said = writer .write-answer .ensures P p cs (g .answering) in
-    let y = wrote g k (writer .write-answer .kept .1 .1 .0) said (c .before .before .before .before .before .before .before .before .before .words .given .1) in
+    let same = writer .write-answer .kept .1 .1 .0 in
+    let is-written = listing .before .before .before .next .given .1 in
+    let y = after-listing g k same said is-written (listing .list-answer .ensures _ k _ a (said .words) (wrote g k same said is-written)) in
     let is = c .before .before .before .before .before .before .before .with-counts .ensures in
-    let led = c .before .before .before .before .before .backtrack .ensures P p cs (y .tally) (wrote-held g k (writer .write-answer .kept .1 .1 .0) said y _ is) in
-    gives-next g k (writer .write-answer .kept .1 .1 .0) said y _ is _ _ led (c .before .next .given .1)
+    let led = c .before .before .before .before .before .backtrack .ensures P p cs (y .tally) (listed-held g k same said y _ is) in
+    gives-next g k same said y _ is _ _ led (c .before .resumed .given .1)
 
 pub give-spec : {M : Type 1} → statement M
 give-spec =
@@ -140,13 +156,13 @@ give-spec =
     broken-requires-2
     enum-known-left-2
     broken-requires-3
-    enum-known-words
+    enum-known-next
+    list-answer-requires
     with-counts-requires
     backtrack-requires
     enum-told-2
-    add-completed
     completed-requires
-    enum-known-next
+    enum-known-resumed
     same-length
     same-length-2
     returns

@@ -1,7 +1,6 @@
 -- `round` goes from answer to answer: a search from the state reached ends as the round does.
 use mathlib.Core.Path.{_≡_, refl, _∙_}
 use mathlib.Core.List.{[]}
-use native.Mathlib.Omega.{arith}
 use lib.ListN.{length}
 use Rattle.rules.specs.Syntax.{Program, Relation}
 use Rattle.semantics.specs.Round as definition
@@ -12,23 +11,23 @@ use Rattle.engine.proofs.round.round.Statement.{statement}
 use Rattle.engine.proofs.round.round.Tie as tie
 
 abbrev Inv-loop : tie.InvT-loop
-Inv-loop program scratch₀ output₀ query number params state₀ goal₀ used₀ answers₀ cuts₀ scratch output state goal used answers cuts =
+Inv-loop program scratch₀ output₀ query number params state₀ goal₀ filled₀ cuts₀ scratch output state goal filled cuts =
     (length scratch ≡ length scratch₀) × (length output ≡ length output₀)
-    × ((P : Program) (R : Relation) (a : definition.Tally) → Starting program scratch₀ output₀ P query R number (record { left = state₀ .steps; used = used₀; answers = answers₀ }) a
-    → Rounding program P R number params a scratch output state goal used answers cuts)
+    × ((P : Program) (R : Relation) (a : definition.Tally) → Starting program scratch₀ output₀ P query R number (record { left = state₀ .steps; filled = filled₀ }) a
+    → Rounding program P R number params a scratch output state goal filled cuts)
 
 abbrev μ-loop : tie.MeasureT-loop
-μ-loop program scratch₀ output₀ query number params state₀ goal₀ used₀ answers₀ cuts₀ scratch output state goal used answers cuts = state .steps
+μ-loop program scratch₀ output₀ query number params state₀ goal₀ filled₀ cuts₀ scratch output state goal filled cuts = state .steps
 
 relation-requires : tie.Need-relation-requires Inv-loop μ-loop
 relation-requires c κs = let x = c .before .before .before .before .pre in (x .0, x .1, x .3 .ready .clean .table, x .3 .ready .query-is, x .3 .ready .clean .long)
 
 loop-holds : tie.Need-loop-holds Inv-loop μ-loop
-loop-holds c = (refl, refl, λ P R a h. round-starts h (c .relation .ensures P R (h .ready .clean .table) (h .ready .query-is)))
+loop-holds c = (refl, refl, λ P R a h. round-starts h (c .before .relation .ensures P R (h .ready .clean .table) (h .ready .query-is)))
 
 search-requires : tie.Need-search-requires Inv-loop μ-loop
 search-requires c κs =
-    let q = c .before .before .before .before .before .before .before .pre in
+    let q = c .before .before .before .before .before .before .before .before .pre in
     let h = c .before .loop .inv .2 (q .0) (q .1) (q .2) (q .3) in
     (q .0, h .well-formed, _, h .state, h .under)
 
@@ -60,7 +59,7 @@ enum-known-last c = search needs
 completed-requires : tie.Need-completed-requires Inv-loop μ-loop
 completed-requires c κs =
     let searched = c .before .before .before .before .before .before in
-    let q = c .before .before .before .before .before .before .before .before .before .before .before .before .before .before .pre in
+    let q = c .before .before .before .before .before .before .before .before .before .before .before .before .before .before .before .pre in
     let h = searched .before .before .loop .inv .2 (q .0) (q .1) (q .2) (q .3) in
     let told = searched .search .ensures (q .0) (h .well-formed) _ (h .state) (h .fuel) (h .under) (h .enough) in
     let o = over-held h _ _ told (c .before .before .last .given .1) in
@@ -87,7 +86,7 @@ enum-known-last-2 c = search needs
 give-requires : tie.Need-give-requires Inv-loop μ-loop
 give-requires c κs =
     let searched = c .before .before .before .before .before .before .before in
-    let q = c .before .before .before .before .before .before .before .before .before .before .before .before .before .before .before .pre in
+    let q = c .before .before .before .before .before .before .before .before .before .before .before .before .before .before .before .before .pre in
     let h = searched .before .before .loop .inv .2 (q .0) (q .1) (q .2) (q .3) in
     let told = searched .search .ensures (q .0) (h .well-formed) _ (h .state) (h .fuel) (h .under) (h .enough) in
     let x = round-answers h _ _ told (c .before .before .before .last2 .given .1) in
@@ -114,19 +113,10 @@ returns-3 c = λ P R a i.
 enum-known-next : tie.Need-enum-known-next Inv-loop μ-loop
 enum-known-next c = search needs
 
-add-answers : tie.Need-add-answers Inv-loop μ-loop
-add-answers c =
-    let searched = c .before .before .before .before .before .before .before .before .before .before .before .before .before .before .before in
-    let q = c .before .before .before .before .before .before .before .before .before .before .before .before .before .before .before .before .before .before .before .before .before .before .before .pre in
-    let h = searched .before .before .loop .inv .2 (q .0) (q .1) (q .2) (q .3) in
-    let told = searched .search .ensures (q .0) (h .well-formed) _ (h .state) (h .fuel) (h .under) (h .enough) in
-    let x = round-answers h _ _ told (c .before .before .before .before .before .before .before .before .before .before .before .last2 .given .1) in
-    omega (arith, round-gives h x .fits)
-
 loop-less : tie.Need-loop-less Inv-loop μ-loop
 loop-less c =
     let searched = c .before .before .before .before .before .before .before .before .before .before .before .before .before .before .before in
-    let q = c .before .before .before .before .before .before .before .before .before .before .before .before .before .before .before .before .before .before .before .before .before .before .before .pre in
+    let q = c .before .before .before .before .before .before .before .before .before .before .before .before .before .before .before .before .before .before .before .before .before .before .before .before .pre in
     let h = searched .before .before .loop .inv .2 (q .0) (q .1) (q .2) (q .3) in
     let told = searched .search .ensures (q .0) (h .well-formed) _ (h .state) (h .fuel) (h .under) (h .enough) in
     let x = round-answers h _ _ told (c .before .before .before .before .before .before .before .before .before .before .before .last2 .given .1) in
@@ -173,6 +163,5 @@ round-spec =
     same-length-6
     returns-3
     enum-known-next
-    add-answers
     loop-less
     loop-again)

@@ -16,7 +16,7 @@ abbrev μ-loop : tie.MeasureT-loop
 μ-loop program scratch₀ output₀ query limit steps number₀ cut₀ tally₀ scratch output number cut tally = limit - number
 
 loop-holds : tie.Need-loop-holds Inv-loop μ-loop
-loop-holds c = (refl, refl, start-going _ _ _ _ _ _ _ refl refl refl (omega arith))
+loop-holds c = (refl, refl, start-going _ _ _ _ _ _ _ refl refl (omega arith))
 
 round-requires : tie.Need-round-requires Inv-loop μ-loop
 round-requires c κs = let q = c .before .before .before .before .before .before .pre in (q .0, q .1, _, starting (c .before .before .loop .inv .2) (q .2))

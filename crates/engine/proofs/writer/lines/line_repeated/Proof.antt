@@ -8,9 +8,10 @@ use Rattle.semantics.specs.Answer.{Line, line-in, line-words, any-same}
 use Rattle.engine.specs.Term.{Puts}
 use Rattle.engine.specs.Line.{LineAs}
 use Rattle.engine.specs.Lines.{Rows}
-use Rattle.engine.proofs.AddLineLaws.{puts-between, Row, row-next, row-end, row-found, row-on, row-moved}
-use Rattle.engine.proofs.writer.lines.repeated.Statement.{statement}
-use Rattle.engine.proofs.writer.lines.repeated.Tie as tie
+use Rattle.engine.proofs.RowLaws.{Row, row-next, row-end, row-found, row-on, row-moved}
+use Rattle.engine.proofs.AddLineLaws.{puts-between}
+use Rattle.engine.proofs.writer.lines.line_repeated.Statement.{statement}
+use Rattle.engine.proofs.writer.lines.line_repeated.Tie as tie
 
 abbrev Inv-loop : tie.InvT-loop
 Inv-loop program scratch output₀ line first at place₀ output place = (output ≡ output₀) × ((ws : List (List ℕ)) (l : Line) (names : List ℕ) → Rows output₀ first at ws → LineAs program scratch line l → Puts scratch output₀ first at names (line-in names l)
@@ -78,8 +79,8 @@ same-length-2 c = ap length (c .before .loop .inv .0)
 returns-2 : tie.Need-returns-2 Inv-loop μ-loop
 returns-2 c = (c .before .loop .inv .0, λ ws l names h i g. row-end (c .before .loop .inv .1 ws l names h i g) (c .loop-test .left))
 
-pub repeated-spec : {M : Type 1} → statement M
-repeated-spec =
+pub line-repeated-spec : {M : Type 1} → statement M
+line-repeated-spec =
     tie.close
     (tie.spec
     Inv-loop

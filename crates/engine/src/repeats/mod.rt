@@ -1,0 +1,5 @@
+// Whether an answer repeats an earlier one.
+mod hash;
+mod index;
+pub(crate) mod repeated;
+mod same;

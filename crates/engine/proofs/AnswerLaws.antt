@@ -49,7 +49,7 @@ use Rattle.engine.proofs.TrailLaws.{fresh-few}
 use Rattle.engine.proofs.FrameLaws.{bindings-same, kept-same}
 use Rattle.engine.proofs.StoredLaws.{trailed, rebound, stored-binds}
 use Rattle.engine.proofs.NameLaws.{names-apart}
-use Rattle.engine.proofs.TermLaws.{room-same, untouched, touched-then, laid-of, missing-of}
+use Rattle.engine.proofs.TermLaws.{room-same, untouched, touched-wide, laid-of, missing-of}
 use Rattle.engine.proofs.AddLineLaws.{page-over, lines-listed}
 use Rattle.engine.proofs.QueryLaws.{binds-named}
 
@@ -98,12 +98,12 @@ module _ {o : List ℕ} (start : ℕ) {end : ℕ} {head : List ℕ} where
           whole = λ _. tt;
           begins = λ _. d .is;
           over = λ q. absurd (omega arith);
-          touched = touched-then (start + 1) next (start + 1) end (start + 1) end (omega arith) (omega arith) (omega arith) (omega arith) (d .touched) (untouched o′ (start + 1) end);
+          touched = touched-wide (start + 1) end (omega arith) (omega arith) (d .touched);
         }
 
 -- the page ends
 wider : {o₀ o : List ℕ} {start end : ℕ} → Touched o₀ o (start + 1) end → Touched o₀ o start end
-wider {o₀} {o} {start} {end} t = touched-then (start + 1) end start end start end (omega arith) (omega arith) (omega arith) (omega arith) t (untouched o start end)
+wider {o₀} {o} {start} {end} t = touched-wide start end (omega arith) (omega arith) t
 
 module _ (o₀ o : List ℕ) (start end : ℕ) (v : List ℕ) (r : Added) where
   pub ended-steps : r ≡ added.StepsOut → EndedAs o₀ o o start end v r answered.StepsOut
@@ -119,7 +119,7 @@ module _ (o₀ o : List ℕ) (start end : ℕ) (v : List ℕ) (r : Added) where
   ended-written {o′} {place} {left} h e f p = record {
     says = rw (e, le-ltb end place f) refl;
     written = λ n l z. let k : place ≡ n = cc in subst (Laid o₀ o′ start end true (part 15 v)) k laid;
-    touched = λ _. touched-then start place start end start end (omega arith) (omega arith) (omega arith) (omega arith) (laid .touched) (untouched o′ start end);
+    touched = λ _. touched-wide start end (omega arith) (omega arith) (laid .touched);
   }
     where
       placed : {q : Put} → Placed o₀ o′ start end true (part 15 v) q → place ≡ start + 1 + length v → Laid o₀ o′ start end true (part 15 v) place

@@ -4,15 +4,12 @@ use mathlib.Core.Path.{_≡_, refl, sym, ap, subst, _∙_}
 use mathlib.Core.Bool.{Bool, true, false, false≢true}
 use mathlib.Core.List.{List, [], _∷_, _++_, append-assoc, append-nil}
 use native.Mathlib.Omega.{arith}
-use lib.ListN.{length, take, drop, length-append, length-drop, List·getD-append}
-use lib.Seq.{getD-take, getD-drop, getD-append-add, length-take-le}
+use lib.ListN.{length, length-append}
 use Rattle.word.specs.Word.{payload}
 use Rattle.rules.specs.Lists.{joined}
 use Rattle.rules.specs.Inner.{Spells}
 use Rattle.rules.proofs.Spelled.{stands-at as spells-at, stands-append as spells-append}
-use Rattle.semantics.specs.Run.{zeroed}
 use Rattle.semantics.proofs.Basics.{joined-more}
-use Rattle.semantics.proofs.ZeroedLaws.{zeroed-length, zeroed-below, zeroed-beyond}
 use Rattle.engine.specs.Reference.{at}
 use Rattle.engine.specs.Term.{Touched}
 use Rattle.engine.specs.Lines.{Whole, Wholes, Stretch, Rows}
@@ -20,35 +17,9 @@ use Rattle.engine.specs.Run.{cleared}
 use Rattle.engine.specs.Index.{AnswerAt, Index, Table, Seeking, EnteredAs, BuiltAs}
 use Rattle.engine.specs.declared.repeats.index.Entered.{Entered}
 use Rattle.engine.specs.declared.repeats.index.Entered.the-variants as entered
-use Rattle.engine.proofs.TermLaws.{untouched, touched-then, spells-same, room-same}
+use Rattle.engine.proofs.TermLaws.{untouched, touched-twice, spells-same, room-same}
+use Rattle.engine.proofs.ClearLaws.{cleared-zero, cleared-touched}
 use Rattle.engine.proofs.RowLaws.{wholes-snoc, FirstRow, rows-first, rows-end, header-counts}
-
--- words that are cleared
-module _ (o : List ℕ) (from to : ℕ) (l : from ≤ to) (m : to ≤ length o) where
-  first-length : length (take from o) ≡ from
-  first-length = length-take-le from o (omega arith)
-
-  cleared-from : (j : ℕ) → at (cleared o from to) (from + j) ≡ at (zeroed (to - from) (drop from o)) j
-  cleared-from j = subst (λ n. at (cleared o from to) (n + j) ≡ at (zeroed (to - from) (drop from o)) j) first-length (getD-append-add (take from o) (zeroed (to - from) (drop from o)) j 0)
-
-  cleared-zero : (i : ℕ) → from ≤ i → i < to → at (cleared o from to) i ≡ 0
-  cleared-zero i p q = let e : from + (i - from) ≡ i = omega arith in subst (λ n. at (cleared o from to) n ≡ 0) e (cleared-from (i - from) ∙ zeroed-below (to - from) (drop from o) (i - from) (omega arith))
-
-  cleared-beyond : (i : ℕ) → to ≤ i → at (cleared o from to) i ≡ at o i
-  cleared-beyond i p =
-      let n : ℕ = to - from in
-      let k : ℕ = i - to in
-      let e : from + (n + k) ≡ i = omega arith in
-      let d : List ℕ = drop from o in
-      let z : at (zeroed n d) (n + k) ≡ at d (n + k) = sym (getD-drop n (zeroed n d) k 0) ∙ ap (λ x. at x k) (zeroed-beyond n d) ∙ getD-drop n d k 0 in
-      subst (λ j. at (cleared o from to) j ≡ at o j) e (cleared-from (n + k) ∙ z ∙ getD-drop from o (n + k) 0)
-
-  cleared-touched : Touched o (cleared o from to) from to
-  cleared-touched = record {
-    below = λ i p. List·getD-append (take from o) (zeroed (to - from) (drop from o)) 0 i (omega (arith, first-length)) ∙ getD-take from o i 0 p;
-    above = cleared-beyond;
-    long = length-append (take from o) (zeroed (to - from) (drop from o)) ∙ omega (arith, first-length, zeroed-length (to - from) (drop from o), length-drop from o);
-  }
 
 -- answers stay where nothing is touched, and there is one more behind them
 pub rows-kept : {o o′ : List ℕ} {first to : ℕ} {ws : List (List ℕ)} → ((i : ℕ) → i < to → at o′ i ≡ at o i) → Rows o first to ws → Rows o′ first to ws
@@ -104,9 +75,9 @@ emptied {o} {o₀} {used} {table} {size} t e = subst (λ x. Emptied o x used tab
     c = cleared-touched o table (table + size) (omega arith) (t .room .inside)
 
 pub built-from : {o o₀ o′ : List ℕ} {used table size : ℕ} {ws : List (List ℕ)} {r : Bool} → Emptied o o₀ used table size → BuiltAs o₀ o′ table size ws r → BuiltAs o o′ table size ws r
-built-from {table = table} {size = size} e h = record {
+built-from e h = record {
   yes = h .yes;
-  touched = touched-then table (table + size) table (table + size) table (table + size) (omega arith) (omega arith) (omega arith) (omega arith) (e .touched) (h .touched);
+  touched = touched-twice (e .touched) (h .touched);
 }
 
 module _ {o₀ o : List ℕ} {place used table size : ℕ} {ws : List (List ℕ)} (g : Building o₀ o place used table size ws) where
@@ -142,7 +113,7 @@ module _ {o₀ o : List ℕ} {place used table size : ℕ} {ws : List (List ℕ)
 
       module _ {o′ : List ℕ} {r : Entered} (t : Table o₀ used table size) (h : EnteredAs o o′ table size (g .done) (first .one) r) where
         touched-now : Touched o₀ o′ table (table + size)
-        touched-now = touched-then table (table + size) table (table + size) table (table + size) (omega arith) (omega arith) (omega arith) (omega arith) (g .touched) (h .touched)
+        touched-now = touched-twice (g .touched) (h .touched)
 
         pub building-not : BuiltAs o₀ o′ table size ws false
         building-not = record { yes = λ q. absurd (false≢true q); touched = touched-now }

@@ -2,7 +2,6 @@
 use Prim.Native.Nat.{ℕ, _+_, _*_, _<_, _≤_}
 use mathlib.Core.Path.{_≡_, refl, sym, ap, _∙_}
 use mathlib.Core.List.{List, [], _∷_}
-use native.Mathlib.Nat.{mul-lt-mul-of-pos-right}
 use native.Mathlib.Omega.{arith}
 use Rattle.rules.specs.Inner.{Spells}
 use Rattle.engine.specs.Reference.{at}
@@ -39,7 +38,3 @@ module _ {o : List ℕ} {place to hash goal : ℕ} (g : Hashing o place to hash 
   pub hashing-end : to ≤ place → hash ≡ goal
   unfolding hash-from
   hashing-end l = ap (hash-from hash) (sym (stretch-end (g .rest) (g .here) l)) ∙ g .is
-
--- a number below 2^32 as a slot
-pub slot-less : (x size : ℕ) → x < 4294967296 → 0 < size → x * size < 4294967296 * size
-slot-less x size l some = mul-lt-mul-of-pos-right l some

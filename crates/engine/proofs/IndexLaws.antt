@@ -1,9 +1,10 @@
 -- The index: its entries lead to answers.
-use Prim.Native.Nat.{ℕ, _+_, _-_, _%_, _<_, _≤_}
+use Prim.Native.Nat.{ℕ, _+_, _-_, _*_, _%_, _<_, _≤_}
 use mathlib.Core.Path.{_≡_, refl, sym, ap, subst, _∙_}
 use mathlib.Core.Bool.{Bool, true, false}
 use mathlib.Core.List.{List, [], _∷_, _++_}
 use mathlib.Core.Logic.{_⊎_, ⊎-elim}
+use native.Mathlib.Nat.{mul-lt-mul-of-pos-right}
 use native.Mathlib.Omega.{arith}
 use lib.Dec.{eqb}
 use lib.ListN.{drop, length-set, set}
@@ -17,14 +18,16 @@ use Rattle.engine.specs.Index.{hash-from, home, next-slot, Leads, here, 
 use Rattle.engine.specs.declared.repeats.index.Entered.{Entered}
 use Rattle.engine.specs.declared.repeats.index.Entered.the-variants as entered
 use Rattle.engine.proofs.TermLaws.{untouched}
-use Rattle.engine.proofs.HashLaws.{slot-less}
 use Rattle.engine.proofs.SameLaws.{whole-one, EarlierAnswer, answer-stands, same-at, at-same, at-more, at-last, at-one-more}
 
 next-less : (size slot : ℕ) → slot < size → next-slot size slot < size
 next-less size slot l = by-choose (λ x. x < size) (eqb (slot + 1) size) (λ _. 0) (λ _. slot + 1) (λ e. omega arith) (λ e. omega (arith, eqb-false (slot + 1) size e))
 
 pub home-less : (size : ℕ) (w : List ℕ) → 0 < size → home size w < size
-home-less size w l = let h = slot-less (hash-from 0 (drop 1 w) % 4294967296) size (omega arith) l in omega arith
+home-less size w l =
+    let low : hash-from 0 (drop 1 w) % 4294967296 < 4294967296 = omega arith in
+    let h : hash-from 0 (drop 1 w) % 4294967296 * size < 4294967296 * size = mul-lt-mul-of-pos-right low l in
+    omega arith
 
 -- entries that are not empty stay
 abbrev pub Stays : List ℕ → List ℕ → ℕ → ℕ → Type 0
@@ -51,7 +54,7 @@ module _ {o : List ℕ} {start next table size : ℕ} {ws : List (List ℕ)} {v 
   module _ {slot : ℕ} (h : Sought o table size slot ws v) where
     -- an entry is that of an earlier answer
     module _ (s : ¬ (at o (table + slot) ≡ 0)) where
-      entry-answer : (w : List ℕ) × EarlierAnswer o 0 start (at o (table + slot) - 1) w × AnswerAt 0 ws (at o (table + slot) - 1) w
+      entry-answer : (w : List ℕ) × EarlierAnswer o start (at o (table + slot) - 1) w × AnswerAt 0 ws (at o (table + slot) - 1) w
       entry-answer = let a = g .index .entries slot (h .low) (omega arith) in (a .0, answer-stands ws (g .earlier) (a .1), a .1)
 
       pub entry-before : at o (table + slot) - 1 ≤ start

@@ -62,26 +62,30 @@ module _ {o output : List ℕ} {f : Filled} {next : ℕ} {a : Tally} {ws : List 
     kept : (n : ℕ) → n ≤ next → take n output′ ≡ take n output
     kept n h = take-same n output output′ same (λ i j. told .touched .below i (omega arith))
 
+    -- the output is filled so, with this tally
+    abbrev Listed : Filled → Tally → Type 0
+    Listed f′ t = FilledAs output′ f′ t × IndexAs output′ f′ t
+
     -- what the definition lists
     listed : {b : Bool} → is-repeated r ≡ b → choose b (λ _. spend a l) (λ _. write a k l ws) ≡ list-answer (once argument) a k l ws
     listed e = ap (λ b. choose b (λ _. spend a l) (λ _. write a k l ws)) (sym e ∙ told .says)
 
-    pub is-repeat : {index : ℕ} → r ≡ Repeated index → FilledAs output′ (record { used = f .used; answers = f .answers; index = index }) (list-answer (once argument) a k l ws) × IndexAs output′ (record { used = f .used; answers = f .answers; index = index }) (list-answer (once argument) a k l ws)
+    pub is-repeat : {index : ℕ} → r ≡ Repeated index → Listed (record { used = f .used; answers = f .answers; index = index }) (list-answer (once argument) a k l ws)
     is-repeat {index} e =
         let (fits, indexed) = told .repeated index e in
-        subst (λ t. FilledAs output′ (record { used = f .used; answers = f .answers; index = index }) t × IndexAs output′ (record { used = f .used; answers = f .answers; index = index }) t) (listed (ap is-repeated e)) (
+        subst (Listed (record { used = f .used; answers = f .answers; index = index })) (listed (ap is-repeated e)) (
           record { used = g .before .used; room = omega (arith, g .before .room, g .same-length, same); answers = g .before .answers; page-is = kept (f .used) (omega (arith, g .stands .used-now)) ∙ page-here },
           record { whole = g .index .whole; fits = omega (arith, fits, end-is); indexed = subst (λ e. Indexed output′ e index (words-of (a .written))) end-is indexed },
         )
 
-    pub is-new : {index : ℕ} → r ≡ New index → FilledAs output′ (record { used = next; answers = f .answers + 1; index = index }) (list-answer (once argument) a k l ws) × IndexAs output′ (record { used = next; answers = f .answers + 1; index = index }) (list-answer (once argument) a k l ws)
+    pub is-new : {index : ℕ} → r ≡ New index → Listed (record { used = next; answers = f .answers + 1; index = index }) (list-answer (once argument) a k l ws)
     is-new {index} e =
         let (fits, indexed) = told .new index e in
         let more : page (a .written ++ ((k, ws) ∷ [])) ≡ page (a .written) ++ ws = page-more (a .written) k ws in
         let words-more : length (page (a .written ++ ((k, ws) ∷ []))) ≡ length (page (a .written)) + length ws = ap length more ∙ length-append (page (a .written)) ws in
         let one-more : length (a .written ++ ((k, ws) ∷ [])) ≡ length (a .written) + 1 = length-append (a .written) ((k, ws) ∷ []) in
         let words-are : words-of (a .written ++ ((k, ws) ∷ [])) ≡ words-of (a .written) ++ (ws ∷ []) = map-append (λ b. b .1) (a .written) ((k, ws) ∷ []) in
-        subst (λ t. FilledAs output′ (record { used = next; answers = f .answers + 1; index = index }) t × IndexAs output′ (record { used = next; answers = f .answers + 1; index = index }) t) (listed (ap is-repeated e)) (
+        subst (Listed (record { used = next; answers = f .answers + 1; index = index })) (listed (ap is-repeated e)) (
           record {
             used = omega (arith, words-more, g .stands .used-now, g .before .used);
             room = omega (arith, g .stands .used-now, g .stands .fits, g .before .room, g .same-length, same);

@@ -13,7 +13,7 @@ use Rattle.engine.specs.declared.repeats.index.Entered.{Entered}
 use Rattle.engine.specs.declared.repeats.index.Entered.the-variants as entered
 use Rattle.engine.specs.declared.repeats.repeated.Compared.{Compared}
 use Rattle.engine.specs.declared.repeats.repeated.Compared.the-variants.{Repeated, New}
-use Rattle.engine.proofs.TermLaws.{untouched, touched-then, spells-same, room-same}
+use Rattle.engine.proofs.TermLaws.{untouched, touched-wide, touched-twice, spells-same, room-same}
 use Rattle.engine.proofs.IndexLaws.{leads-kept, home-less}
 use Rattle.engine.proofs.BuildLaws.{rows-kept, rows-more}
 
@@ -31,10 +31,6 @@ indexed-kept {o} {o′} {end} {index} {ws} k l h s = record {
     there : (slot : ℕ) → slot < index → at o′ (end - index + slot) ≡ at o (end - index + slot)
     there slot m = k (end - index + slot) (omega arith) (omega arith)
 
--- touched parts, seen as larger ones
-touched-wide : {o o′ : List ℕ} (a b from to : ℕ) → from ≤ a → b ≤ to → Touched o o′ a b → Touched o o′ from to
-touched-wide {o′ = o′} a b from to p q h = touched-then a b a b from to p q p q h (untouched o′ a b)
-
 -- a longer index
 module _ {o : List ℕ} {used end index : ℕ} {ws : List (List ℕ)} (g : Fitting o used end index ws) where
   pub fitted-same : FittedAs o o used end ws index
@@ -50,7 +46,7 @@ module _ {o : List ℕ} {used end index : ℕ} {ws : List (List ℕ)} (g : Fitti
 
     module _ {o′ : List ℕ} {r : Bool} (b : BuiltAs o o′ (end - size) size ws r) where
       built-touched : Touched o o′ used end
-      built-touched = let f : used + index ≤ end = g .fits in touched-wide (end - size) (end - size + size) used end (omega arith) (omega arith) (b .touched)
+      built-touched = let f : used + index ≤ end = g .fits in touched-wide used end (omega arith) (omega arith) (b .touched)
 
       pub fitted-longer : r ≡ true → FittedAs o o′ used end ws size
       fitted-longer e = record { fits = omega (arith, g .fits); indexed = λ _. b .yes e; touched = built-touched }
@@ -72,7 +68,7 @@ module _ {o : List ℕ} {used next end index : ℕ} {ws : List (List ℕ)} {v : 
     says = e;
     repeated = λ i q. clash (cc);
     new = λ i q. let z : index′ ≡ i = cc in subst (λ x. (next + x ≤ end) × Indexed o′ end x (ws ++ (v ∷ []))) z (f .fits, f .indexed);
-    touched = touched-then next end next end next end (omega arith) (omega arith) (omega arith) (omega arith) t (f .touched);
+    touched = touched-twice t (f .touched);
   }
 
   -- it repeats one
@@ -105,7 +101,7 @@ module _ {o : List ℕ} {used next end index : ℕ} {ws : List (List ℕ)} {v : 
       says = h .says;
       repeated = h .repeated;
       new = h .new;
-      touched = touched-then next end next end next end (omega arith) (omega arith) (omega arith) (omega arith) t (h .touched);
+      touched = touched-twice t (h .touched);
     }
 
   -- it is sought in the index
@@ -121,7 +117,7 @@ module _ {o : List ℕ} {used next end index : ℕ} {ws : List (List ℕ)} {v : 
 
     module _ {o₁ : List ℕ} {r : Entered} (e : EnteredAs o o₁ (end - index) index ws v r) where
       pub entered-touched : Touched o o₁ next end
-      entered-touched = touched-wide (end - index) (end - index + index) next end (omega (arith, g .fits)) (omega (arith, g .fits)) (e .touched)
+      entered-touched = touched-wide next end (omega (arith, g .fits)) (omega (arith, g .fits)) (e .touched)
 
       pub compared-found : r ≡ entered.Repeated → ComparedAs o o₁ used next end ws v (Repeated index)
       compared-found q =

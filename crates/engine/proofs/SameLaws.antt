@@ -82,13 +82,12 @@ module _ {o : List ℕ} {place to : ℕ} {v : List ℕ} {goal r : Bool} (g : Row
   among-next e {next} is = subst (λ p. Row o p to v goal) (omega (arith, is)) (row-on first is-first e)
 
 -- an answer at a place
-pub record EarlierAnswer (o : List ℕ) (first to place : ℕ) (w : List ℕ) : Type 0 where
+pub record EarlierAnswer (o : List ℕ) (to place : ℕ) (w : List ℕ) : Type 0 where
   pub words : Spells o place w
   pub whole : Whole w
-  pub from : first ≤ place
   pub inside : place < to
 
-pub answer-stands : {o : List ℕ} {first to place : ℕ} {w : List ℕ} (ws : List (List ℕ)) → Rows o first to ws → AnswerAt first ws place w → EarlierAnswer o first to place w
+pub answer-stands : {o : List ℕ} {first to place : ℕ} {w : List ℕ} (ws : List (List ℕ)) → Rows o first to ws → AnswerAt first ws place w → EarlierAnswer o to place w
 unfolding AnswerAt rows-cons
 answer-stands [] h a = absurd a
 answer-stands {o} {first} {to} {place} {w} (x ∷ xs) h a =
@@ -96,8 +95,8 @@ answer-stands {o} {first} {to} {place} {w} (x ∷ xs) h a =
     let long : length x ≡ suc (length (n .whole .rest)) = ap length (n .whole .is) in
     let ends : to ≡ first + length x + length (joined xs) = n .later .stretch .ends in
     ⊎-elim
-    (λ e. record { words = subst (λ p. Spells o p w) (sym (e .0)) (subst (Spells o first) (sym (e .1)) (n .here .words)); whole = subst Whole (sym (e .1)) (n .whole); from = omega (arith, e .0); inside = omega (arith, e .0) })
-    (λ b. let r = answer-stands xs (n .later) b in record { words = r .words; whole = r .whole; from = omega (arith, r .from); inside = r .inside })
+    (λ e. record { words = subst (λ p. Spells o p w) (sym (e .0)) (subst (Spells o first) (sym (e .1)) (n .here .words)); whole = subst Whole (sym (e .1)) (n .whole); inside = omega (arith, e .0) })
+    (answer-stands xs (n .later))
     a
 
 -- an answer is among others just if it stands there

@@ -30,6 +30,15 @@ use Rattle.engine.proofs.NamingLaws.{FollowedAs, told-open, told-leaf, 
 pub untouched : (o : List ℕ) (from to : ℕ) → Touched o o from to
 untouched o from to = record { below = λ i l. refl; above = λ i l. refl; long = refl }
 
+-- as a larger part
+pub touched-wide : {o o′ : List ℕ} {a b : ℕ} (from to : ℕ) → from ≤ a → b ≤ to → Touched o o′ a b → Touched o o′ from to
+touched-wide from to p q h = record { below = λ i l. h .below i (omega arith); above = λ i l. h .above i (omega arith); long = h .long }
+
+-- the same part twice
+pub touched-twice : {o o₁ o₂ : List ℕ} {from to : ℕ} → Touched o o₁ from to → Touched o₁ o₂ from to → Touched o o₂ from to
+touched-twice h i = record { below = λ k l. i .below k l ∙ h .below k l; above = λ k l. i .above k l ∙ h .above k l; long = i .long ∙ h .long }
+
+-- two parts, within one
 pub touched-then : {o o₁ o₂ : List ℕ} (a b c d from to : ℕ) → from ≤ a → b ≤ to → from ≤ c → d ≤ to → Touched o o₁ a b → Touched o₁ o₂ c d → Touched o o₂ from to
 touched-then a b c d from to p q r s h i = record {
   below = λ k l. i .below k (omega arith) ∙ h .below k (omega arith);
@@ -68,7 +77,7 @@ module _ {o o′ : List ℕ} {place end w : ℕ} {write r : Bool} (h : WordPut o
   missed-last e = some-missing (record {
     no-room = λ q. absurd (true≢false (sym q ∙ h .no e .0));
     differs = λ q l s. h .no e .1 (s .0);
-    touched = touched-then place (place + 1) place end place end (omega arith) (omega arith) (omega arith) (omega arith) (h .touched) (untouched o′ place end);
+    touched = touched-wide place end (omega arith) (omega arith) (h .touched);
     read-only = h .read-only;
   })
 
@@ -142,7 +151,7 @@ module _ {o o₁ : List ℕ} {place end : ℕ} (w : ℕ) {write : Bool} {v : Lis
       record {
         no-room = λ k. omega (arith, h .no-room k);
         differs = λ k l s. h .differs k (omega arith) (spells-split o (place + 1) v rest (s .1) .0);
-        touched = touched-then (place + 1) end (place + 1) end place end (omega arith) (omega arith) (omega arith) (omega arith) (h .touched) (untouched o₁ (place + 1) end);
+        touched = touched-wide place end (omega arith) (omega arith) (h .touched);
         read-only = h .read-only;
       }
 
@@ -273,7 +282,7 @@ unfolding Spells
 missed-part {o} {o₁} {place} {end} h = record {
   no-room = λ k. omega (arith, h .no-room k);
   differs = λ k l s. h .differs k (omega arith) (s .1);
-  touched = touched-then (place + 1) end (place + 1) end place end (omega arith) (omega arith) (omega arith) (omega arith) (h .touched) (untouched o₁ (place + 1) end);
+  touched = touched-wide place end (omega arith) (omega arith) (h .touched);
   read-only = h .read-only;
 }
 

@@ -71,13 +71,14 @@ module _ (pass : Passing) (P : Program) (n k : ℕ) where
       (λ r. back-beside cs (write t k l ws) (next (write t k l ws) (ap listed r))))
       (λ q f. absurd (f refl))
     where
+      -- what is written then, if it is a repeat and if not
       listed : Bool → List Answer
       listed c = choose c (λ _. t .written) (λ _. t .written ++ ((k, ws) ∷ []))
 
-      added : strike [] (b .written ++ ((k, ws) ∷ [])) ≡ choose (repeats ws (t .written)) (λ _. t .written) (λ _. t .written ++ ((k, ws) ∷ []))
+      added : strike [] (b .written ++ ((k, ws) ∷ [])) ≡ listed (repeats ws (t .written))
       added = strike-one (b .written) (k, ws) ∙ ap (λ (xs : List Answer). choose (repeats ws xs) (λ _. xs) (λ _. xs ++ ((k, ws) ∷ []))) (sym (b .is-struck))
 
-      next : (u : Tally) → choose (repeats ws (t .written)) (λ _. t .written) (λ _. t .written ++ ((k, ws) ∷ [])) ≡ u .written → Beside u
+      next : (u : Tally) → listed (repeats ws (t .written)) ≡ u .written → Beside u
       next u e = record { room = write (beside b) k l ws .room; written = b .written ++ ((k, ws) ∷ []); is-struck = sym (added ∙ e) }
 
   go-on-beside : (p : Path) (tasks : List Task) (cs : List ChoicePoint) (t : Tally) (b : Beside t) → NextBeside (go-on (once pass) n k p tasks cs t) (go-on (endless-before-2 pass) n k p tasks cs (beside b))

@@ -20,8 +20,7 @@ uint32_t kindcanvas_run(const uint32_t *program, size_t program_words, uint32_t 
                         uint32_t *numbers, size_t numbers_words);
 
 /* The answer of this number, from 0, is page[*start] up to but without page[*end], its header too. Returns 0, or the refusal's
-   number: 10 if it is not there, 17 if it or one before it is not terms followed by constraints; then *start and *end are both its
-   place. A page may come from anywhere: each word is read three times at most, and a small stack is enough. */
+   number, 10; then *start and *end are both its place. */
 uint32_t kindcanvas_view(const uint32_t *page, size_t page_words, uint32_t answer, size_t *start, size_t *end);
 
 #endif

@@ -2,7 +2,7 @@
 use Prim.Native.Nat.{ℕ, suc, ◌+◌, ◌<◌, ◌≤◌}
 use mathlib.Core.Path.{◌≡◌, refl, sym, ap, subst, ◌∙◌}
 use mathlib.Core.Bool.{Bool, true, false, ◌&&◌, ◌||◌, not}
-use mathlib.Core.List.{List, [], ◌∷◌, ◌++◌, append_assoc, append-nil, map}
+use mathlib.Core.List.{List, [], ◌∷◌, ◌++◌, append_assoc, append-nil}
 use native.Mathlib.Omega.{arith}
 use lib.ListN.{length, length-append}
 use Rattle.rules.specs.Lists.{joined}
@@ -11,7 +11,7 @@ use Rattle.rules.specs.Syntax.{empty, var, atom}
 use Rattle.rules.specs.Written.{part, sort_kind, atom_word, term_words, goal_words, goals_words}
 use Rattle.rules.specs.Inner.{Spells}
 use Rattle.rules.proofs.Spelled.{stands_at as Spells_at, stands_split as spells_split}
-use Rattle.semantics.specs.Answer.{index, reify, reify_bindings, differ_goals, Line, is_sort, lacks, not_all, line_in, line_words, same_words, any_same, listed, stays}
+use Rattle.semantics.specs.Answer.{index, reify, reify_bindings, differ_goals, Line, is_sort, lacks, not_all, line_in, line_words, lines_words, same_words, any_same, listed, stays}
 use Rattle.semantics.proofs.Repeats.{same_refl, same_true}
 use Rattle.semantics.proofs.Basics.{by_choose, joined_more}
 use Rattle.engine.specs.Reference.{at}
@@ -72,7 +72,7 @@ module _ (names : List ℕ) (ws : List (List ℕ)) (l : Line) where
   unfolding add_line
   line_repeats e f = rw (e, f)
 
-  pub add_longer : length (joined ws) ≤ length (joined (add_line names ws l))
+  add_longer : length (joined ws) ≤ length (joined (add_line names ws l))
   unfolding add_line
   add_longer = by_choose (λ (xs : List (List ℕ)). length (joined ws) ≤ length (joined xs)) (stays names ws l) _ _
       (λ q. omega (arith, ap length (joined_more ws (line_words names l)), length-append (joined ws) (line_words names l))) (λ q. omega arith)
@@ -168,20 +168,20 @@ any_snoc v w (x ∷ ws) = ap (λ b. same_words v x || b) (any_snoc v w ws) ∙ s
     swap false true c = refl
     swap false false c = refl
 
-pub rows_listed : (names : List ℕ) (ws before : List (List ℕ)) (ls : List Line) → ((v : List ℕ) → any_same v ws ≡ any_same v before) → add_lines names ws ls ≡ ws ++ map (line_words names) (listed names before ls)
+pub lines_listed : (names : List ℕ) (ws before : List (List ℕ)) (ls : List Line) → ((v : List ℕ) → any_same v ws ≡ any_same v before) → joined (add_lines names ws ls) ≡ joined ws ++ lines_words names (listed names before ls)
 unfolding add_lines add_line
-rows_listed names ws before [] e = sym (append-nil ws)
-rows_listed names ws before (l ∷ ls) e =
-    subst (λ c. add_lines names (choose c (λ _. ws ++ (v ∷ [])) (λ _. ws)) ls ≡ ws ++ map (line_words names) (listed names before (l ∷ ls)))
-    (ap (λ b. line_in names l && not b) (sym (e v)))
+lines_listed names ws before [] e = sym (append-nil (joined ws))
+lines_listed names ws before (l ∷ ls) e =
+    subst (λ c. joined (add_lines names (choose c (λ _. ws ++ (line_words names l ∷ [])) (λ _. ws)) ls) ≡ joined ws ++ lines_words names (listed names before (l ∷ ls)))
+    (ap (λ b. line_in names l && not b) (sym (e (line_words names l))))
     (go (stays names before l)
-    (rows_listed names (ws ++ (v ∷ [])) (v ∷ before) ls (λ u. any_snoc u v ws ∙ ap (λ b. same_words u v || b) (e u)))
-    (rows_listed names ws before ls e))
+    (lines_listed names (ws ++ (line_words names l ∷ [])) (line_words names l ∷ before) ls (λ v. any_snoc v (line_words names l) ws ∙ ap (λ b. same_words v (line_words names l) || b) (e v)))
+    (lines_listed names ws before ls e))
   where
     v : List ℕ
     v = line_words names l
 
-    go : (b : Bool) → add_lines names (ws ++ (v ∷ [])) ls ≡ (ws ++ (v ∷ [])) ++ map (line_words names) (listed names (v ∷ before) ls) → add_lines names ws ls ≡ ws ++ map (line_words names) (listed names before ls)
-        → add_lines names (choose b (λ _. ws ++ (v ∷ [])) (λ _. ws)) ls ≡ ws ++ map (line_words names) (choose b (λ _. l ∷ listed names (v ∷ before) ls) (λ _. listed names before ls))
-    go true h i = h ∙ append_assoc ws (v ∷ []) (map (line_words names) (listed names (v ∷ before) ls))
+    go : (b : Bool) → joined (add_lines names (ws ++ (v ∷ [])) ls) ≡ joined (ws ++ (v ∷ [])) ++ lines_words names (listed names (v ∷ before) ls) → joined (add_lines names ws ls) ≡ joined ws ++ lines_words names (listed names before ls)
+        → joined (add_lines names (choose b (λ _. ws ++ (v ∷ [])) (λ _. ws)) ls) ≡ joined ws ++ lines_words names (choose b (λ _. l ∷ listed names (v ∷ before) ls) (λ _. listed names before ls))
+    go true h i = h ∙ ap (λ x. x ++ lines_words names (listed names (v ∷ before) ls)) (joined_more ws v) ∙ append_assoc (joined ws) v (lines_words names (listed names (v ∷ before) ls))
     go false h i = i

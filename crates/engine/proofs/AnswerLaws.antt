@@ -16,7 +16,7 @@ use Rattle.rules.specs.Written.{part}
 use Rattle.rules.specs.Inner.{Spells}
 use Rattle.rules.proofs.Spelled.{stands_getD as spells_getD}
 use Rattle.semantics.specs.Substitution.{Substitution, resolve}
-use Rattle.semantics.specs.Steps.{waiting, no_steps, at_bound, done, stop, and_then}
+use Rattle.semantics.specs.Steps.{waiting, no_steps, at_bound, Outcome, done, stop, and_then}
 use Rattle.semantics.specs.Path.{Path, ChoicePoint}
 use Rattle.semantics.specs.Run.{usable}
 use Rattle.semantics.specs.Answer.{vars_in, Line, parameters, query_terms, names_of, answer_words, look_through, all_lines, answer}
@@ -30,29 +30,27 @@ use Rattle.engine.specs.Trail.{Apart}
 use Rattle.engine.specs.Review.{ConstraintsHeld}
 use Rattle.engine.specs.Names.{top_from, word_from, Distinct, Names, NamesGiven, Named}
 use Rattle.engine.specs.Term.{Room, Touched, Laid, Placed, all_laid, some_missing}
-use Rattle.engine.specs.Lines.{Wholes, AnswerSoFar, Writing}
+use Rattle.engine.specs.Lines.{add_lines, Wholes, AnswerSoFar, Writing}
 use Rattle.engine.specs.Query.{Known, query_words, Query}
 use Rattle.engine.specs.Look.{ThroughAs}
-use Rattle.engine.specs.Constraint.{AddedAs}
+use Rattle.engine.specs.Constraint.{added_says, AddedAs}
 use Rattle.engine.specs.Take.{PathHeld, registers}
-use Rattle.engine.specs.Answer.{Answering, AnswerLeft, answer_says, AnswerStands, AnsweredAs, LinesListed, told_says, told_words, WordsStand, Ends, ToldAs, answer_end, EndedAs}
+use Rattle.engine.specs.Answer.{Answering, AnswerLeft, answer_says, AnswerStands, AnsweredAs, Ends, answer_end, EndedAs}
 use Rattle.engine.specs.declared.search.state.State.{State}
 use Rattle.engine.specs.declared.writer.term.Put.{Put}
 use Rattle.engine.specs.declared.writer.term.Put.TheVariants.{End, Missed}
 use Rattle.engine.specs.declared.writer.look.LookedThrough.{LookedThrough}
 use Rattle.engine.specs.declared.writer.look.LookedThrough.TheVariants as looked
 use Rattle.engine.specs.declared.writer.constraint.Added.{Added}
-use Rattle.engine.specs.declared.writer.answer.Told.{Told}
-use Rattle.engine.specs.declared.writer.answer.Told.TheVariants as told
+use Rattle.engine.specs.declared.writer.constraint.Added.TheVariants as added
 use Rattle.engine.specs.declared.writer.answer.Answered.{Answered}
 use Rattle.engine.specs.declared.writer.answer.Answered.TheVariants as answered
-use Rattle.engine.proofs.TrailLaws.{fresh_few, apart_trans}
-use Rattle.engine.proofs.ReviewSteps.{kept_again}
+use Rattle.engine.proofs.TrailLaws.{fresh_few}
 use Rattle.engine.proofs.FrameLaws.{bindings_same, kept_same}
 use Rattle.engine.proofs.StoredLaws.{trailed, rebound, stored_binds}
-use Rattle.engine.proofs.NameLaws.{names_apart, given_apart}
-use Rattle.engine.proofs.TermLaws.{room_same, untouched, touched_wide, touched_then, laid_of, missing_of}
-use Rattle.engine.proofs.AddLineLaws.{page_over}
+use Rattle.engine.proofs.NameLaws.{names_apart}
+use Rattle.engine.proofs.TermLaws.{room_same, untouched, touched_wide, laid_of, missing_of}
+use Rattle.engine.proofs.AddLineLaws.{page_over, lines_listed}
 use Rattle.engine.proofs.QueryLaws.{binds_named}
 
 -- the first words of a list, by what stands at each place
@@ -107,53 +105,44 @@ module _ {o : List ℕ} (start : ℕ) {end : ℕ} {head : List ℕ} where
 wider : {o₀ o : List ℕ} {start end : ℕ} → Touched o₀ o (start + 1) end → Touched o₀ o start end
 wider {o₀} {o} {start} {end} t = touched_wide start end (omega arith) (omega arith) t
 
--- Words that stand, as `put_head` asks for them
-pub words_laid : {o₀ o : List ℕ} {start end : ℕ} {v : List ℕ} {place reached : ℕ} → WordsStand o₀ o start end v place reached → Laid o o (start + 1) end true v place
-words_laid {o = o} {start = start} {place = place} h = record { is = h.words.ends; fits = omega (arith, h.within, h.fits); words = h.words.words; touched = untouched o (start + 1) place; read_only = λ _. refl }
+module _ (o₀ o : List ℕ) (start end : ℕ) (v : List ℕ) (r : Added) where
+  pub ended_steps : r ≡ added.StepsOut → EndedAs o₀ o o start end v r answered.StepsOut
+  ended_steps e = record { says = rw e refl; written = λ n l q. clash (cc); touched = λ t. wider t }
 
-module _ (o₀ o : List ℕ) (start end : ℕ) (v : List ℕ) (r : Told) where
-  pub ended_steps : r ≡ told.StepsOut → EndedAs o₀ o o start end v r answered.StepsOut
-  ended_steps e = record { says = rw e refl; written = λ n k l q. clash (cc); touched = λ t. wider t }
+  pub ended_path : {left : ℕ} → r ≡ added.WaitingOut left → EndedAs o₀ o o start end v r (answered.WaitingOut left)
+  ended_path e = record { says = rw e refl; written = λ n l q. clash (cc); touched = λ t. wider t }
 
-  pub ended_path : {left : ℕ} → r ≡ told.WaitingOut left → EndedAs o₀ o o start end v r (answered.WaitingOut left)
-  ended_path e = record { says = rw e refl; written = λ n k l q. clash (cc); touched = λ t. wider t }
+  pub ended_full : {place left : ℕ} → r ≡ added.Done place left → end < place → EndedAs o₀ o o start end v r (answered.Full left)
+  ended_full {place} e f = record { says = rw (e, lt-ltb end place f) refl; written = λ n l q. clash (cc); touched = λ t. wider t }
 
-  pub ended_full : {place reached left : ℕ} → r ≡ told.Done place reached left → end < place → EndedAs o₀ o o start end v r (answered.Full left)
-  ended_full {place} e f = record { says = rw (e, lt-ltb end place f) refl; written = λ n k l q. clash (cc); touched = λ t. wider t }
-
-  pub ended_written : {o' : List ℕ} {place reached left : ℕ} {q : Put} → Ends o₀ o start end v r → r ≡ told.Done place reached left → place ≤ end → Placed o o' start end true (part 15 v) q
-      → EndedAs o₀ o o' start end v r (answered.Written place reached left)
-  ended_written {o'} {place} {reached} {left} h e f p = record {
+  pub ended_written : {o' : List ℕ} {place left : ℕ} {q : Put} → Ends o₀ o start end v r → r ≡ added.Done place left → place ≤ end → Placed o₀ o' start end true (part 15 v) q → EndedAs o₀ o o' start end v r (answered.Written place left)
+  ended_written {o'} {place} {left} h e f p = record {
     says = rw (e, le-ltb end place f) refl;
-    written = λ n k l z. let x : place ≡ n = cc in let y : reached ≡ k = cc in subst (λ m. Laid o o' start end true (part 15 v) m × WordsStand o₀ o start end v m k) x (laid, subst (WordsStand o₀ o start end v place) y here);
-    touched = λ t. touched_then (start + 1) end start end start end (omega arith) (omega arith) (omega arith) (omega arith) t (touched_wide start end (omega arith) (omega (arith, laid.fits)) laid.touched);
+    written = λ n l z. let k : place ≡ n = cc in subst (Laid o₀ o' start end true (part 15 v)) k laid;
+    touched = λ _. touched_wide start end (omega arith) (omega arith) laid.touched;
   }
     where
-      here : WordsStand o₀ o start end v place reached
-      here = h place reached left e f
-
-      placed : {q : Put} → Placed o o' start end true (part 15 v) q → place ≡ start + 1 + length v → Laid o o' start end true (part 15 v) place
-      placed (all_laid {e = k} l) a = let z : k ≡ place = omega (arith, l.is) in subst (Laid o o' start end true (part 15 v)) z l
+      placed : {q : Put} → Placed o₀ o' start end true (part 15 v) q → place ≡ start + 1 + length v → Laid o₀ o' start end true (part 15 v) place
+      placed (all_laid {e = k} l) a = let z : k ≡ place = omega (arith, l.is) in subst (Laid o₀ o' start end true (part 15 v)) z l
       placed (some_missing m) a = absurd (omega (arith, m.no_room refl))
 
-      laid : Laid o o' start end true (part 15 v) place
-      laid = placed p here.words.ends
+      laid : Laid o₀ o' start end true (part 15 v) place
+      laid = placed p (h place left e f).is
 
 -- no room: the lines end behind the page's end
-record Overrun (end : ℕ) (r : Told) (left : ℕ) : Type 0 where
+record Overrun (end : ℕ) (r : Added) (left : ℕ) : Type 0 where
   pub place : ℕ
-  pub reached : ℕ
-  pub is : r ≡ told.Done place reached left
+  pub is : r ≡ added.Done place left
   pub beyond : end < place
 
-overrun : (end : ℕ) (r : Told) (l : ℕ) → answered.Full l ≡ answer_end end r → Overrun end r l
-overrun end (told.Done place reached left) l e = go (ltb end place) refl e
+overrun : (end : ℕ) (r : Added) (l : ℕ) → answered.Full l ≡ answer_end end r → Overrun end r l
+overrun end (added.Done place left) l e = go (ltb end place) refl e
   where
-    go : (b : Bool) → ltb end place ≡ b → answered.Full l ≡ choose b (λ _. answered.Full left) (λ _. answered.Written place reached left) → Overrun end (told.Done place reached left) l
-    go true q f = let z : left ≡ l = cc in record { place = place; reached = reached; is = ap (told.Done place reached) z; beyond = ltb-true end place q }
+    go : (b : Bool) → ltb end place ≡ b → answered.Full l ≡ choose b (λ _. answered.Full left) (λ _. answered.Written place left) → Overrun end (added.Done place left) l
+    go true q f = let z : left ≡ l = cc in record { place = place; is = ap (added.Done place) z; beyond = ltb-true end place q }
     go false q f = clash (cc)
-overrun end told.StepsOut l e = clash (cc)
-overrun end (told.WaitingOut left) l e = clash (cc)
+overrun end added.StepsOut l e = clash (cc)
+overrun end (added.WaitingOut left) l e = clash (cc)
 
 -- names: none before, none after
 pub unnamed : {s : List ℕ} → Nameless s → Names s 0 []
@@ -179,12 +168,18 @@ each_resolved Q bs (t ∷ ts) e = (e.0, each_resolved Q bs ts e.1)
 pub query_known : (bs : Substitution) (n : ℕ) → Known bs (names_of bs n) n
 query_known bs n = λ x l. each_parameter (λ t. vars_in (names_of bs n) (resolve bs t) ≡ true) 0 n x (each_resolved (λ t. vars_in (names_of bs n) t ≡ true) bs (parameters 0 n) (appear_all_has [] (query_terms bs 0 n))) (omega arith) (omega arith)
 
+-- the words of an answer but its own, and with it
+abbrev pub page_words : Substitution → ℕ → List Line → List ℕ
+page_words bs n ls = query_words bs (names_of bs n) 0 n ++ joined (add_lines (names_of bs n) [] ls)
+
+words_are : (bs : Substitution) (n : ℕ) (ls : List Line) → part 15 (page_words bs n ls) ≡ answer_words bs n ls
+words_are bs n ls = ap (λ v. part 15 (query_words bs (names_of bs n) 0 n ++ v)) (lines_listed (names_of bs n) [] [] ls (λ v. refl))
+
 -- the end of the lines says what the answer does
-ends_said : (bs : Substitution) (n end : ℕ) (ls : List Line) (r : Told) → and_then (told_says ls r) (λ ls k. done (answer_words bs n ls) k) ≡ answer_says (answer_words bs n ls) (answer_end end r)
-ends_said bs n end ls (told.Done place reached left) =
-    by_choose (λ q. done (answer_words bs n ls) left ≡ answer_says (answer_words bs n ls) q) (ltb end place) (λ _. answered.Full left) (λ _. answered.Written place reached left) (λ _. refl) (λ _. refl)
-ends_said bs n end ls told.StepsOut = refl
-ends_said bs n end ls (told.WaitingOut left) = refl
+ends_said : (bs : Substitution) (n end : ℕ) (ls : List Line) (r : Added) → and_then (added_says ls r) (λ ls k. done (answer_words bs n ls) k) ≡ answer_says (answer_words bs n ls) (answer_end end r)
+ends_said bs n end ls (added.Done place left) = by_choose (λ q. done (answer_words bs n ls) left ≡ answer_says (answer_words bs n ls) q) (ltb end place) (λ _. answered.Full left) (λ _. answered.Written place left) (λ _. refl) (λ _. refl)
+ends_said bs n end ls added.StepsOut = refl
+ends_said bs n end ls (added.WaitingOut left) = refl
 
 -- Answering, in the order of the code's calls.
 module _ {P : Program} {ws s output : List ℕ} {st : State} {p : Path} {cs : List ChoicePoint} {params used : ℕ} (a : Answering P ws s output st p cs params used) where
@@ -209,13 +204,13 @@ module _ {P : Program} {ws s output : List ℕ} {st : State} {p : Path} {cs : Li
     unfolding ThroughAs
     answer_steps e =
         let d : look_through bs (parameters 0 params) st.steps ≡ stop no_steps 0 = rw e at h in
-        record { leaves_lent = as_before; words = []; says = rw d refl; written = λ n k l q. clash (cc); full = λ l q. clash (cc) }
+        record { leaves_lent = as_before; words = []; says = rw d refl; written = λ n l q. clash (cc); full = λ l q. clash (cc) }
 
     pub answer_path : {left : ℕ} → r ≡ looked.WaitingOut left → AnsweredAs P ws s output s output st p cs used (answer p params st.steps) (answered.WaitingOut left)
     unfolding ThroughAs
     answer_path {left} e =
         let d : look_through bs (parameters 0 params) st.steps ≡ stop (at_bound waiting) left = rw e at h in
-        record { leaves_lent = as_before; words = []; says = rw d refl; written = λ n k l q. clash (cc); full = λ l q. clash (cc) }
+        record { leaves_lent = as_before; words = []; says = rw d refl; written = λ n l q. clash (cc); full = λ l q. clash (cc) }
 
     pub answer_on : {left : ℕ} → r ≡ looked.Done left → answer p params st.steps ≡ and_then (all_lines bs p.kept left) (λ ls m. done (answer_words bs params ls) m)
     unfolding ThroughAs
@@ -248,96 +243,74 @@ module _ {P : Program} {ws s output : List ℕ} {st : State} {p : Path} {cs : Li
       answer_writing = record { before = output; begin = used + 1; head = query_words bs names 0 params; lines = []; names = names; page = page; given = answer_given; room = room_same page.touched.long room }
 
       -- with the lines of the constraints
-      module _ {s₂ out₂ : List ℕ} {left : ℕ} (r : Added) (d : AddedAs ws s₁ s₂ answer_writing out₂ bs (all_lines bs p.kept left) r) where
-        abbrev pub answer_listed : LinesListed ws s₂ out₂ st.constraints st.trail params used place end left r
-        answer_listed =
-            let held : ConstraintsHeld ws s₂ bs p.kept st.trail st.constraints = kept_again d.apart d.bindings_in answer_kept in
-            record {
-              bindings = bs;
-              constraints = p.kept;
-              made = p.made;
-              lines = d.lines;
-              before = output;
-              query = record { binds = held.held; given = given_apart d.apart answer_given; known = query_known bs params };
-              few_params = answer_low;
-              held = held;
-              sound = a.sound;
-              says = d.says;
-              page = d.page;
-              touched = d.touched;
-              room = room_same d.touched.long room;
-            }
+      module _ {s₂ out₂ : List ℕ} (o : Outcome (List Line)) (r : Added) (d : AddedAs ws s₁ s₂ answer_writing out₂ bs o r) where
+        pub answer_named : Names s₂ top names
+        answer_named = names_apart d.apart m.given
 
-        -- without those that say too much
-        module _ {s₃ out₃ : List ℕ} (q : Told) (t : ToldAs answer_listed s₃ out₃ q) where
-          abbrev apart : Apart s₁ s₃
-          apart = apart_trans d.apart t.apart
+        pub answer_ends : Ends output out₂ used end (page_words bs params d.lines) r
+        answer_ends next left e = (d.page next left e).stands
 
-          pub answer_named : Names s₃ top names
-          answer_named = names_apart apart m.given
+        -- without names again
+        pub answer_stored : {s₃ : List ℕ} → Named s₂ s₃ 0 [] → PathHeld P ws s₃ st p cs
+        answer_stored {s₃} c =
+            let h : Stored P ws s (registers st) st.choices p cs = a.stored in
+            let empty : Nameless s₃ = nameless_again c.given in
+            let far : Apart s s₃ = record {
+              long = c.long ∙ d.apart.long ∙ m.long;
+              middle = λ i lo hi. middle empty i lo hi;
+              above = λ i lo. c.above i (omega arith) ∙ d.apart.above i lo ∙ m.above i (omega arith);
+            } in
+            let b : BindingsIn ws s₃ bs = bindings_same ws s₂ s₃ bs (λ i lo hi. c.below i (omega arith)) (λ i lo hi. c.below i (omega (arith, fresh_few bs d.bindings_in.fresh))) d.bindings_in in
+            subst (λ z. Stored P ws s₃ (trailed (registers st) z) st.choices p cs) (sym h.path_in.trail) (rebound [] bs refl far b h)
+          where
+            middle : Nameless s₃ → (i : ℕ) → 4096 ≤ i → i < 10752 → at s₃ i ≡ at s i
+            middle empty i lo hi = elim (dec_lt i 6144) [
+              | yes q ↦ empty i lo q ∙ sym (a.stored.nameless i lo q)
+              | no q ↦ c.above i (omega arith) ∙ d.apart.middle i lo hi ∙ m.above i (omega arith)
+            ]
 
-          -- without names again
-          pub answer_stored : {s₄ : List ℕ} → Named s₃ s₄ 0 [] → PathHeld P ws s₄ st p cs
-          answer_stored {s₄} c =
-              let h : Stored P ws s (registers st) st.choices p cs = a.stored in
-              let empty : Nameless s₄ = nameless_again c.given in
-              let far : Apart s s₄ = record {
-                long = c.long ∙ apart.long ∙ m.long;
-                middle = λ i lo hi. middle empty i lo hi;
-                above = λ i lo. c.above i (omega arith) ∙ apart.above i lo ∙ m.above i (omega arith);
-              } in
-              let b : BindingsIn ws s₄ bs = bindings_same ws s₃ s₄ bs (λ i lo hi. c.below i (omega arith)) (λ i lo hi. c.below i (omega (arith, fresh_few bs t.bindings_in.fresh))) t.bindings_in in
-              subst (λ z. Stored P ws s₄ (trailed (registers st) z) st.choices p cs) (sym h.path_in.trail) (rebound [] bs refl far b h)
-            where
-              middle : Nameless s₄ → (i : ℕ) → 4096 ≤ i → i < 10752 → at s₄ i ≡ at s i
-              middle empty i lo hi = elim (dec_lt i 6144) [
-                | yes q ↦ empty i lo q ∙ sym (a.stored.nameless i lo q)
-                | no q ↦ c.above i (omega arith) ∙ apart.middle i lo hi ∙ m.above i (omega arith)
-              ]
+        -- and the definition's words
+        module _ (out₃ : List ℕ) (q : Answered) (e : EndedAs output out₂ out₃ used end (page_words bs params d.lines) r q) (is_end : end ≡ usable (length output)) where
+          abbrev words : List ℕ
+          words = answer_words bs params d.lines
 
-          -- and the definition's words
-          module _ (out₄ : List ℕ) (x : Answered) (e : EndedAs output out₃ out₄ used end (told_words bs params d.lines) q x) (is_end : end ≡ usable (length output)) where
-            abbrev words : List ℕ
-            words = answer_words bs params d.lines
+          end_touched : Touched output out₃ used end
+          end_touched = e.touched d.touched
 
-            end_touched : Touched output out₄ used end
-            end_touched = e.touched t.touched
+          answer_stands : (n left : ℕ) → q ≡ answered.Written n left → AnswerStands output out₃ used words n
+          answer_stands n left z =
+              let g : Laid output out₃ used end true words n = subst (λ v. Laid output out₃ used end true v n) (words_are bs params d.lines) (e.written n left z) in
+              let x : n ≡ used + length words = g.is in
+              let y : n ≤ end = g.fits in
+              let u : length out₃ ≡ length output = end_touched.long in
+              record {
+                used_now = x;
+                fits = omega arith;
+                stands = ap (λ j. take j out₃) x ∙ take_spelled used out₃ words (omega arith) g.words ∙ ap (λ v. v ++ words) (take_same used output out₃ u end_touched.below);
+                whole = record { kind = 15; rest = page_words bs params d.lines; is = sym (words_are bs params d.lines); short = omega (arith, ap length (words_are bs params d.lines), room.short) };
+                behind = g.touched.above;
+              }
 
-            answer_stands : (n reached left : ℕ) → x ≡ answered.Written n reached left → AnswerStands output out₄ used words n reached
-            answer_stands n reached left z =
-                let (g, h) = e.written n reached left z in
-                let y : n ≡ used + length words = g.is in
-                let w : reached ≤ end = h.fits in
-                let l : n ≤ reached = h.within in
-                let u : length out₄ ≡ length output = end_touched.long in
-                record {
-                  used_now = y;
-                  within = l;
-                  fits = omega arith;
-                  stands = ap (λ j. take j out₄) y ∙ take_spelled used out₄ words (omega arith) g.words ∙ ap (λ v. v ++ words) (take_same used output out₄ u end_touched.below);
-                  whole = record { kind = 15; rest = told_words bs params d.lines; is = refl; short = omega (arith, room.short) };
-                  behind = λ i o. g.touched.above i (omega arith) ∙ h.touched.above i o;
-                }
+          answer_full : (left : ℕ) → q ≡ answered.Full left → usable (length output) < used + length words
+          answer_full left z =
+              let v = overrun end r left (sym z ∙ e.says) in
+              let x : length (part 15 (page_words bs params d.lines)) ≡ length words = ap length (words_are bs params d.lines) in
+              omega (arith, (d.page v.place left v.is).over v.beyond)
 
-            answer_full : (left : ℕ) → x ≡ answered.Full left → usable (length output) < used + length words
-            answer_full left z =
-                let v = overrun end q left (sym z ∙ e.says) in
-                omega (arith, t.over v.place v.reached left v.is v.beyond)
-
-            pub answer_done : {s₄ : List ℕ} → Named s₃ s₄ 0 [] → answer p params st.steps ≡ and_then (all_lines bs p.kept left) (λ ls k. done (answer_words bs params ls) k)
-                → AnsweredAs P ws s output s₄ out₄ st p cs used (answer p params st.steps) x
-            answer_done {s₄} c f = record {
-              leaves_lent = record {
-                stored = answer_stored c;
-                scratch_length = c.long ∙ apart.long ∙ m.long;
-                output_length = end_touched.long;
-                before = take_same used output out₄ end_touched.long end_touched.below;
-              };
-              words = words;
-              says = f ∙ ap (λ o. and_then o (λ ls k. done (answer_words bs params ls) k)) (d.says ∙ t.says) ∙ ends_said bs params end d.lines q ∙ ap (answer_says words) (sym e.says);
-              written = answer_stands;
-              full = answer_full;
-            }
+          pub answer_done : {s₃ : List ℕ} → Named s₂ s₃ 0 [] → answer p params st.steps ≡ and_then o (λ ls k. done (answer_words bs params ls) k)
+              → AnsweredAs P ws s output s₃ out₃ st p cs used (answer p params st.steps) q
+          answer_done {s₃} c f = record {
+            leaves_lent = record {
+              stored = answer_stored c;
+              scratch_length = c.long ∙ d.apart.long ∙ m.long;
+              output_length = end_touched.long;
+              before = take_same used output out₃ end_touched.long end_touched.below;
+            };
+            words = words;
+            says = f ∙ ap (λ o. and_then o (λ ls k. done (answer_words bs params ls) k)) d.says ∙ ends_said bs params end d.lines r ∙ ap (answer_says words) (sym e.says);
+            written = answer_stands;
+            full = answer_full;
+          }
 
 -- The same from what the calls promise, one after the other.
 module _ {P : Program} {ws s output : List ℕ} {st : State} {p : Path} {cs : List ChoicePoint} {params used : ℕ} (a : Answering P ws s output st p cs params used) where
@@ -367,22 +340,21 @@ module _ {P : Program} {ws s output : List ℕ} {st : State} {p : Path} {cs : Li
         pub added_now : AddedAs ws s₁ s₂ writing_now out₂ p.bindings (all_lines p.bindings p.kept left) d
         added_now = add writing_now p.bindings p.kept p.made (answer_kept a named_now) a.sound
 
-        abbrev pub listed_now : LinesListed ws s₂ out₂ st.constraints st.trail params used place end left d
-        listed_now = answer_listed a named_now room page_now d added_now
+        pub apart_now : Apart s₁ s₂
+        apart_now = added_now.apart
 
-        module _ {s₃ out₃ : List ℕ} (q : Told) (tell : (g : LinesListed ws s₂ out₂ st.constraints st.trail params used place end left d) → ToldAs g s₃ out₃ q) where
-          pub told_now : ToldAs listed_now s₃ out₃ q
-          told_now = tell listed_now
+        pub touched_now : Touched output out₂ (used + 1) end
+        touched_now = added_now.touched
 
-          pub long_now : length s₃ ≡ length s
-          long_now = told_now.apart.long ∙ added_now.apart.long ∙ named_now.long
+        pub names_now : Names s₂ top (names_of p.bindings params)
+        names_now = answer_named a named_now room page_now _ d added_now
 
-          pub names_now : Names s₃ top (names_of p.bindings params)
-          names_now = answer_named a named_now room page_now d added_now q told_now
+        pub ends_now : Ends output out₂ used end (page_words p.bindings params added_now.lines) d
+        ends_now = answer_ends a named_now room page_now _ d added_now
 
-          pub answered_now : (r : LookedThrough) → ((bs : Substitution) → Binds ws s bs → ThroughAs bs (parameters 0 params) st.steps r) → r ≡ looked.Done left
-              → {s₄ : List ℕ} (out₄ : List ℕ) (x : Answered) → end ≡ usable (length output) → ((names : List ℕ) → Names s₃ top names → Named s₃ s₄ 0 [])
-              → ((o : List ℕ) (v : List ℕ) → Ends o out₃ used end v q → EndedAs o out₃ out₄ used end v q x)
-              → AnsweredAs P ws s output s₄ out₄ st p cs used (answer p params st.steps) x
-          answered_now r look e out₄ x is_end clear finish =
-              answer_done a named_now room page_now d added_now q told_now out₄ x (finish output _ told_now.stands) is_end (clear _ names_now) (answer_on a r (look p.bindings (answer_binds a)) e)
+        pub answered_now : (r : LookedThrough) → ((bs : Substitution) → Binds ws s bs → ThroughAs bs (parameters 0 params) st.steps r) → r ≡ looked.Done left
+            → {s₃ : List ℕ} (out₃ : List ℕ) (q : Answered) → end ≡ usable (length output) → ((names : List ℕ) → Names s₂ top names → Named s₂ s₃ 0 [])
+            → ((o : List ℕ) (v : List ℕ) → Ends o out₂ used end v d → EndedAs o out₂ out₃ used end v d q)
+            → AnsweredAs P ws s output s₃ out₃ st p cs used (answer p params st.steps) q
+        answered_now r look e out₃ q is_end clear finish =
+            answer_done a named_now room page_now _ d added_now out₃ q (finish output _ ends_now) is_end (clear _ names_now) (answer_on a r (look p.bindings (answer_binds a)) e)

@@ -94,7 +94,7 @@ module _ {P : Program} {ws s s' : List ℕ} {st : State} {cs : List ChoicePoint}
   pub back_last : {b l z here : ℕ} {r : State} (t : Tally) → PartRead ws (at s (point_at (st.choices - 1))) b l z → here ≡ pos_of (at s (point_at (st.choices - 1))) + 1 + z → here ≡ at s (point_at (st.choices - 1) + 1)
       → r ≡ resumed s' st (st.choices - 1) → BacktrackAs P ws s' st t (backtrack cs t) (Goal r (at s (point_at (st.choices - 1))))
   unfolding BacktrackAs
-  back_last {r = r} t i is_here e q = subst (λ ds. BacktrackAs P ws s' st t (backtrack ds t) (Goal r w)) (sym k.are) (subst (λ x. BacktrackAs P ws s' st t (backtrack (k.point ∷ k.others) t) (Goal x w)) (sym q) (go k.point k.restored))
+  back_last {r = r} t i is-here e q = subst (λ ds. BacktrackAs P ws s' st t (backtrack ds t) (Goal r w)) (sym k.are) (subst (λ x. BacktrackAs P ws s' st t (backtrack (k.point ∷ k.others) t) (Goal x w)) (sym q) (go k.point k.restored))
     where
       w : ℕ
       w = at s (point_at (st.choices - 1))
@@ -108,14 +108,14 @@ module _ {P : Program} {ws s s' : List ℕ} {st : State} {cs : List ChoicePoint}
               let o = resume_last (st.choices - 1) j in
               let q' : Path = waiting_on c.path c.path.stack (suc c.path.put) in
               record { task = (c.base, g); path = q'; choices = k.others; says = refl; task_at = o.1; held = subst (λ y. Stored P ws s' (counted y) (st.choices - 1) q' k.others) (sym same_saved) o.2; left_is = refl }
-          inside (more g gs) j = absurd (omega (arith, e, is_here, i.is_payload, (resume_next (st.choices - 1) k.few j).0))
+          inside (more g gs) j = absurd (omega (arith, e, is-here, i.is_payload, (resume_next (st.choices - 1) k.few j).0))
 
   -- another one is left
   pub back_more : {b l z here : ℕ} {r : State} (t : Tally) → (st.choices ≡ 0 → ⊥) → PartRead ws (at s (point_at (st.choices - 1))) b l z → here ≡ pos_of (at s (point_at (st.choices - 1))) + 1 + z → (here ≡ at s (point_at (st.choices - 1) + 1) → ⊥)
       → r ≡ resumed (set s' (point_at (st.choices - 1)) (at s (point_at (st.choices - 1)) + 1 + z)) st st.choices
       → BacktrackAs P ws (set s' (point_at (st.choices - 1)) (at s (point_at (st.choices - 1)) + 1 + z)) st t (backtrack cs t) (Goal r (at s (point_at (st.choices - 1))))
   unfolding BacktrackAs
-  back_more {z = z} {r = r} t some_left i is_here e q = subst (λ ds. BacktrackAs P ws s'' st t (backtrack ds t) (Goal r w)) (sym k.are) (subst (λ x. BacktrackAs P ws s'' st t (backtrack (k.point ∷ k.others) t) (Goal x w)) (sym q) (go k.point k.restored))
+  back_more {z = z} {r = r} t some_left i is-here e q = subst (λ ds. BacktrackAs P ws s'' st t (backtrack ds t) (Goal r w)) (sym k.are) (subst (λ x. BacktrackAs P ws s'' st t (backtrack (k.point ∷ k.others) t) (Goal x w)) (sym q) (go k.point k.restored))
     where
       w : ℕ
       w = at s (point_at (st.choices - 1))
@@ -131,7 +131,7 @@ module _ {P : Program} {ws s s' : List ℕ} {st : State} {cs : List ChoicePoint}
         where
           inside : (gs : Goals) → Restored P ws s s' (st.choices - 1) (record { path = c.path; base = c.base; rest = gs }) k.others
               → BacktrackAs P ws s'' st t (backtrack (record { path = c.path; base = c.base; rest = gs } ∷ k.others) t) (Goal (resumed s'' st st.choices) w)
-          inside (one g) j = absurd (e (is_here ∙ ap (λ y. pos_of w + 1 + y) i.is_payload ∙ (resume_last (st.choices - 1) j).0))
+          inside (one g) j = absurd (e (is-here ∙ ap (λ y. pos_of w + 1 + y) i.is_payload ∙ (resume_last (st.choices - 1) j).0))
           inside (more g gs) j =
               let o = resume_next (st.choices - 1) k.few j in
               let ds : List ChoicePoint = record { path = c.path; base = c.base; rest = gs } ∷ k.others in

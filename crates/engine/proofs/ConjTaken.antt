@@ -51,9 +51,9 @@ module _ {P : Program} {ws s₀ : List ℕ} {st : State} {w : ℕ} {p : Path} {c
       → PartRead ws goal c l m → here ≡ pos_of goal + 1 + m → here ≡ to
       → TookAs P ws (set (set s (goal_at (filled + 1)) goal) (goal_at (filled + 1) + 1) st.head) cs (take_conj p cs base gs st.steps)
       Goes (record { head = st.goals + 1; trail = st.trail; variables = st.variables; goals = filled + 1; constraints = st.constraints; calls = st.calls; choices = st.choices; steps = st.steps })
-  conj_goes {s} {to = to} {goal = goal} {filled = filled} i is-to li lt j is_here e =
+  conj_goes {s} {to = to} {goal = goal} {filled = filled} i is-to li lt j is-here e =
       let put_is : st.goals ≡ p.put = t.stored.path_in.put in
-      let r = lining_last ws s₀ s st.goals st.head (w + 1) to base gs goal filled li lt (omega (arith, e, is_here, j.is_payload)) in
+      let r = lining_last ws s₀ s st.goals st.head (w + 1) to base gs goal filled li lt (omega (arith, e, is-here, j.is_payload)) in
       let few : st.goals + goals_count gs ≤ 1024 = omega (arith, r.1) in
       let f : leb (p.put + goals_count gs) 1024 ≡ true = le-leb (p.put + goals_count gs) 1024 (omega arith) in
       let rowed : Rowed ws s₀ (cell s (filled + 1) goal st.head) st.goals (w + 1) st.head gs = r.0 in
@@ -64,7 +64,7 @@ module _ {P : Program} {ws s₀ : List ℕ} {st : State} {w : ℕ} {p : Path} {c
 
   pub conj_on : {s : List ℕ} {to goal filled c l m here : ℕ} → Lining ws s₀ s st.goals st.head (w + 1) to base gs goal filled → filled < 1024 → PartRead ws goal c l m → here ≡ pos_of goal + 1 + m → (here ≡ to → ⊥)
       → Lining ws s₀ (set (set s (goal_at (filled + 1)) goal) (goal_at (filled + 1) + 1) (filled + 2)) st.goals st.head (w + 1) to base gs (goal + 1 + m) (filled + 1)
-  conj_on {s} {to} {goal} {filled} {m = m} li lt j is_here n =
+  conj_on {s} {to} {goal} {filled} {m = m} li lt j is-here n =
       let size : m ≡ _ = j.is_payload in
       subst (λ z. Lining ws s₀ (set (set s (goal_at (filled + 1)) goal) (goal_at (filled + 1) + 1) (filled + 2)) st.goals st.head (w + 1) to base gs (goal + 1 + z) (filled + 1)) (sym size)
-      (rw (cell_stores s (filled + 1) goal (filled + 2)) (lining_more ws s₀ s st.goals st.head (w + 1) to base gs goal filled li lt (λ q. n (is_here ∙ ap (λ z. pos_of goal + 1 + z) size ∙ q))))
+      (rw (cell_stores s (filled + 1) goal (filled + 2)) (lining_more ws s₀ s st.goals st.head (w + 1) to base gs goal filled li lt (λ q. n (is-here ∙ ap (λ z. pos_of goal + 1 + z) size ∙ q))))

@@ -127,7 +127,7 @@ tried {ws} {s} {bs} {a} {u} {b} {v} {trail} steps d s₁ r told {n} {rest} e s�
       apart = p;
     }
 
-pub right_length : (bs : Substitution) (cs : List (ℕ × Term)) → length (resolve_right bs cs) ≡ length cs
+right_length : (bs : Substitution) (cs : List (ℕ × Term)) → length (resolve_right bs cs) ≡ length cs
 right_length bs [] = refl
 right_length bs (b ∷ cs) = ap suc (right_length bs cs)
 

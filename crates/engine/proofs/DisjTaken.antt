@@ -69,18 +69,18 @@ module _ {P : Program} {ws s₀ : List ℕ} {st : State} {w : ℕ} {p : Path} {c
   -- one alternative only
   pub disj_last : (gs : Goals) {b k n to c l m here : ℕ} {r : State} {s' : List ℕ} → Taking P ws s₀ st w p cs (base, disj gs) → PartRead ws w b k n → to ≡ pos_of w + 1 + n → st.goals < 1024
       → PartRead ws (w + 1) c l m → here ≡ pos_of (w + 1) + 1 + m → here ≡ to → r ≡ one_goal_more st → s' ≡ cell s₀ (st.goals + 1) (w + 1) st.head → TookAs P ws s' cs (take_disj p cs base gs st.steps) Goes r
-  disj_last (one g) {to = to} t i is-to fits j is_here e q z =
+  disj_last (one g) {to = to} t i is-to fits j is-here e q z =
       let f : leb (suc p.put) 1024 ≡ true = le-leb (suc p.put) 1024 (omega (arith, fits, put_is t)) in
       rw (q, z) (took_goes (disj_one base g (w + 1) to (omega (arith, fits)) (first_goals t i is-to) t.stored) (rw f refl))
-  disj_last (more g us) {to = to} t i is-to fits j is_here e q z =
-      absurd (omega (arith, e, is_here, j.is_payload, (task_more ws (w + 1) to base g us (first_goals t i is-to)).not_last))
+  disj_last (more g us) {to = to} t i is-to fits j is-here e q z =
+      absurd (omega (arith, e, is-here, j.is_payload, (task_more ws (w + 1) to base g us (first_goals t i is-to)).not_last))
 
   -- no choice point fits any more
   pub disj_many : (gs : Goals) {b k n to c l m here : ℕ} (s' : List ℕ) → Taking P ws s₀ st w p cs (base, disj gs) → PartRead ws w b k n → to ≡ pos_of w + 1 + n → st.goals < 1024
       → PartRead ws (w + 1) c l m → here ≡ pos_of (w + 1) + 1 + m → (here ≡ to → ⊥) → 256 ≤ st.choices → TookAs P ws s' cs (take_disj p cs base gs st.steps) (Stops (PathLimit Disjunctions) (st.steps + 1)) st
-  disj_many (one g) {to = to} s' t i is-to fits j is_here e full =
-      absurd (e (is_here ∙ ap (λ z. pos_of (w + 1) + 1 + z) j.is_payload ∙ (task_one ws (w + 1) to base g (first_goals t i is-to)).0))
-  disj_many (more g us) s' t i is-to fits j is_here e full =
+  disj_many (one g) {to = to} s' t i is-to fits j is-here e full =
+      absurd (e (is-here ∙ ap (λ z. pos_of (w + 1) + 1 + z) j.is_payload ∙ (task_one ws (w + 1) to base g (first_goals t i is-to)).0))
+  disj_many (more g us) s' t i is-to fits j is-here e full =
       let f : leb (suc p.put) 1024 ≡ true = le-leb (suc p.put) 1024 (omega (arith, fits, put_is t)) in
       let h : leb (suc (length cs)) 256 ≡ false = lt-leb (suc (length cs)) 256 (omega (arith, t.stored.choices_are)) in
       took_bound p (rw (f, h) refl)
@@ -90,9 +90,9 @@ module _ {P : Program} {ws s₀ : List ℕ} {st : State} {w : ℕ} {p : Path} {c
       → PartRead ws (w + 1) c l m → here ≡ pos_of (w + 1) + 1 + m → (here ≡ to → ⊥) → st.choices < 256
       → pushed ≡ one_choice_more st → s₁ ≡ point s₀ st.choices (w + 1 + 1 + m) to (registers st)
       → r ≡ one_goal_more pushed → s₂ ≡ cell s₁ (pushed.goals + 1) (w + 1) pushed.head → TookAs P ws s₂ cs (take_disj p cs base gs st.steps) Goes r
-  disj_goes (one g) {to = to} t i is-to fits j is_here e few q z a b =
-      absurd (e (is_here ∙ ap (λ z. pos_of (w + 1) + 1 + z) j.is_payload ∙ (task_one ws (w + 1) to base g (first_goals t i is-to)).0))
-  disj_goes (more g us) {to = to} t i is-to fits j is_here e few q z a b =
+  disj_goes (one g) {to = to} t i is-to fits j is-here e few q z a b =
+      absurd (e (is-here ∙ ap (λ z. pos_of (w + 1) + 1 + z) j.is_payload ∙ (task_one ws (w + 1) to base g (first_goals t i is-to)).0))
+  disj_goes (more g us) {to = to} t i is-to fits j is-here e few q z a b =
       let f : leb (suc p.put) 1024 ≡ true = le-leb (suc p.put) 1024 (omega (arith, fits, put_is t)) in
       let h : leb (suc (length cs)) 256 ≡ true = le-leb (suc (length cs)) 256 (omega (arith, few, t.stored.choices_are)) in
       rw (b, a, z, q, j.is_payload) (took_goes (disj_more base g us (w + 1) to (omega (arith, fits)) (omega (arith, few)) (first_goals t i is-to) t.stored) (rw (f, h) refl))

@@ -45,10 +45,6 @@ pub mod SameLaws
 pub mod IndexLaws
 pub mod BuildLaws
 pub mod RepeatsLaws
-pub mod LineAtLaws
-pub mod BarredLaws
-pub mod CoveredLaws
-pub mod ThinLaws
 pub mod ListLaws
 pub mod RoundLaws
 pub mod ClearLaws
@@ -56,13 +52,5 @@ pub mod RoundsLaws
 pub mod LayoutLaws
 pub mod RunLaws
 pub mod ConstraintLaws
-pub mod CompareLaws
-pub mod AgainLaws
-pub mod TellingLaws
-pub mod TooMuchLaws
-pub mod PutStayingLaws
 pub mod QueryLaws
 pub mod AnswerLaws
-pub mod StayingLaws
-pub mod ListedLaws
-pub mod TellLaws

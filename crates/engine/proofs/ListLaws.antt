@@ -29,7 +29,7 @@ use Rattle.engine.proofs.RepeatsLaws.{indexed_kept}
 spelled_taken : (n : ℕ) (o xs : List ℕ) → take n o ≡ xs → Spells o 0 xs
 spelled_taken n o xs e = spells_same xs o 0 xs (λ i lo hi. let l : i < n = omega (arith, ap length e, length-take n o) in sym (get_or-take n o i 0 l) ∙ ap (λ ys. at ys i) e) (stands_self xs)
 
-module _ {o output : List ℕ} {f : Filled} {next reached : ℕ} {a : Tally} {ws : List ℕ} (g : Listing o output f next reached a ws) {end : ℕ} (is_end : end ≡ usable (length output)) where
+module _ {o output : List ℕ} {f : Filled} {next : ℕ} {a : Tally} {ws : List ℕ} (g : Listing o output f next a ws) {end : ℕ} (is_end : end ≡ usable (length output)) where
   end_was : end ≡ usable (length o)
   end_was = is_end ∙ ap usable g.same_length
 
@@ -42,7 +42,7 @@ module _ {o output : List ℕ} {f : Filled} {next reached : ℕ} {a : Tally} {ws
   earlier : Rows output 0 f.used (words_of a.written)
   earlier = record { stretch = record { words = spelled_taken f.used output (page a.written) page_here; ends = omega (arith, g.before.used) }; whole = g.index.whole }
 
-  pub comparing : Comparing output f.used next reached end f.index (words_of a.written) ws
+  pub comparing : Comparing output f.used next end f.index (words_of a.written) ws
   comparing = record {
     earlier = earlier;
     words = record {
@@ -50,7 +50,6 @@ module _ {o output : List ℕ} {f : Filled} {next reached : ℕ} {a : Tally} {ws
       ends = g.stands.used_now;
     };
     whole = g.stands.whole;
-    within = g.stands.within;
     fits = omega (arith, g.stands.fits, end_was);
     room = record { inside = omega (arith, is_end); short = omega (arith, is_end) };
     indexed = λ h. indexed_kept (λ i lo hi. g.stands.behind i (omega arith)) (omega arith) (subst (λ e. Indexed o e f.index (words_of a.written)) (sym end_was) g.index.indexed);
@@ -89,7 +88,7 @@ module _ {o output : List ℕ} {f : Filled} {next reached : ℕ} {a : Tally} {ws
         subst (Listed (record { used = next; answers = f.answers + 1; index = index })) (listed (ap is_repeated e)) (
           record {
             used = omega (arith, words_more, g.stands.used_now, g.before.used);
-            room = omega (arith, g.stands.used_now, g.stands.within, g.stands.fits, g.before.room, g.same_length, same);
+            room = omega (arith, g.stands.used_now, g.stands.fits, g.before.room, g.same_length, same);
             answers = omega (arith, one_more, g.before.answers);
             page_is = kept next (omega arith) ∙ all_here ∙ sym more;
           },

@@ -7,8 +7,8 @@ use native.Mathlib.Omega.{arith}
 use Rattle.semantics.specs.Answer.{any_same}
 use Rattle.semantics.proofs.Basics.{clash}
 use Rattle.engine.specs.Reference.{at}
-use Rattle.engine.specs.Term.{Touched}
-use Rattle.engine.specs.Index.{AnswerAt, Indexed, Among, Comparing, ComparedAs, Table, Seeking, EnteredAs, BuiltAs, Fitting, FittedAs}
+use Rattle.engine.specs.Term.{Room, Touched}
+use Rattle.engine.specs.Index.{AnswerAt, Indexed, Comparing, ComparedAs, Table, Seeking, EnteredAs, BuiltAs, Fitting, FittedAs}
 use Rattle.engine.specs.declared.repeats.index.Entered.{Entered}
 use Rattle.engine.specs.declared.repeats.index.Entered.TheVariants as entered
 use Rattle.engine.specs.declared.repeats.repeated.Compared.{Compared}
@@ -55,14 +55,9 @@ module _ {o : List ℕ} {used end index : ℕ} {ws : List (List ℕ)} (g : Fitti
       fitted_lost = record { fits = omega (arith, g.fits); indexed = indexed_none o' end ws; touched = built_touched }
 
 -- an answer is to be compared with earlier ones
-module _ {o : List ℕ} {used next reached end index : ℕ} {ws : List (List ℕ)} {v : List ℕ} (g : Comparing o used next reached end index ws v) where
-  pub comparing_among : Among o 0 used used next ws v
-  comparing_among = record {
-    one = g.words;
-    one_whole = g.whole;
-    others = g.earlier;
-    inside = (omega (arith, g.within, g.fits, g.room.inside), omega (arith, g.words.ends, g.within, g.fits, g.room.inside));
-  }
+module _ {o : List ℕ} {used next end index : ℕ} {ws : List (List ℕ)} {v : List ℕ} (g : Comparing o used next end index ws v) where
+  pub comparing_room : Room o next
+  comparing_room = record { inside = omega (arith, g.fits, g.room.inside); short = omega (arith, g.fits, g.room.short) }
 
   pub start_low : used ≤ next
   start_low = omega (arith, g.words.ends)
@@ -91,13 +86,12 @@ module _ {o : List ℕ} {used next reached end index : ℕ} {ws : List (List ℕ
     comparing_fits l h = record { answers = rows_kept t.below (rows_more g.earlier g.words g.whole); room = room_same t.long g.room; fits = l; indexed = h }
 
     -- compared without an index
-    pub comparing_all : Comparing o₁ used next next end 0 ws v
+    pub comparing_all : Comparing o₁ used next end 0 ws v
     comparing_all = record {
       earlier = rows_kept (λ i l. t.below i (omega (arith, start_low))) g.earlier;
       words = record { words = spells_same o o₁ used v (λ i p q. t.below i (omega (arith, g.words.ends))) g.words.words; ends = g.words.ends };
       whole = g.whole;
-      within = omega arith;
-      fits = omega (arith, g.within, g.fits);
+      fits = g.fits;
       room = room_same t.long g.room;
       indexed = λ _. indexed_none o₁ end ws;
     }
@@ -111,27 +105,27 @@ module _ {o : List ℕ} {used next reached end index : ℕ} {ws : List (List ℕ
     }
 
   -- it is sought in the index
-  module _ (some : ¬ (index ≡ 0)) (room : index ≤ end - reached) where
+  module _ (some : ¬ (index ≡ 0)) (room : index ≤ end - next) where
     pub comparing_seek : Seeking o used next (end - index) index ws v
     comparing_seek = record {
       earlier = g.earlier;
       words = g.words;
       whole = g.whole;
-      table_there = record { behind = omega (arith, g.within, g.fits); some = omega arith; room = record { inside = omega (arith, g.fits, g.room.inside); short = omega (arith, g.fits, g.room.short) } };
+      table_there = record { behind = omega (arith, g.fits); some = omega arith; room = record { inside = omega (arith, g.fits, g.room.inside); short = omega (arith, g.fits, g.room.short) } };
       index = g.indexed (omega (arith, g.fits)) (omega arith);
     }
 
     module _ {o₁ : List ℕ} {r : Entered} (e : EnteredAs o o₁ (end - index) index ws v r) where
       pub entered_touched : Touched o o₁ next end
-      entered_touched = touched_wide next end (omega (arith, g.within, g.fits)) (omega (arith, g.fits)) e.touched
+      entered_touched = touched_wide next end (omega (arith, g.fits)) (omega (arith, g.fits)) e.touched
 
       pub compared_found : r ≡ entered.Repeated → ComparedAs o o₁ used next end ws v (Repeated index)
       compared_found q =
           let h = e.repeated q in
-          compared_repeated (sym h.0) (omega (arith, g.within, g.fits, start_low)) (subst (λ x. Indexed x end index ws) (sym h.1) (g.indexed (omega (arith, g.fits)))) entered_touched
+          compared_repeated (sym h.0) (omega (arith, g.fits, start_low)) (subst (λ x. Indexed x end index ws) (sym h.1) (g.indexed (omega (arith, g.fits)))) entered_touched
 
       pub entered_fits : r ≡ entered.New → Fitting o₁ next end index (ws ++ (v ∷ []))
-      entered_fits q = comparing_fits entered_touched (omega (arith, g.within, g.fits)) (λ _. (e.new q).1)
+      entered_fits q = comparing_fits entered_touched (omega (arith, g.fits)) (λ _. (e.new q).1)
 
       pub compared_entered : {o' : List ℕ} {index' : ℕ} → r ≡ entered.New → FittedAs o₁ o' next end (ws ++ (v ∷ [])) index' → ComparedAs o o' used next end ws v (New index')
       compared_entered q f = compared_new (sym (e.new q).0) entered_touched f

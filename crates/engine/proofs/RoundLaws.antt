@@ -255,8 +255,8 @@ module _ {P : Program} {ws s output : List ℕ} {st : State} {p : Path} {cs : Li
   gives_path_out e = stops (ends.Path Waiting) (answered e) refl
 
   -- It is written up to `next`, to be listed.
-  pub wrote : {next reached l : ℕ} → w ≡ Written next reached l → Listing output output' f next reached a said.words
-  wrote {next} {reached} {l} e = record { before = g.tally.filled; index = g.index; same_length = same; kept = said.leaves_lent.before; stands = said.written next reached l e; few = omega (arith, g.fits) }
+  pub wrote : {next l : ℕ} → w ≡ Written next l → Listing output output' f next a said.words
+  wrote {next} {l} e = record { before = g.tally.filled; index = g.index; same_length = same; kept = said.leaves_lent.before; stands = said.written next l e; few = omega (arith, g.fits) }
 
   -- It is listed or left out: the path is left with the tally that follows.
   pub record AfterListing (output'' : List ℕ) (listed : Filled) (l : ℕ) : Type 0 where
@@ -267,10 +267,10 @@ module _ {P : Program} {ws s output : List ℕ} {st : State} {p : Path} {cs : Li
     pub fewer : l ≤ st.steps
     pub cuts_are : tally.cuts ≡ cuts
 
-  pub after_listing : {next reached l : ℕ} {output'' : List ℕ} {listed : Filled} → w ≡ Written next reached l → FilledAs output'' listed (list_answer (once argument) a k l said.words) × IndexAs output'' listed (list_answer (once argument) a k l said.words) → AfterListing output'' listed l
-  after_listing {next} {reached} {l} {output''} {listed} e (filled, index) =
-      let q : AnswerStands output output' f.used said.words next reached = said.written next reached l e in
-      let fits : length said.words ≤ a.room = omega (arith, q.used_now, q.within, q.fits, g.tally.filled.room) in
+  pub after_listing : {next l : ℕ} {output'' : List ℕ} {listed : Filled} → w ≡ Written next l → FilledAs output'' listed (list_answer (once argument) a k l said.words) × IndexAs output'' listed (list_answer (once argument) a k l said.words) → AfterListing output'' listed l
+  after_listing {next} {l} {output''} {listed} e (filled, index) =
+      let q : AnswerStands output output' f.used said.words next = said.written next l e in
+      let fits : length said.words ≤ a.room = omega (arith, q.used_now, q.fits, g.tally.filled.room) in
       let few : l ≤ st.steps = spent (answered e) in
       let t = tallied in
       record {

@@ -1,5 +1,5 @@
--- Answers on the output, or parts of one, compared word by word.
-use Prim.Native.Nat.{ℕ, suc, ◌+◌, ◌-◌, ◌<◌, ◌≤◌}
+-- Answers on the output, compared word by word.
+use Prim.Native.Nat.{ℕ, suc, ◌+◌, ◌<◌, ◌≤◌}
 use mathlib.Core.Path.{◌≡◌, refl, sym, ap, subst, ◌∙◌}
 use mathlib.Core.Bool.{Bool, true, false, ◌||◌, true≢false, false≢true}
 use mathlib.Core.List.{List, [], ◌∷◌, ◌++◌}
@@ -14,9 +14,9 @@ use Rattle.semantics.specs.Answer.{same_words, any_same}
 use Rattle.semantics.proofs.Basics.{one_of, or_right}
 use Rattle.engine.specs.Reference.{at}
 use Rattle.engine.specs.Lines.{Whole, Stretch, Rows}
-use Rattle.engine.specs.Index.{AnswerAt, Standing, SameRow, Among}
+use Rattle.engine.specs.Index.{AnswerAt, Standing}
 use Rattle.semantics.proofs.Repeats.{same_refl, same_true}
-use Rattle.engine.proofs.RowLaws.{spells_one, rows_cons, header_counts, Row, RowNext, row_next, row_found, row_on}
+use Rattle.engine.proofs.RowLaws.{spells_one, rows_cons, Row, RowNext, row_next, row_found, row_on}
 use Rattle.engine.proofs.HashLaws.{stretch_next, stretch_end}
 
 -- Words compared with those at another place: what is left of them stands there just if all of them do.
@@ -58,53 +58,28 @@ whole_one o place {v} {w} k m h i =
     let a : length k.rest ≡ length m.rest = sym (payload_word k.kind (length k.rest) k.short) ∙ ap payload (sym f.0 ∙ g.0) ∙ payload_word m.kind (length m.rest) m.short in
     spells_one o place v w h i (ap length k.is ∙ ap suc a ∙ ap length (sym m.is))
 
-first_word : (o : List ℕ) (place start : ℕ) {w : List ℕ} → Whole w → Spells o place w → Spells o start w → at o place ≡ at o start
-unfolding Spells
-first_word o place start k h i = (subst (Spells o place) k.is h).0 ∙ sym (subst (Spells o start) k.is i).0
+-- the answer at a place has the words v, or not
+standing_same : {o : List ℕ} {place to : ℕ} {v w : List ℕ} (r : Bool) → Whole v → Whole w → Stretch o place to w → Standing o place v r → r ≡ same_words v w
+standing_same {o} {place} {to} {v} {w} true k m h s = let e : v ≡ w = whole_one o place k m (s.yes refl) h.words in subst (λ x. true ≡ same_words x w) (sym e) (sym (same_refl w))
+standing_same {o} {place} {to} {v} {w} false k m h s = go (same_words v w) refl
+  where
+    go : (b : Bool) → same_words v w ≡ b → false ≡ same_words v w
+    go false q = sym q
+    go true q = absurd (s.no refl (subst (Spells o place) (sym (same_true v w q)) h.words))
 
--- two answers, lines or pairs compared: the words of one stand at the other's place, or not
-module _ {o : List ℕ} {place to start next : ℕ} {v w : List ℕ} (g : SameRow o place to start next v w) where
-  pub row_begins : (place < length o) × (start < length o)
-  row_begins = (omega (arith, g.other.ends, ap length g.other_whole.is, g.inside.1), omega (arith, g.one.ends, ap length g.one_whole.is, g.inside.0))
+-- an answer compared with earlier ones, one after the other
+module _ {o : List ℕ} {place to : ℕ} {v : List ℕ} {goal r : Bool} (g : Row o place to v goal) (l : place < to) (k : Whole v) (s : Standing o place v r) where
+  first : RowNext o place to (payload (at o place)) v goal
+  first = row_next g l refl refl
 
-  -- with the same first word it is as long
-  pub row_inside : at o place ≡ at o start → place + (next - start) ≤ length o
-  row_inside e =
-      let m : length v ≡ 1 + payload (at o start) = header_counts g.one g.one_whole in
-      let n : length w ≡ 1 + payload (at o place) = header_counts g.other g.other_whole in
-      omega (arith, ap payload e, g.one.ends, g.other.ends, g.inside.1)
+  is_first : r ≡ same_words v first.one
+  is_first = standing_same r k first.whole first.here s
 
-  differs : ¬ (v ≡ w) → false ≡ same_words v w
-  differs n = go (same_words v w) refl
-    where
-      go : (b : Bool) → same_words v w ≡ b → false ≡ same_words v w
-      go false q = sym q
-      go true q = absurd (n (same_true v w q))
+  pub among_found : r ≡ true → true ≡ goal
+  among_found e = row_found first is_first e
 
-  pub row_differs : ¬ (at o place ≡ at o start) → false ≡ same_words v w
-  row_differs n = differs (λ e. n (first_word o place start g.other_whole g.other.words (subst (Spells o start) e g.one.words)))
-
-  pub row_same : (r : Bool) → Standing o place v r → r ≡ same_words v w
-  row_same true s = let e : v ≡ w = whole_one o place g.one_whole g.other_whole (s.yes refl) g.other.words in subst (λ x. true ≡ same_words x w) (sym e) (sym (same_refl w))
-  row_same false s = differs (λ e. s.no refl (subst (Spells o place) (sym e) g.other.words))
-
--- one compared with others, one after the other
-module _ {o : List ℕ} {first to start next : ℕ} {ws : List (List ℕ)} {v : List ℕ} (a : Among o first to start next ws v) {place : ℕ} {goal : Bool} (g : Row o place to v goal) (l : place < to) where
-  pub here : RowNext o place to (payload (at o place)) v goal
-  here = row_next g l refl refl
-
-  pub among_row : SameRow o place (place + 1 + payload (at o place)) start next v here.one
-  among_row = record { one = a.one; one_whole = a.one_whole; other = here.here; other_whole = here.whole; inside = (a.inside.0, omega (arith, here.inside, a.inside.1)) }
-
-  module _ {r : Bool} (s : (v w : List ℕ) (to : ℕ) → SameRow o place to start next v w → r ≡ same_words v w) where
-    is_here : r ≡ same_words v here.one
-    is_here = s v here.one _ among_row
-
-    pub among_found : r ≡ true → true ≡ goal
-    among_found e = row_found here is_here e
-
-    pub among_next : r ≡ false → {behind : ℕ} → behind ≡ place + (1 + payload (at o place)) → Row o behind to v goal
-    among_next e {behind} is = subst (λ p. Row o p to v goal) (omega (arith, is)) (row_on here is_here e)
+  pub among_next : r ≡ false → {next : ℕ} → next ≡ place + (1 + payload (at o place)) → Row o next to v goal
+  among_next e {next} is = subst (λ p. Row o p to v goal) (omega (arith, is)) (row_on first is_first e)
 
 -- an answer at a place
 pub record EarlierAnswer (o : List ℕ) (to place : ℕ) (w : List ℕ) : Type 0 where

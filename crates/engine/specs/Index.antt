@@ -48,15 +48,14 @@ pub record Index (o : List ℕ) (table size : ℕ) (ws : List (List ℕ)) : Type
 abbrev pub Indexed : List ℕ → ℕ → ℕ → List (List ℕ) → Type 0
 Indexed o end index ws = 0 < index → Index o (end - index) index ws
 
--- An answer v has been written behind the answers ws, and is to be compared with them. Writing it has touched no word from `reached` on; where that is inside the index, nothing is known of it.
-pub record Comparing (o : List ℕ) (used next reached end index : ℕ) (ws : List (List ℕ)) (v : List ℕ) : Type 0 where
+-- An answer v has been written behind the answers ws, and is to be compared with them. Where its words reach into the index, nothing is known of that.
+pub record Comparing (o : List ℕ) (used next end index : ℕ) (ws : List (List ℕ)) (v : List ℕ) : Type 0 where
   pub earlier : Rows o 0 used ws
   pub words : Stretch o used next v
   pub whole : Whole v
-  pub within : next ≤ reached
-  pub fits : reached ≤ end
+  pub fits : next ≤ end
   pub room : Room o end
-  pub indexed : reached + index ≤ end → Indexed o end index ws
+  pub indexed : next + index ≤ end → Indexed o end index ws
 
 -- does it have the same words as an earlier one?
 abbrev pub is_repeated : Compared → Bool
@@ -76,21 +75,6 @@ pub record ComparedAs (o o' : List ℕ) (used next end : ℕ) (ws : List (List �
 pub record Standing (o : List ℕ) (place : ℕ) (v : List ℕ) (r : Bool) : Type 0 where
   pub yes : r ≡ true → Spells o place v
   pub no : r ≡ false → ¬ Spells o place v
-
--- v and w are to be compared, each an answer, a line or a pair
-pub record SameRow (o : List ℕ) (place to start next : ℕ) (v w : List ℕ) : Type 0 where
-  pub one : Stretch o start next v
-  pub one_whole : Whole v
-  pub other : Stretch o place to w
-  pub other_whole : Whole w
-  pub inside : (next ≤ length o) × (to ≤ length o)
-
--- v is sought among ws
-pub record Among (o : List ℕ) (first to start next : ℕ) (ws : List (List ℕ)) (v : List ℕ) : Type 0 where
-  pub one : Stretch o start next v
-  pub one_whole : Whole v
-  pub others : Rows o first to ws
-  pub inside : (next ≤ length o) × (to ≤ length o)
 
 -- a table behind the first `used` words
 pub record Table (o : List ℕ) (used table size : ℕ) : Type 0 where

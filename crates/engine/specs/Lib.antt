@@ -15,7 +15,6 @@ pub mod Names
 pub mod Term
 pub mod Line
 pub mod Lines
-pub mod Thin
 pub mod Index
 pub mod Trial
 pub mod Look
@@ -25,4 +24,3 @@ pub mod Answer
 pub mod Report
 pub mod Run
 pub mod Rounds
-pub mod Telling

@@ -85,13 +85,13 @@ unfoldable pub RoundedAs : List ℕ → List ℕ → List ℕ → Program → de
 RoundedAs ws s' output' P x (Completed t cuts) = CompletedAs ws s' output' P x t cuts
 RoundedAs ws s' output' P x (Broken d t) = BrokenAs output' x d t
 
--- An answer of these words was written up to `next`, and words up to `reached` were touched, where the output was o before. One answer more is a number.
-pub record Listing (o output : List ℕ) (f : Filled) (next reached : ℕ) (a : definition.Tally) (ws : List ℕ) : Type 0 where
+-- An answer of these words was written up to `next`, where the output was o before. One answer more is a number.
+pub record Listing (o output : List ℕ) (f : Filled) (next : ℕ) (a : definition.Tally) (ws : List ℕ) : Type 0 where
   pub before : FilledAs o f a
   pub index : IndexAs o f a
   pub same_length : length output ≡ length o
   pub kept : take f.used output ≡ take f.used o
-  pub stands : AnswerStands o output f.used ws next reached
+  pub stands : AnswerStands o output f.used ws next
   pub few : f.answers < 4294967295
 
 -- A path at its end gives its answer. So many branches were cut, and one answer more is a number.

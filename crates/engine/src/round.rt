@@ -82,22 +82,14 @@ fn completed(scratch: &mut [u32], state: State, filled: Filled, cuts: u32) -> Ro
     )
 }
 
-// The output with the answer that was written up to `next`, or without it if it repeats an earlier one of the run. Words up to `reached` were touched on the way.
-fn list_answer(output: &mut [u32], filled: Filled, next: u32, reached: u32) -> Filled
-    requires { (o : List ℕ) × (a : definition.Tally) × (ws : List ℕ) × Listing o output.old filled next reached a ws }
-    ensures { (o : List ℕ) (k l : ℕ) (a : definition.Tally) (ws : List ℕ) → Listing o output.old filled next reached a ws
+// The output with the answer that was written up to `next`, or without it if it repeats an earlier one of the run.
+fn list_answer(output: &mut [u32], filled: Filled, next: u32) -> Filled
+    requires { (o : List ℕ) × (a : definition.Tally) × (ws : List ℕ) × Listing o output.old filled next a ws }
+    ensures { (o : List ℕ) (k l : ℕ) (a : definition.Tally) (ws : List ℕ) → Listing o output.old filled next a ws
         → FilledAs output.new result (definition.list_answer (definition.once argument) a k l ws) × IndexAs output.new result (definition.list_answer (definition.once argument) a k l ws) }
 {
     let end = at_most(output.len(), MOST_OUTPUT);
-    match repeated(
-        output,
-        filled.used,
-        next,
-        reached,
-        end,
-        filled.answers,
-        filled.index,
-    ) {
+    match repeated(output, filled.used, next, end, filled.answers, filled.index) {
         Compared::Repeated(index) => Filled {
             used: filled.used,
             answers: filled.answers,
@@ -134,8 +126,8 @@ fn give(
             left,
             filled,
         )),
-        Answered::Written(next, reached, left) => {
-            let listed = list_answer(output, filled, next, reached);
+        Answered::Written(next, left) => {
+            let listed = list_answer(output, filled, next);
             let after = with_counts(st, st.trail, st.constraints, left);
             match backtrack(program, scratch, after) {
                 Resumed::Over => AnswerGiven::Ends(completed(scratch, after, listed, cuts)),

@@ -45,7 +45,7 @@ pub record CallPromise (words : List ℕ) (round_limit step_limit : ℕ) (output
   pub is_call : call (run.run_as_written words round_limit step_limit output scratch) output scratch lent ≡ record { result = result; output = output_after; scratch = scratch_after; numbers = lent_after }
   pub demands : result ≡ 8 → Demands words round_limit step_limit output scratch output_after scratch_after (run.run_as_written words round_limit step_limit output scratch).report
 
--- What `kindcanvas_view` returns and leaves: 0 or the refusal's number, 10 or 17, and where the part begins and ends.
+-- What `kindcanvas_view` returns and leaves: 0 or the refusal's number, and where the part begins and ends.
 pub record ViewCall : Type 0 where
   pub result : ℕ
   pub start : ℕ

@@ -77,8 +77,8 @@ pub extern "C" fn kindcanvas_run(
     8
 }
 
-// Where the answer of this number, from 0, stands on the page: from `start` up to but without `end`, with its header. Returns 0, or the refusal's number, 10 or 17;
-// then the part is empty, at the refusal's place.
+// Where the answer of this number, from 0, stands on the page: from `start` up to but without `end`, with its header. Returns 0, or the refusal's number; then the
+// part is empty, at the refusal's place.
 #[unsafe(no_mangle)]
 pub extern "C" fn kindcanvas_view(
     page: &[u32],

@@ -1,21 +1,16 @@
--- The walk looks at the headers of the answers that it passes and at the word where it ends; these words and the page's length decide what it comes to. Besides these the form test
--- looks at the words of the answers up to the wanted one, and at nothing behind it.
-use Prim.Native.Nat.{ℕ, zero, suc, ◌+◌, ◌-◌, ◌<◌, ◌≤◌}
+-- "nothing inside an answer is looked at": the walk looks at the headers of the answers that it passes and at the word where it ends; these words and the page's length decide.
+use Prim.Native.Nat.{ℕ, zero, suc, ◌<◌, ◌≤◌}
 use mathlib.Core.Bool.{Bool, false, true}
 use mathlib.Core.List.{List}
-use mathlib.Core.Path.{◌≡◌, ◌∙◌, ap, refl, subst, sym}
+use mathlib.Core.Path.{◌≡◌, ◌∙◌, ap, refl, sym}
 use native.Mathlib.Omega.{arith}
 use lib.Dec.{leb}
-use lib.ListN.{drop, length, length-set, get_or, set}
-use lib.Seq.{ext_get_or, get_or-drop, get_or-set_other, get_or-take}
+use lib.ListN.{length, length-set, get_or, set}
+use lib.Seq.{get_or-set_other}
 use borrow.Author.Tests.{leb-false, leb-true}
-use Rattle.page.specs.Fault.{first}
-use Rattle.page.specs.Form.{Form, payloads}
-use Rattle.page.specs.Page.{Found, Looks, answer_at, answer_fault, answers_left, find, forms_fault, here, further, part, past, refused, tested, walk}
+use Rattle.page.specs.Page.{Found, Looks, answer_at, answers_left, find, here, further, part, past, refused, walk}
 use Rattle.page.proofs.AnswersLaws.{answers_step}
-use Rattle.page.proofs.FaultLaws.{Exact, cut, cut_long, exact_once, fault_exact}
-use Rattle.page.proofs.FindLaws.{find_stopped, find_walked, forms_by, forms_of_one}
-use Rattle.page.proofs.WalkLaws.{At, Whole, at_place, none, one_end, page_ends, part_refused, passed, passes, stops, walked_whole, whole, whole_at}
+use Rattle.page.proofs.WalkLaws.{At, at_place, none, one_end, page_ends, part_refused, passed, passes, stops, walked_whole, whole, whole_at}
 
 -- the walk looks at no word before the place where it begins
 looks_on : {page : List ℕ} {n at k j : ℕ} → Looks page n at k j → at ≤ j
@@ -83,63 +78,19 @@ headers_decide p q (suc n) at l h =
     go (part a b) (whole end w) i rest = passes p n at at end i ∙ rest end i ∙ sym (passes q n at at end (sym same ∙ i))
     go (refused a b) (none place is) i rest = stops p (suc n) at 10 place i ∙ sym (stops q (suc n) at 10 place (sym same ∙ i))
 
--- So any word may stand inside an answer, and the walk comes to where it came; so too with any word behind the wanted answer's header, or behind the word where the walk stopped.
-unseen_free : (page : List ℕ) (n j w : ℕ) → ((k : ℕ) → Looks page n 0 k j → ⊥) → walk page n 0 ≡ walk (set page j w) n 0
+-- So any word may stand inside an answer, and each number finds what it found; and any word behind the wanted answer's header, or behind the word where the walk stopped, and this number does.
+unseen_free : (page : List ℕ) (n j w : ℕ) → ((k : ℕ) → Looks page n 0 k j → ⊥) → find page n ≡ find (set page j w) n
 unseen_free page n j w h =
     headers_decide page (set page j w) n 0 (sym (length-set page j w)) (λ k i looks. sym (get_or-set_other page j i w 0 (λ e. h k (rw e at looks))))
 
-pub inside_free : (page : List ℕ) (m n s e j w : ℕ) → walk page m 0 ≡ part s e → s < j → j < e → walk page n 0 ≡ walk (set page j w) n 0
+pub inside_free : (page : List ℕ) (m n s e j w : ℕ) → find page m ≡ part s e → s < j → j < e → find page n ≡ find (set page j w) n
 inside_free page m n s e j w h l r = unseen_free page n j w (λ k. inside_unseen page m n 0 s e k j h l r)
 
--- Which part is given, if one is, is therefore decided by headers alone.
-pub inside_same : (page : List ℕ) (m n s e j w a b c d : ℕ) → walk page m 0 ≡ part s e → s < j → j < e → find page n ≡ part a b → find (set page j w) n ≡ part c d → part a b ≡ part c d
-inside_same page m n s e j w a b c d h l r f g = sym (find_walked page n a b f) ∙ inside_free page m n s e j w h l r ∙ find_walked (set page j w) n c d g
+pub behind_free : (page : List ℕ) (n s e j w : ℕ) → find page n ≡ part s e → s < j → find page n ≡ find (set page j w) n
+behind_free page n s e j w h l = unseen_free page n j w (λ k looks. omega (arith, behind_unseen page n 0 s e k j h looks))
 
--- where the walk stops, no word behind that is looked at
-pub stop_free : (page : List ℕ) (n place j w : ℕ) → find page n ≡ refused 10 place → place < j → find page n ≡ find (set page j w) n
-stop_free page n place j w h l =
-    let stop = find_stopped page n place h in
-    h ∙ sym (ap (λ f. tested f (forms_fault (set page j w) n 0)) (sym (unseen_free page n j w (λ k looks. omega (arith, stop_unseen page n 0 10 place k j stop looks))) ∙ stop))
-
--- the words of two pages from a place on are the same if each is
-cut_same : (p q : List ℕ) (at n : ℕ) → length p ≡ length q → at + n ≤ length p → ((j : ℕ) → j < at + n → get_or p j 0 ≡ get_or q j 0) → cut p at n ≡ cut q at n
-cut_same p q at n l b h =
-    ext_get_or 0 (cut p at n) (cut q at n) (cut_long p at n b ∙ sym (cut_long q at n (omega (arith, l))))
-    (λ i m. let z : i < n = omega (arith, cut_long p at n b) in get_or-take n (drop at p) i 0 z ∙ get_or-drop at p i 0 ∙ h (at + i) (omega arith) ∙ sym (get_or-take n (drop at q) i 0 z ∙ get_or-drop at q i 0))
-
--- the form test of the answers up to the wanted one looks at nothing behind it
-fault_same : (p q : List ℕ) (at e : ℕ) → length p ≡ length q → Whole p at e → ((j : ℕ) → j < e → get_or p j 0 ≡ get_or q j 0) → answer_fault p at e ≡ answer_fault q at e
-fault_same p q at e l w h =
-    let n : ℕ = e - (at + 1) in
-    let few : n ≤ payloads = omega (arith, w.is_end) in
-    let words : cut p (at + 1) n ≡ cut q (at + 1) n = cut_same p q (at + 1) n l (omega (arith, w.is_end, w.fits)) (λ j m. h j (omega (arith, w.is_end))) in
-    exact_once (cut p (at + 1) n) (at + 1) (answer_fault p at e) (answer_fault q at e) (fault_exact p (at + 1) n few (omega (arith, w.is_end, w.fits)))
-    (subst (λ (ws : List ℕ). Exact Form ws (at + 1) (answer_fault q at e)) (sym words) (fault_exact q (at + 1) n few (omega (arith, l, w.is_end, w.fits))))
-
-forms_same : (p q : List ℕ) (n at s e : ℕ) → length p ≡ length q → walk p n at ≡ part s e → ((j : ℕ) → j < e → get_or p j 0 ≡ get_or q j 0) → forms_fault p n at ≡ forms_fault q n at
-forms_same p q zero at s e l h agree =
-    let w = (whole_at p at s e h).1 in
-    let there : answer_at q at ≡ part s e = sym (same_at p q at l (λ b. agree at (omega (arith, w.is_end)))) ∙ h in
-    forms_of_one p at (part s e) h ∙ fault_same p q at e l w agree ∙ sym (forms_of_one q at (part s e) there)
-forms_same p q (suc n) at s e l h agree =
-    let f = passed p n at s e h in
-    let w = (whole_at p at at f.first_end f.first_is).1 in
-    let before : f.first_end < e = let (a, v) = walked_whole p n f.first_end s e f.later in omega (arith, a, v.is_end) in
-    let there : answer_at q at ≡ part at f.first_end = sym (same_at p q at l (λ b. agree at (omega (arith, w.is_end, before)))) ∙ f.first_is in
-    forms_by p n at (part at f.first_end) f.first_is
-    ∙ ap (λ o. first o (forms_fault p n f.first_end)) (fault_same p q at f.first_end l w (λ j m. agree j (omega (arith, before))))
-    ∙ ap (first (answer_fault q at f.first_end)) (forms_same p q n f.first_end s e l f.later agree) ∙ sym (forms_by q n at (part at f.first_end) there)
-
--- Two pages of the same length that agree on the words up to the end of the wanted answer give the same part or the same refusal.
-pub words_decide : (p q : List ℕ) (n s e : ℕ) → length p ≡ length q → walk p n 0 ≡ part s e → ((j : ℕ) → j < e → get_or p j 0 ≡ get_or q j 0) → find p n ≡ find q n
-words_decide p q n s e l h agree =
-    let end = (walked_whole p n 0 s e h).1.is_end in
-    let walks : walk p n 0 ≡ walk q n 0 = headers_decide p q n 0 l (λ k j looks. agree j (omega (arith, behind_unseen p n 0 s e k j h looks, end))) in
-    ap (λ f. tested f (forms_fault p n 0)) walks ∙ ap (tested (walk q n 0)) (forms_same p q n 0 s e l h agree)
-
--- so any word may stand behind it
-pub behind_free : (page : List ℕ) (n s e j w : ℕ) → walk page n 0 ≡ part s e → e ≤ j → find page n ≡ find (set page j w) n
-behind_free page n s e j w h l = words_decide page (set page j w) n s e (sym (length-set page j w)) h (λ i m. sym (get_or-set_other page j i w 0 (λ z. omega (arith, z))))
+pub stop_free : (page : List ℕ) (n number place j w : ℕ) → find page n ≡ refused number place → place < j → find page n ≡ find (set page j w) n
+stop_free page n number place j w h l = unseen_free page n j w (λ k looks. omega (arith, stop_unseen page n 0 number place k j h looks))
 
 -- When the walk looks at a word it has passed no more answers than the number says, and no more than the page has; and after so many it looks at one word at most.
 pub looks_few : (page : List ℕ) (n at k j : ℕ) → Looks page n at k j → (k ≤ n) × (k ≤ length (answers_left page at))

@@ -1,15 +1,4 @@
-pub mod AllowLaws
 pub mod AnswersLaws
-pub mod FaultCases
-pub mod FaultLaws
-pub mod FaultLoops
-pub mod FaultStep
-pub mod FindLaws
-pub mod FormedLaws
-pub mod GoalLaws
 pub mod Headers
 pub mod RowsHold
-pub mod SlotSizes
-pub mod Slots
-pub mod Tests
 pub mod WalkLaws

@@ -63,9 +63,6 @@ whole_at page at s e h = go (answer_at page at) (at_place page at) h
     go (part a end) (whole b w) q = let i : at ≡ s = cc in let j : b ≡ e = cc in (sym i, rw j at w)
     go (refused n p) (none place is) r = part_refused (sym r)
 
-pub whole_found : (page : List ℕ) (at s e : ℕ) → answer_at page at ≡ part s e → Whole page s e
-whole_found page at s e h = let (i, w) = whole_at page at s e h in rw i w
-
 -- an answer has one end
 pub one_end : (page : List ℕ) (at s e t f : ℕ) → answer_at page at ≡ part s e → answer_at page at ≡ part t f → e ≡ f
 one_end page at s e t f h g = cc
@@ -93,7 +90,7 @@ passed page n at s e h = go (answer_at page at) (at_place page at) refl h
 
 -- an answer that a walk comes to is on the page whole, and not before the walk's beginning
 pub walked_whole : (page : List ℕ) (n at s e : ℕ) → walk page n at ≡ part s e → (at ≤ s) × Whole page s e
-walked_whole page zero at s e h = (omega (arith, (whole_at page at s e h).0), whole_found page at s e h)
+walked_whole page zero at s e h = let (i, w) = whole_at page at s e h in (omega (arith, i), rw i w)
 walked_whole page (suc n) at s e h =
     let p = passed page n at s e h in
     let (l, w) = walked_whole page n p.first_end s e p.later in

@@ -1,8 +1,6 @@
--- An output page, walked by its answer headers: document 02, Note 1, "Open one answer on the screen", with the form test of Note 13. Places are word numbers.
+-- An output page, walked by its answer headers: document 02, Note 1, "Open one answer on the screen". Places are word numbers.
 use Rattle.std.specs.Prelude.{ℕ, zero, suc, ◌+◌, ◌-◌, ◌*◌, ◌<◌, cond, List, [], ◌∷◌, ◌≡◌, eqb, leb, length, get_or, take, drop}
-use Rattle.std.proofs.Math.Option.{Option, none, some}
 use Rattle.word.specs.Word.{kind, payload}
-use Rattle.page.specs.Fault.{body, fault, first}
 
 -- what a walk comes to: an answer, whose words stand from `start` up to but without `end`, or a refusal's number and place
 pub data Found : Type 0 where
@@ -31,24 +29,9 @@ abbrev pub walk : List ℕ → ℕ → ℕ → Found
 walk page zero at = answer_at page at
 walk page (suc n) at = past (answer_at page at) (λ end. walk page n end) refused
 
--- where an answer's words after its header leave the form first, if they do
-abbrev pub answer_fault : List ℕ → ℕ → ℕ → Option ℕ
-answer_fault page start end = fault page (body (end - (start + 1))) (start + 1)
-
--- "an answer up to the wanted one, itself included, that isn't terms followed by constraint goals": of the answers from a place on, so many and one more, the first such place
-abbrev pub forms_fault : List ℕ → ℕ → ℕ → Option ℕ
-forms_fault page zero at = past (answer_at page at) (λ end. answer_fault page at end) (λ number place. none)
-forms_fault page (suc n) at = past (answer_at page at) (λ end. first (answer_fault page at end) (forms_fault page n end)) (λ number place. none)
-
--- "17 .. after 10": an answer that the walk comes to is given if no such place is there
-abbrev pub tested : Found → Option ℕ → Found
-tested (part start end) none = part start end
-tested (part start end) (some place) = refused 17 place
-tested (refused number place) fault = refused number place
-
 -- "Given an output page and an answer number from 0"
 abbrev pub find : List ℕ → ℕ → Found
-find page answer = tested (walk page answer 0) (forms_fault page answer 0)
+find page answer = walk page answer 0
 
 -- the words of a page from `start` up to but without `end`
 abbrev pub between : List ℕ → ℕ → ℕ → List ℕ

@@ -1,18 +1,12 @@
-// The answers of an output page, found by their headers and tested for their form. Nothing is copied.
-mod form;
-
+// The answers of an output page, found by their headers. Nothing inside an answer is looked at, and nothing is copied.
 ghost use Rattle.std.specs.Prelude.{◌≡◌};
-ghost use Rattle.page.specs.Found.{fault_says, found_says};
-ghost use Rattle.page.specs.Page.{answer_at, find, forms_fault, part_ptr, view, walk};
-ghost use Rattle.page.specs.Viewed.{Viewed};
+ghost use Rattle.page.specs.Found.{found_says};
+ghost use Rattle.page.specs.Page.{answer_at, find, part_ptr, view};
 
-use crate::form::Fault;
 use word::Word;
 
-// The refusals of document 02, Notes 1 and 13.
+// The refusal of document 02, Note 1.
 const NO_ANSWER: u32 = 10;
-
-const NO_FORM: u32 = 17;
 
 // What is found on a page.
 #[derive(Drop)]
@@ -43,9 +37,9 @@ pub fn answer_at(page: &[u32], at: usize) -> Found
     Found::Part(at, end)
 }
 
-// The walk to the answer of this number, from 0. One word is read for each answer that is passed, and at most one more, whatever their length.
-fn walk(page: &[u32], answer: u32) -> Found
-    ensures { found_says result ≡ walk page.now answer 0 }
+// Where the answer of this number, from 0, stands on the page. One word is read for each answer that is passed, and at most one more, whatever their length.
+pub fn find(page: &[u32], answer: u32) -> Found
+    ensures { found_says result ≡ find page.now answer }
 {
     let mut at = 0;
     let mut ahead = answer;
@@ -61,48 +55,6 @@ fn walk(page: &[u32], answer: u32) -> Found
         ahead -= 1;
     }
     answer_at(page, at)
-}
-
-// Where the answers up to the one of this number, itself included, leave the form first.
-fn forms_fault(page: &[u32], answer: u32) -> Fault
-    ensures { fault_says result ≡ forms_fault page.now answer 0 }
-{
-    let mut at = 0;
-    let mut ahead = answer;
-    loop {
-        match answer_at(page, at) {
-            Found::Part(start, end) => {
-                match form::form_fault(page, start + 1, end - (start + 1)) {
-                    Fault::At(place) => {
-                        return Fault::At(place);
-                    }
-                    Fault::Nowhere => {
-                        at = end;
-                    }
-                }
-            }
-            Found::Refused(_, _) => {
-                return Fault::Nowhere;
-            }
-        }
-        if ahead == 0 {
-            return Fault::Nowhere;
-        }
-        ahead -= 1;
-    }
-}
-
-// Where the answer of this number, from 0, stands on the page. Each word of the answers up to it is read three times at most, with a stack that does not grow with them.
-pub fn find(page: &[u32], answer: u32) -> Found
-    ensures { (found_says result ≡ find page.now answer) × Viewed page.now answer (found_says result) }
-{
-    match walk(page, answer) {
-        Found::Part(start, end) => match forms_fault(page, answer) {
-            Fault::At(place) => Found::Refused(NO_FORM, place),
-            Fault::Nowhere => Found::Part(start, end),
-        },
-        Found::Refused(number, place) => Found::Refused(number, place),
-    }
 }
 
 // That answer's words, its header too, as a part of the page itself; an empty part where `find` refuses.

@@ -1,6 +1,6 @@
 -- Paths that are alike give answers of the same words, with the same steps.
 use Prim.Native.Nat.{◌+◌, ◌-◌, ◌<◌, suc, zero, ℕ}
-use mathlib.Core.Bool.{Bool, ◌&&◌, ◌||◌, not}
+use mathlib.Core.Bool.{◌&&◌, not}
 use mathlib.Core.List.{List, [], ◌++◌, ◌∷◌}
 use mathlib.Core.Option.{Option}
 use mathlib.Core.Path.{◌≡◌, ap, ap₂, refl, subst}
@@ -9,13 +9,12 @@ use lib.Dec.{eqb}
 use lib.ListN.{length}
 use Rattle.rules.specs.Syntax.{Atom, Constraint, Sort, Term, pair, var}
 use Rattle.rules.specs.Written.{goal_words, part, terms_words}
-use Rattle.semantics.specs.Answer.{Line, all_among, all_lines, among, answer, answer_words, any_same, appear, appear_all, barred, bars, bindings_in, drop_lines, holds_atom, index, is_sort, lacks, lacks_each, line_goal, line_in, line_words, lines_of, lines_words, listed, look_through, names_of, never_sort, not_all, pair_words, parameters, properly_within, query_terms, reify, reify_bindings, reify_line, resolve_right, same_words, some_line, sorts_otherwise, stays, telling, too_much, trial_bindings, trial_lines, typed_lines, vars_in, within}
+use Rattle.semantics.specs.Answer.{Line, all_lines, answer, answer_words, any_same, appear, appear_all, bindings_in, index, is_sort, lacks, lacks_each, line_goal, line_in, line_words, lines_of, lines_words, listed, look_through, names_of, not_all, parameters, query_terms, reify, reify_bindings, reify_line, resolve_right, stays, trial_bindings, trial_lines, typed_lines, vars_in}
 use Rattle.semantics.specs.Path.{Path}
-use Rattle.semantics.specs.Review.{other_sort}
 use Rattle.semantics.specs.Steps.{Bound, Outcome}
 use Rattle.semantics.specs.Substitution.{Substitution, put, resolve}
 use Rattle.semantics.specs.Unify.{member, never, scan}
-use Rattle.semantics.proofs.Alike.{BindingLike, BindingsLike, ConstraintLike, ConstraintsLike, OneToOne, Renaming, TermLike, TermsLike, absento_like, atom_like, differ_like, member_like, pair_like, scan_like, typed_like, unify_terms_like, var_like, walk_like}
+use Rattle.semantics.proofs.Alike.{BindingsLike, ConstraintLike, ConstraintsLike, OneToOne, Renaming, TermLike, TermsLike, absento_like, atom_like, differ_like, member_like, pair_like, scan_like, typed_like, unify_terms_like, var_like, walk_like}
 use Rattle.semantics.proofs.Liftings.{OptionLike, OutcomeLike, Pointwise, append_like, choose_like, cons_like, done_like, length_like, map_like, map_same, nil_like, none_like, reverse_like, some_like, take_like, then_like}
 
 module _ (N : Renaming) (pairs : OneToOne N) where
@@ -84,76 +83,6 @@ module _ (N : Renaming) (pairs : OneToOne N) where
       (cons_like h (subst (λ (w : List ℕ). Pointwise LineLike (listed xs (line_words xs l ∷ before) ls) (listed ys (w ∷ before) ms)) (line_words_like l m k h) (listed_like (line_words xs l ∷ before) k hs)))
       (listed_like before k hs)
 
-  -- which of them stay
-  abbrev LinesAlike : List Line → List Line → Type 0
-  LinesAlike = Pointwise LineLike
-
-  some_line_like : (p q : Line → Bool) → ((l m : Line) → LineLike l m → p l ≡ q m) → {ls ms : List Line} → LinesAlike ls ms → some_line p ls ≡ some_line q ms
-  some_line_like p q f nil_like = refl
-  some_line_like p q f (cons_like {a = l} {b = m} h hs) = ap₂ ◌||◌ (f l m h) (some_line_like p q f hs)
-
-  sorts_otherwise_like : (k : Sort) (x y : ℕ) → N x y → (l m : Line) → LineLike l m → sorts_otherwise k x l ≡ sorts_otherwise k y m
-  sorts_otherwise_like k x y n (is_sort j u) (is_sort i v) (sort_like h) = ap (λ (b : Bool). other_sort k j && b) (pairs u x v y h n)
-  sorts_otherwise_like k x y n (lacks a u) (lacks b v) (lacks_like h) = refl
-  sorts_otherwise_like k x y n (not_all bs) (not_all cs) (not_all_like h) = refl
-
-  never_sort_like : {ls ms : List Line} (k : Sort) {s t : Term} → LinesAlike ls ms → TermLike N s t → never_sort ls k s ≡ never_sort ms k t
-  never_sort_like k h (var_like {x} {y} n) = some_line_like (sorts_otherwise k x) (sorts_otherwise k y) (sorts_otherwise_like k x y n) h
-  never_sort_like k h atom_like = refl
-  never_sort_like k h (pair_like i j) = refl
-
-  holds_atom_like : (a : Atom) {s t : Term} → TermLike N s t → holds_atom a s ≡ holds_atom a t
-  holds_atom_like a (var_like n) = refl
-  holds_atom_like a atom_like = refl
-  holds_atom_like a (pair_like h i) = ap₂ ◌||◌ (holds_atom_like a h) (holds_atom_like a i)
-
-  bars_like : {ls ms : List Line} (b c : ℕ × Term) → LinesAlike ls ms → BindingLike N b c → (l m : Line) → LineLike l m → bars ls b l ≡ bars ms c m
-  bars_like b c h i (is_sort k x) (is_sort j y) (sort_like n) = ap₂ ◌&&◌ (pairs x b.0 y c.0 n i.0) (never_sort_like k h i.1)
-  bars_like b c h i (lacks a x) (lacks d y) (lacks_like n) = ap₂ ◌&&◌ (pairs x b.0 y c.0 n i.0) (holds_atom_like a i.1)
-  bars_like b c h i (not_all bs) (not_all cs) (not_all_like n) = refl
-
-  barred_like : {ls ms : List Line} {bs cs : List (ℕ × Term)} → LinesAlike ls ms → BindingsLike N bs cs → barred ls bs ≡ barred ms cs
-  barred_like h nil_like = refl
-  barred_like {ls} {ms} h (cons_like {a = b} {b = c} i is) = ap₂ ◌||◌ (some_line_like (bars ls b) (bars ms c) (bars_like b c h i) h) (barred_like h is)
-
-  pair_words_like : {xs ys : List ℕ} (b c : ℕ × Term) → NamesLike xs ys → BindingLike N b c → pair_words xs b ≡ pair_words ys c
-  pair_words_like b c k h = line_words_like (not_all (b ∷ [])) (not_all (c ∷ [])) k (not_all_like (cons_like h nil_like))
-
-  among_like : {xs ys : List ℕ} (b c : ℕ × Term) {bs cs : List (ℕ × Term)} → NamesLike xs ys → BindingLike N b c → BindingsLike N bs cs → among xs b bs ≡ among ys c cs
-  among_like b c k h nil_like = refl
-  among_like b c k h (cons_like {a = d} {b = e} i is) = ap₂ ◌||◌ (ap₂ same_words (pair_words_like b c k h) (pair_words_like d e k i)) (among_like b c k h is)
-
-  all_among_like : {xs ys : List ℕ} {bs cs ds es : List (ℕ × Term)} → NamesLike xs ys → BindingsLike N bs cs → BindingsLike N ds es → all_among xs bs ds ≡ all_among ys cs es
-  all_among_like k nil_like i = refl
-  all_among_like k (cons_like {a = b} {b = c} h hs) i = ap₂ ◌&&◌ (among_like b c k h i) (all_among_like k hs i)
-
-  within_like : {xs ys : List ℕ} {bs cs : List (ℕ × Term)} → NamesLike xs ys → BindingsLike N bs cs → (l m : Line) → LineLike l m → within xs bs l ≡ within ys cs m
-  within_like k h (is_sort s x) (is_sort r y) (sort_like n) = refl
-  within_like k h (lacks a x) (lacks d y) (lacks_like n) = refl
-  within_like k h (not_all ds) (not_all es) (not_all_like i) = all_among_like k i h
-
-  properly_like : {xs ys : List ℕ} {bs cs : List (ℕ × Term)} → NamesLike xs ys → BindingsLike N bs cs → (l m : Line) → LineLike l m → properly_within xs bs l ≡ properly_within ys cs m
-  properly_like k h (is_sort s x) (is_sort r y) (sort_like n) = refl
-  properly_like k h (lacks a x) (lacks d y) (lacks_like n) = refl
-  properly_like k h (not_all ds) (not_all es) (not_all_like i) = ap₂ (λ p q. p && not q) (all_among_like k i h) (all_among_like k h i)
-
-  too_much_like : {xs ys : List ℕ} {lines lines' before before' after after' : List Line} (l m : Line) → NamesLike xs ys → LinesAlike lines lines' → LinesAlike before before' → LineLike l m → LinesAlike after after' →
-      too_much xs lines before l after ≡ too_much ys lines' before' m after'
-  too_much_like (is_sort s x) (is_sort r y) k h b (sort_like n) a = refl
-  too_much_like (lacks t x) (lacks d y) k h b (lacks_like n) a = refl
-  too_much_like {xs} {ys} (not_all bs) (not_all cs) k h b (not_all_like n) a =
-      ap₂ ◌||◌ (barred_like h n) (ap₂ ◌||◌ (some_line_like (within xs bs) (within ys cs) (within_like k n) b) (some_line_like (properly_within xs bs) (properly_within ys cs) (properly_like k n) a))
-
-  drop_lines_like : {xs ys : List ℕ} {lines lines' before before' ls ms : List Line} → NamesLike xs ys → LinesAlike lines lines' → LinesAlike before before' → LinesAlike ls ms →
-      LinesAlike (drop_lines xs lines before ls) (drop_lines ys lines' before' ms)
-  drop_lines_like k h b nil_like = nil_like
-  drop_lines_like {xs} {ys} {lines} {lines'} {before} {before'} k h b (cons_like {a = l} {b = m} {xs = ls} {ys = ms} i is) =
-      let rest = drop_lines_like k h (cons_like i b) is in
-      choose_like LinesAlike (too_much xs lines before l ls) (too_much ys lines' before' m ms) _ _ _ _ (too_much_like l m k h b i is) rest (cons_like i rest)
-
-  telling_like : {xs ys : List ℕ} {ls ms : List Line} → NamesLike xs ys → LinesAlike ls ms → LinesAlike (telling xs ls) (telling ys ms)
-  telling_like k h = drop_lines_like k h nil_like h
-
   lines_words_like : {xs ys : List ℕ} {ls ms : List Line} → NamesLike xs ys → Pointwise LineLike ls ms → lines_words xs ls ≡ lines_words ys ms
   lines_words_like k nil_like = refl
   lines_words_like k (cons_like {a = l} {b = m} h hs) = ap₂ (λ p q. p ++ q) (line_words_like l m k h) (lines_words_like k hs)
@@ -194,7 +123,7 @@ module _ (N : Renaming) (pairs : OneToOne N) where
   answer_words_like n {bs} {cs} {ls} {ms} f b h =
       let qs : TermsLike N (query_terms bs 0 n) (query_terms cs 0 n) = map_like (resolve bs) (resolve cs) (λ s t h. resolve_like b h) (parameters_like 0 n (λ x i. f x (omega arith))) in
       let names : NamesLike (names_of bs n) (names_of cs n) = appear_all_like nil_like qs in
-      ap₂ (λ ts ws. part 15 (terms_words ts ++ ws)) (map_same (reify (names_of bs n)) (reify (names_of cs n)) (λ s t h. reify_like names h) qs) (lines_words_like names (telling_like names (listed_like [] names h)))
+      ap₂ (λ ts ws. part 15 (terms_words ts ++ ws)) (map_same (reify (names_of bs n)) (reify (names_of cs n)) (λ s t h. reify_like names h) qs) (lines_words_like names (listed_like [] names h))
 
   module _ (Waived : Bound → Type 0) where
     -- what the writer looks at

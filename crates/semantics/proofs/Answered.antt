@@ -6,33 +6,28 @@ use mathlib.Core.Logic.{◌↔◌, inl, inr}
 use mathlib.Core.Path.{◌∙◌, ◌≡◌, ap, ap₂, refl, subst, sym}
 use native.Mathlib.Omega.{arith}
 use lib.ListN.{get_or, length, length-append, length-map}
-use Rattle.page.specs.Form.{AnswerForm, payloads}
 use Rattle.rules.specs.Lists.{Each, Some}
 use Rattle.rules.specs.Reading.{Reading, choose, found}
 use Rattle.rules.specs.Syntax.{Constraint, Goal, Sort, Term, absento, atom, differ, numbers, pair, symbols, typed, var}
-use Rattle.semantics.specs.Answer.{Line, all_lines, answer, answer_words, index, line_goal, line_in, listed, look_through, names_of, parameters, query_terms, reify, reify_line, telling, vars_in, words_with}
-use Rattle.semantics.specs.Earlier.{answer_words_before_13}
-use Rattle.semantics.specs.Invariant.{BindsOnce, Good, Passes, Reaches, Sat, SortPasses, Sound, TermIn}
+use Rattle.rules.specs.Written.{terms_words}
+use Rattle.semantics.specs.Answer.{Line, all_lines, answer, answer_words, index, line_goal, line_in, lines_words, listed, look_through, names_of, parameters, query_terms, reify, reify_line, vars_in}
+use Rattle.semantics.specs.Invariant.{Good, Passes, Reaches, Sat, SortPasses, Sound, TermIn}
 use Rattle.semantics.specs.Logic.{AllProper, Assignment, Holds, Proper, Tree, firsts, value}
 use Rattle.semantics.specs.Path.{Path}
 use Rattle.semantics.specs.Review.{clashes}
-use Rattle.semantics.specs.Shows.{Shows, read_answer}
+use Rattle.semantics.specs.Shows.{Shows, payloads, read_answer}
 use Rattle.semantics.specs.Steps.{done, goals}
 use Rattle.semantics.specs.Substitution.{Substitution, resolve, walk}
 use Rattle.semantics.proofs.Basics.{each_map}
-use Rattle.semantics.proofs.FewNames.{appear_few}
 use Rattle.semantics.proofs.Fill.{Among, Filled, LineGood, Met, among_left, among_right, among_self, atom_payload, atom_payload_one, differs_in, filled, met_agrees, some_filled, values_agree}
-use Rattle.semantics.proofs.Formed.{words_formed}
 use Rattle.semantics.proofs.LineLaws.{LineIn, Listing, MayMeet, SortMay, all_listing, all_met_open}
-use Rattle.semantics.proofs.Listed.{Fits, Tells, goal_met, listed_tells}
-use Rattle.semantics.proofs.Names.{appear_all_has, inner, inner_outer, line_fits, met_outer, outer, terms_fit, values_outer}
+use Rattle.semantics.proofs.Listed.{MayFit, all_listed, goal_met, listed_each, listed_fit}
+use Rattle.semantics.proofs.Names.{appear_all_few, appear_all_has, inner, inner_outer, line_fits, met_outer, outer, terms_fit, values_outer}
 use Rattle.semantics.proofs.Narrow.{Solves}
-use Rattle.semantics.proofs.ReadBack.{TermsFit, answer_back, line_goals}
+use Rattle.semantics.proofs.ReadBack.{answer_back, line_goals}
 use Rattle.semantics.proofs.ReviewLaws.{clashes_true, sort_true}
 use Rattle.semantics.proofs.StepLaws.{done_value, through}
 use Rattle.semantics.proofs.SubstitutionLaws.{Seen, complete, in_more, resolve_in, sat_complete, value_resolve, walk_seen}
-use Rattle.semantics.proofs.Telling.{no_more_words}
-use Rattle.semantics.proofs.TellingSays.{telling_tells}
 
 pub same_read : {A B : Type 0} {o : Reading (A × B)} {a c : A} {b d : B} {m n : ℕ} → o ≡ found (a, b) m → o ≡ found (c, d) n → (a ≡ c) × (b ≡ d)
 same_read {A} {B} {a} {c} {b} {d} p q = let e : ◌≡◌ {A = A × B} (a, b) (c, d) = cc in (ap (λ (r : A × B). r.0) e, ap (λ (r : A × B). r.1) e)
@@ -106,46 +101,27 @@ pub record BeginsWith (n : ℕ) (bs : Substitution) (kept : List Constraint) (tu
   pub solves : Solves bs kept assignment
   pub is_tuple : firsts n assignment ≡ tuple
 
--- the words show just the tuples of the path, of which there is one at least, and have the form of an answer
+-- the words show just the tuples of the path, of which there is one at least
 pub record ShowsPath (n : ℕ) (bs : Substitution) (kept : List Constraint) (ws : List ℕ) : Type 0 where
   pub just : (tuple : List Tree) → Shows n ws tuple ↔ BeginsWith n bs kept tuple
   pub some_tuple : (tuple : List Tree) × Shows n ws tuple
-  pub formed : AnswerForm ws
 
--- the lines of a path
-module _ (bs : Substitution) (kept : List Constraint) (made : ℕ) (sound : Sound bs kept made) (left left' : ℕ) (lines : List Line) (is_lines : all_lines bs kept left ≡ done lines left') where
-  path_listing : Listing made bs (kind_in bs kept) (tags_in kept) kept lines
-  path_listing = all_listing made sound.few_made bs sound.good sound.scope (kind_in bs kept) (tags_in kept) kept sound.kept_in (may_meet bs sound.good kept kept (λ Q m. m) (λ ps m. m) sound.passes) left left' lines is_lines
-
-  -- they are over the path's variables, named or not
-  pub lines_scope : Each (LineIn made) lines
-  lines_scope = path_listing.scope
-
-  -- and those of trials bind their variables once
-  pub lines_once : Each BindsOnce lines
-  lines_once = path_listing.once
-
-  -- those over some names have payloads that fit
-  pub lines_fit : (names : List ℕ) → length names < payloads → Each (λ l. line_in names l ≡ true → Fits names l) lines
-  lines_fit names few = go lines path_listing.ready path_listing.scope
-    where
-      go : (ls : List Line) → Each (LineGood (kind_in bs kept) (tags_in kept)) ls → Each (LineIn made) ls → Each (λ l. line_in names l ≡ true → Fits names l) ls
-      go [] g h = tt
-      go (l ∷ ls) g h = ((λ e. line_fits names made few (kind_in bs kept) (tags_in kept) l g.0 h.0 e), go ls g.1 h.1)
-
--- and of these lines, those shown
-module _ (bs : Substitution) (kept : List Constraint) (made : ℕ) (sound : Sound bs kept made) (left left' : ℕ) (lines : List Line) (is_lines : all_lines bs kept left ≡ done lines left') (n : ℕ) (query : n ≤ made) where
-  abbrev listing : Listing made bs (kind_in bs kept) (tags_in kept) kept lines
-  listing = path_listing bs kept made sound left left' lines is_lines
-
+module _ (bs : Substitution) (kept : List Constraint) (made : ℕ) (sound : Sound bs kept made) (n : ℕ) (query : n ≤ made) (lines : List Line)
+    (listing : Listing made bs (kind_in bs kept) (tags_in kept) kept lines) (short : length (answer_words bs n lines) ≤ payloads) where
   abbrev N : List ℕ
   N = names_of bs n
 
   abbrev T : List Term
   T = query_terms bs 0 n
 
-  over : Each (λ t. vars_in N t ≡ true) T
-  over = appear_all_has [] T
+  abbrev L : List Line
+  L = listed N [] lines
+
+  total : length (terms_words (map (reify N) T)) + length (lines_words N L) < payloads
+  total = let a = length-append (terms_words (map (reify N) T)) (lines_words N L) in omega arith
+
+  few_names : length N < payloads
+  few_names = let a = appear_all_few N [] T in let b = total in omega arith
 
   terms_in : Each (TermIn made) T
   terms_in = go (parameters 0 n) (parameters_in made 0 n (omega arith))
@@ -154,106 +130,95 @@ module _ (bs : Substitution) (kept : List Constraint) (made : ℕ) (sound : Soun
       go [] h = tt
       go (t ∷ ts) h = (resolve_in made bs sound.scope t h.0, go ts h.1)
 
-  few_names : length N < payloads
-  few_names = let a = appear_few made T terms_in in let b = sound.few_made in omega arith
+  over : Each (λ t. vars_in N t ≡ true) T
+  over = appear_all_has [] T
 
-  -- "open variables renumbered": the payloads of the query terms and of the lines over the names fit
-  T_fit : TermsFit (map (reify N) T)
-  T_fit = terms_fit N made few_names T over terms_in
+  may_fit : Each (λ l. line_in N l ≡ true → MayFit N l) lines
+  may_fit = go lines listing.ready listing.scope
+    where
+      go : (ls : List Line) → Each (LineGood (kind_in bs kept) (tags_in kept)) ls → Each (LineIn made) ls → Each (λ l. line_in N l ≡ true → MayFit N l) ls
+      go [] g h = tt
+      go (l ∷ ls) g h = ((λ e s. line_fits N made few_names (kind_in bs kept) (tags_in kept) l g.0 h.0 e s), go ls g.1 h.1)
 
-  pub named_fit : Each (λ l. line_in N l ≡ true → Fits N l) lines
-  named_fit = lines_fit bs kept made sound left left' lines is_lines N few_names
+  reads : read_answer n (answer_words bs n lines) ≡ found (map (reify N) T, line_goals N L) (length (answer_words bs n lines))
+  reads =
+      let b = total in
+      answer_back N (map (reify N) T) L n (length-map T (reify N) ∙ length-map (parameters 0 n) (resolve bs) ∙ parameters_length 0 n)
+      (terms_fit N made few_names T over terms_in (omega arith))
+      (listed_fit N L (listed_each (MayFit N) N [] lines may_fit) (omega arith)) (omega arith)
 
-  module _ (L : List Line) (tells : Tells N lines L) (short : length (words_with bs n L) ≤ payloads) where
-    reads : read_answer n (words_with bs n L) ≡ found (map (reify N) T, line_goals N L) (length (words_with bs n L))
-    reads =
-        answer_back N (map (reify N) T) L n (length-map T (reify N) ∙ length-map (parameters 0 n) (resolve bs) ∙ parameters_length 0 n)
-        T_fit (tells.of_them (Fits N) named_fit) (omega arith)
+  few_lines : length (tags_in kept) + differs_in lines < 131072
+  few_lines = let a = tags_few kept in let b = listing.few in let c = sound.few_kept in omega arith
 
-    in_form : AnswerForm (words_with bs n L)
-    in_form = words_formed N (map (reify N) T) L T_fit (tells.of_them (Fits N) named_fit) (omega arith)
+  -- each tuple shown belongs to an assignment that solves the path
+  shown_begins : (tuple : List Tree) → Shows n (answer_words bs n lines) tuple → BeginsWith n bs kept tuple
+  shown_begins tuple s = record {
+    assignment = complete γ bs;
+    solves = record {
+      proper = λ x. value_proper (suc (made + x)) γ f.proper (resolve bs (var x)) (resolve_in (suc (made + x)) bs (in_more made (suc (made + x)) (omega arith) bs sound.scope) (var x) (omega arith));
+      sat = sat;
+      meets = listing.up (complete γ bs) sat (all_met_open γ bs lines listing.opens f.meets);
+    };
+    is_tuple = sym (query_values bs γ n 0 (complete γ bs) (λ j. ap (complete γ bs) (omega arith))) ∙ values_agree N α γ f.agrees T over ∙ values_outer N β T ∙ ap (map (value β)) (same_read reads s.reads).0 ∙ s.is_tuple;
+  }
+    where
+      β : Assignment
+      β = s.assignment
 
-    few_lines : length (tags_in kept) + differs_in lines < 131072
-    few_lines = let a = tags_few kept in let b = listing.few in let c = sound.few_kept in omega arith
+      α : Assignment
+      α = outer N β
 
-    -- each tuple shown belongs to an assignment that solves the path
-    shown_begins : (tuple : List Tree) → Shows n (words_with bs n L) tuple → BeginsWith n bs kept tuple
-    shown_begins tuple s = record {
-      assignment = complete γ bs;
-      solves = record {
-        proper = λ x. value_proper (suc (made + x)) γ f.proper (resolve bs (var x)) (resolve_in (suc (made + x)) bs (in_more made (suc (made + x)) (omega arith) bs sound.scope) (var x) (omega arith));
-        sat = sat;
-        meets = listing.up (complete γ bs) sat (all_met_open γ bs lines listing.opens f.meets);
-      };
-      is_tuple = sym (query_values bs γ n 0 (complete γ bs) (λ j. ap (complete γ bs) (omega arith))) ∙ values_agree N α γ f.agrees T over ∙ values_outer N β T ∙ ap (map (value β)) (same_read reads s.reads).0 ∙ s.is_tuple;
-    }
-      where
-        β : Assignment
-        β = s.assignment
+      hold : Each (λ l. Holds [] β (line_goal (reify_line N l)) 0) L
+      hold = (line_goals_each (λ g. Holds [] β g 0) N L).0 (subst (Each (λ g. Holds [] β g 0)) (sym (same_read reads s.reads).1) s.holds)
 
-        α : Assignment
-        α = outer N β
+      met : Each (λ l. line_in N l ≡ true → Met α l) lines
+      met = each_map (λ l h e. (met_outer N β l).1 ((goal_met [] β (reify_line N l)).0 (h e))) lines
+          (all_listed N (λ g. Holds [] β g 0) [] lines tt may_fit (let b = total in omega arith) hold)
 
-        hold : Each (λ l. Holds [] β (line_goal (reify_line N l)) 0) L
-        hold = (line_goals_each (λ g. Holds [] β g 0) N L).0 (subst (Each (λ g. Holds [] β g 0)) (sym (same_read reads s.reads).1) s.holds)
+      f : Filled N α lines
+      f = filled N α (λ x. s.proper (index x N)) (kind_in bs kept) (tags_in kept) lines listing.ready few_lines met
 
-        met : Each (λ l. line_in N l ≡ true → Met α l) lines
-        met = each_map (λ l h e. (met_outer N β l).1 (h e)) lines (tells.enough β (each_map (λ l h. (goal_met [] β (reify_line N l)).0 h) L hold))
+      γ : Assignment
+      γ = f.assignment
 
-        f : Filled N α lines
-        f = filled N α (λ x. s.proper (index x N)) (kind_in bs kept) (tags_in kept) lines listing.ready few_lines met
+      sat : Sat (complete γ bs) bs
+      sat = sat_complete γ bs sound.good
 
-        γ : Assignment
-        γ = f.assignment
+  -- and an assignment that meets the lines shows its tuple
+  met_shown : (α : Assignment) → AllProper α → Each (Met α) lines → Shows n (answer_words bs n lines) (map (value α) T)
+  met_shown α proper m = record {
+    terms = map (reify N) T;
+    goals = line_goals N L;
+    reads = reads;
+    assignment = β;
+    proper = λ x. proper (get_or N x 0);
+    is_tuple = sym (values_outer N β T) ∙ values_agree N α (outer N β) (inner_outer N α) T over;
+    holds = (line_goals_each (λ g. Holds [] β g 0) N L).1 (listed_each (λ l. Holds [] β (line_goal (reify_line N l)) 0) N [] lines
+        (each_map (λ l h e. (goal_met [] β (reify_line N l)).1 ((met_outer N β l).0 (met_agrees N α (outer N β) (inner_outer N α) l e h))) lines m));
+  }
+    where
+      β : Assignment
+      β = inner N α
 
-        sat : Sat (complete γ bs) bs
-        sat = sat_complete γ bs sound.good
+  begins_shown : (tuple : List Tree) → BeginsWith n bs kept tuple → Shows n (answer_words bs n lines) tuple
+  begins_shown tuple b =
+      let α = b.assignment in
+      subst (Shows n (answer_words bs n lines)) (query_values bs α n 0 α (λ j. shifted α j ∙ sym (value_resolve α bs b.solves.sat (var (0 + j)))) ∙ b.is_tuple)
+      (met_shown α b.solves.proper (listing.down α b.solves.sat b.solves.meets))
+    where
+      shifted : (α : Assignment) (j : ℕ) → α j ≡ α (0 + j)
+      shifted α j = ap α (omega arith)
 
-    -- and an assignment that meets the lines shows its tuple
-    met_shown : (α : Assignment) → AllProper α → Each (Met α) lines → Shows n (words_with bs n L) (map (value α) T)
-    met_shown α proper m = record {
-      terms = map (reify N) T;
-      goals = line_goals N L;
-      reads = reads;
-      assignment = β;
-      proper = λ x. proper (get_or N x 0);
-      is_tuple = sym (values_outer N β T) ∙ values_agree N α (outer N β) (inner_outer N α) T over;
-      holds = (line_goals_each (λ g. Holds [] β g 0) N L).1 (tells.of_them (λ l. Holds [] β (line_goal (reify_line N l)) 0)
-          (each_map (λ l h e. (goal_met [] β (reify_line N l)).1 ((met_outer N β l).0 (met_agrees N α (outer N β) (inner_outer N α) l e h))) lines m));
-    }
-      where
-        β : Assignment
-        β = inner N α
-
-    begins_shown : (tuple : List Tree) → BeginsWith n bs kept tuple → Shows n (words_with bs n L) tuple
-    begins_shown tuple b =
-        let α = b.assignment in
-        subst (Shows n (words_with bs n L)) (query_values bs α n 0 α (λ j. shifted α j ∙ sym (value_resolve α bs b.solves.sat (var (0 + j)))) ∙ b.is_tuple)
-        (met_shown α b.solves.proper (listing.down α b.solves.sat b.solves.meets))
-      where
-        shifted : (α : Assignment) (j : ℕ) → α j ≡ α (0 + j)
-        shifted α j = ap α (omega arith)
-
-    lines_show : ShowsPath n bs kept (words_with bs n L)
-    lines_show =
-        let f = some_filled (kind_in bs kept) (tags_in kept) lines listing.ready few_lines in
-        record { just = λ tuple. (shown_begins tuple, begins_shown tuple); some_tuple = (map (value f.assignment) T, met_shown f.assignment f.proper f.meets); formed = in_form }
-
-  pub answer_words_show : length (answer_words bs n lines) ≤ payloads → ShowsPath n bs kept (answer_words bs n lines)
-  answer_words_show = lines_show (telling N (listed N [] lines)) (telling_tells N lines named_fit)
-
-  words_before_show : length (answer_words_before_13 bs n lines) ≤ payloads → ShowsPath n bs kept (answer_words_before_13 bs n lines)
-  words_before_show = lines_show (listed N [] lines) (listed_tells N lines named_fit)
-
-  -- "Each answer must show the same tuples as without this rule": wherever the longer answer can be written. A line that says too much may have more than 2^28 words, as terms share parts.
-  pub same_shown : length (answer_words_before_13 bs n lines) ≤ payloads → (tuple : List Tree) → Shows n (answer_words bs n lines) tuple ↔ Shows n (answer_words_before_13 bs n lines) tuple
-  same_shown short tuple =
-      let new = (answer_words_show (let h = no_more_words bs n lines in omega arith)).just tuple in let old = (words_before_show short).just tuple in
-      (λ s. old.1 (new.0 s), λ s. new.1 (old.0 s))
+  lines_show : ShowsPath n bs kept (answer_words bs n lines)
+  lines_show =
+      let f = some_filled (kind_in bs kept) (tags_in kept) lines listing.ready few_lines in
+      record { just = λ tuple. (shown_begins tuple, begins_shown tuple); some_tuple = (map (value f.assignment) T, met_shown f.assignment f.proper f.meets) }
 
 pub answer_shows : (p : Path) (n left left' : ℕ) (ws : List ℕ) → Sound p.bindings p.kept p.made → n ≤ p.made → answer p n left ≡ done ws left' → length ws ≤ payloads → ShowsPath n p.bindings p.kept ws
 answer_shows p n left left' ws sound query e short =
     let a = through (look_through p.bindings (parameters 0 n) left) _ ws left' e in
     let b = through (all_lines p.bindings p.kept a.left) _ ws left' a.second in
     let q = done_value (answer_words p.bindings n b.value) ws b.left left' b.second in
-    subst (ShowsPath n p.bindings p.kept) q (answer_words_show p.bindings p.kept p.made sound a.left b.left b.value b.first n query (subst (λ (vs : List ℕ). length vs ≤ payloads) (sym q) short))
+    let listing = all_listing p.made sound.few_made p.bindings sound.good sound.scope (kind_in p.bindings p.kept) (tags_in p.kept) p.kept sound.kept_in
+    (may_meet p.bindings sound.good p.kept p.kept (λ Q m. m) (λ ps m. m) sound.passes) a.left b.left b.value b.first in
+    subst (ShowsPath n p.bindings p.kept) q (lines_show p.bindings p.kept p.made sound n query b.value listing (subst (λ (vs : List ℕ). length vs ≤ payloads) (sym q) short))

@@ -48,16 +48,6 @@ pub or_right : (a : Bool) → (a || true) ≡ true
 or_right true = refl
 or_right false = refl
 
-pub or_up : (a b c d : Bool) → (a ≡ true → c ≡ true) → (b ≡ true → d ≡ true) → (a || b) ≡ true → (c || d) ≡ true
-or_up a b c d f g e = ⊎_elim (λ z. rw (f z)) (λ z. rw (g z) (or_right c)) (one_of a b e)
-
--- two tests that are passed alike
-pub same_test : (a b : Bool) → (a ≡ true → b ≡ true) → (b ≡ true → a ≡ true) → a ≡ b
-same_test true true f g = refl
-same_test true false f g = sym (f refl)
-same_test false true f g = g refl
-same_test false false f g = refl
-
 -- lists
 pub each_map : {A : Type 0} {P Q : A → Type 0} → ((x : A) → P x → Q x) → (xs : List A) → Each P xs → Each Q xs
 each_map f [] h = tt

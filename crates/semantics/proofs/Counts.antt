@@ -74,7 +74,7 @@ trial_spent bs left (some bs') l h =
     let ts = map (λ (b : ℕ × Term). b.1) (trial_bindings bs bs') in
     spent_then left left (look_through bs ts l) _ (spent_up l l left left (look_through bs ts l) h h (look_spent bs ts l)) (λ u m i. i)
 
-pub lines_spent : (bs : Substitution) (c : Constraint) (left : ℕ) → Spent left left (lines_of bs c left)
+lines_spent : (bs : Substitution) (c : Constraint) (left : ℕ) → Spent left left (lines_of bs c left)
 lines_spent bs (differ s t) left = spent_then left left (unify_terms bs s t left) _ (unify_spent left bs [] s t left) (λ r l h. trial_spent bs left r l h)
 lines_spent bs (typed k t) left = spent_then left left (scan never bs [] t left) _ (scan_spent never bs left [] t) (λ b l h. h)
 lines_spent bs (absento a t) left = spent_then left left (scan never bs [] t left) _ (scan_spent never bs left [] t) (λ b l h. h)
@@ -150,7 +150,7 @@ module _ (d : ℕ) where
       let ts = map (λ (b : ℕ × Term). b.1) (trial_bindings bs bs') in
       more_then d (look_through bs ts l) (look_through bs ts l') _ _ (look_more bs ts l l' e) (λ u m q m' i. more_done d _ m m' i)
 
-  pub lines_more : (bs : Substitution) (c : Constraint) (l l' : ℕ) → l' ≡ l + d → More d (lines_of bs c l) (lines_of bs c l')
+  lines_more : (bs : Substitution) (c : Constraint) (l l' : ℕ) → l' ≡ l + d → More d (lines_of bs c l) (lines_of bs c l')
   lines_more bs (differ s t) l l' e = more_then d (unify_terms bs s t l) (unify_terms bs s t l') _ _ (terms_more bs s t l l' e) (λ r m q m' i. trial_more bs r m m' i)
   lines_more bs (typed k t) l l' e = more_then d (scan never bs [] t l) (scan never bs [] t l') _ _ (scan_more d never bs l l' [] t e) (λ b m q m' i. more_done d _ m m' i)
   lines_more bs (absento a t) l l' e = more_then d (scan never bs [] t l) (scan never bs [] t l') _ _ (scan_more d never bs l l' [] t e) (λ b m q m' i. more_done d _ m m' i)

@@ -1,21 +1,21 @@
 -- The lines of a path's constraints: under the path's bindings they say just what the constraints say.
 use Prim.Native.Nat.{◌+◌, ◌<◌, ◌≤◌, ℕ}
-use mathlib.Core.Bool.{Bool, false, true, true≢false}
-use mathlib.Core.List.{List, [], ◌++◌, ◌∷◌, map, reverse, reverse-cons, reverse-reverse}
+use mathlib.Core.Bool.{Bool, false, true}
+use mathlib.Core.List.{List, [], ◌++◌, ◌∷◌, map, reverse, reverse-reverse}
 use mathlib.Core.Logic.{◌↔◌, ⊎_elim}
 use mathlib.Core.Option.{Option, none, some}
 use mathlib.Core.Path.{◌∙◌, ◌≡◌, ap, refl, subst, sym}
 use native.Mathlib.Omega.{arith}
 use lib.Dec.{eqb}
-use lib.ListN.{length, length-reverse}
-use borrow.Author.Tests.{eq-eqb, eqb-true}
+use lib.ListN.{length}
+use borrow.Author.Tests.{eqb-true}
 use Rattle.word.specs.Word.{kind}
 use Rattle.rules.specs.Lists.{Each}
 use Rattle.rules.specs.Reading.{choose}
 use Rattle.rules.specs.Syntax.{Atom, Constraint, Sort, Term, absento, atom, differ, pair, typed, var}
 use Rattle.rules.specs.WellFormed.{TagGood}
 use Rattle.semantics.specs.Answer.{Line, all_lines, appear, is_sort, lacks, lacks_each, lines_of, look_through, not_all, resolve_right, trial_bindings, trial_lines, typed_lines}
-use Rattle.semantics.specs.Invariant.{BindsOnce, ConstraintIn, Good, In, Open, Sat, TermIn, Throughout, Unforced, Vars, Without, some_node}
+use Rattle.semantics.specs.Invariant.{ConstraintIn, Good, In, Open, Sat, TermIn, Throughout, Unforced, Vars, Without, some_node}
 use Rattle.semantics.specs.Logic.{Assignment, Lacks, Meets, OfSort, leaf, value}
 use Rattle.semantics.specs.Steps.{done}
 use Rattle.semantics.specs.Substitution.{Substitution, resolve, walk}
@@ -75,7 +75,6 @@ pub record Listing (top : ℕ) (bs : Substitution) (kind : ℕ → Sort) (tags :
   pub ready : Each (LineGood kind tags) ls
   pub scope : Each (LineIn top) ls
   pub few : differs_in ls ≤ length cs
-  pub once : Each BindsOnce ls
 
 -- lists of variables by first appearance
 
@@ -116,27 +115,6 @@ differs_append (is_sort k x ∷ ls) ms = differs_append ls ms
 differs_append (lacks a x ∷ ls) ms = differs_append ls ms
 differs_append (not_all es ∷ ls) ms = let e = differs_append ls ms in omega arith
 
--- the first two pairs bind different variables
-abbrev Apart : List (ℕ × Term) → Type 0
-Apart [] = Unit {0}
-Apart (b ∷ []) = Unit {0}
-Apart (b ∷ c ∷ bs) = ¬ (b.0 ≡ c.0)
-
-apart_more : (cs ds : List (ℕ × Term)) → 2 ≤ length cs → Apart cs → Apart (cs ++ ds)
-apart_more [] ds l h = absurd (omega arith)
-apart_more (c ∷ []) ds l h = absurd (omega arith)
-apart_more (c ∷ d ∷ cs) ds l h = h
-
-right_apart : (bs : Substitution) (cs : List (ℕ × Term)) → Apart cs → Apart (resolve_right bs cs)
-right_apart bs [] h = tt
-right_apart bs (c ∷ []) h = tt
-right_apart bs (c ∷ d ∷ cs) h = h
-
-bound_once : (es : List (ℕ × Term)) → ¬ (es ≡ []) → Apart es → BindsOnce (not_all es)
-bound_once [] n h = n refl
-bound_once (e ∷ []) n h = tt
-bound_once (e ∷ f ∷ es) n h = h
-
 module _ (top : ℕ) (low : top ≤ 2048) (bs : Substitution) (good : Good bs) (scope : In top bs) (kind : ℕ → Sort) (tags : List ℕ) where
   abbrev Lists : Constraint → List Line → Type 0
   Lists c ls = Listing top bs kind tags (c ∷ []) ls
@@ -150,7 +128,6 @@ module _ (top : ℕ) (low : top ≤ 2048) (bs : Substitution) (good : Good bs) (
     ready = (may, tt);
     scope = (i, tt);
     few = omega arith;
-    once = (tt, tt);
   }
   typed_listing k t (atom a) e seen i may = record {
     down = λ α h m. tt;
@@ -159,7 +136,6 @@ module _ (top : ℕ) (low : top ≤ 2048) (bs : Substitution) (good : Good bs) (
     ready = tt;
     scope = tt;
     few = omega arith;
-    once = tt;
   }
   typed_listing k t (pair u v) e seen i may = absurd may
 
@@ -172,7 +148,6 @@ module _ (top : ℕ) (low : top ≤ 2048) (bs : Substitution) (good : Good bs) (
     ready = (lacks_each_each (LineGood kind tags) a xs).1 (each_all _ xs (λ x. may.1));
     scope = (lacks_each_each (LineIn top) a xs).1 (each_map (λ x h. (tag, h)) xs ((appear_each (λ x. x < top) [] T).1 (tt, vars_below top T (resolve_in top bs scope t i))));
     few = let e = lacks_each_differs a xs in omega arith;
-    once = (lacks_each_each BindsOnce a xs).1 (each_all _ xs (λ x. tt));
   }
     where
       T : Term
@@ -201,15 +176,6 @@ module _ (top : ℕ) (low : top ≤ 2048) (bs : Substitution) (good : Good bs) (
       let f = g.1 in
       ((open_old new b.0 f.opens, λ e. subst (Without b.0) (still_var new b.0 b.1 f.opens e) f.acyclic refl), new_open new g.0)
 
-  -- each was open when it was bound
-  new_apart : (new : Substitution) → Good (new ++ bs) → Apart (reverse new)
-  new_apart [] g = tt
-  new_apart (b ∷ []) g = tt
-  new_apart (b ∷ c ∷ []) g = λ e. true≢false (sym (eq-eqb c.0 b.0 e) ∙ (open_tail c.0 c.1 bs b.0 g.1.opens).0)
-  new_apart (b ∷ c ∷ d ∷ new) g =
-      let h = new_apart (c ∷ d ∷ new) g.0 in
-      subst Apart (sym (reverse-cons b (c ∷ d ∷ new))) (apart_more (reverse (c ∷ d ∷ new)) (b ∷ []) (omega (arith, length-reverse (c ∷ d ∷ new))) h)
-
   fit_of : (x : ℕ) (t : Term) → x < top → TermIn top t → ¬ (t ≡ var x) → Fit 2048 x t
   fit_of x (var y) h k n = (omega arith, omega arith, λ e. n (ap var (sym e)))
   fit_of x (atom a) h k n = tt
@@ -236,7 +202,6 @@ module _ (top : ℕ) (low : top ≤ 2048) (bs : Substitution) (good : Good bs) (
     ready = (good_not_all es some_es (of_new (λ c. Fit 2048 c.0 c.1) (fits_of new in_new fresh)), tt);
     scope = (of_new (λ c. (c.0 < top) × TermIn top c.1) (each_map (λ b h. (h.0, resolve_in top bs scope b.1 h.1)) new in_new), tt);
     few = omega arith;
-    once = (bound_once es some_es (right_apart bs (trial_bindings bs bs') (subst Apart (sym (trial_new u)) (new_apart new (subst Good u.grows u.good)))), tt);
   }
     where
       new : Substitution
@@ -258,7 +223,7 @@ module _ (top : ℕ) (low : top ≤ 2048) (bs : Substitution) (good : Good bs) (
       some_es e = news (ap length u.grows ∙ ap (λ (ns : Substitution). length (ns ++ bs)) (sym (reverse-reverse new) ∙ ap reverse (sym (trial_new u) ∙ right_nil (trial_bindings bs bs') e)))
 
   differ_none : (s t : Term) → ((α : Assignment) → Sat α bs → ¬ (value α s ≡ value α t)) → Lists (differ s t) []
-  differ_none s t n = record { down = λ α h m. tt; up = λ α h m. (n α h, tt); opens = tt; ready = tt; scope = tt; few = omega arith; once = tt }
+  differ_none s t n = record { down = λ α h m. tt; up = λ α h m. (n α h, tt); opens = tt; ready = tt; scope = tt; few = omega arith }
 
   -- a disequality that is not forced to fail needs a binding
   needs : (s t : Term) (bs' : Substitution) → Unforced bs s t → Unifier top bs s t bs' → ¬ (length bs' ≡ length bs)
@@ -290,11 +255,10 @@ module _ (top : ℕ) (low : top ≤ 2048) (bs : Substitution) (good : Good bs) (
     ready = (each_append (LineGood kind tags) ls ms).1 (p.ready, q.ready);
     scope = (each_append (LineIn top) ls ms).1 (p.scope, q.scope);
     few = let e = differs_append ls ms in let a = p.few in let b = q.few in omega arith;
-    once = (each_append BindsOnce ls ms).1 (p.once, q.once);
   }
 
   pub all_listing : (cs : List Constraint) → Each (ConstraintIn top) cs → Each (MayMeet bs kind tags) cs → (steps l : ℕ) (ls : List Line) → all_lines bs cs steps ≡ done ls l → Listing top bs kind tags cs ls
-  all_listing [] i may steps l ls e = subst (Listing top bs kind tags []) (done_value [] ls steps l e) (record { down = λ α h m. tt; up = λ α h m. tt; opens = tt; ready = tt; scope = tt; few = omega arith; once = tt })
+  all_listing [] i may steps l ls e = subst (Listing top bs kind tags []) (done_value [] ls steps l e) (record { down = λ α h m. tt; up = λ α h m. tt; opens = tt; ready = tt; scope = tt; few = omega arith })
   all_listing (c ∷ cs) i may steps l ls e =
       let p = through (lines_of bs c steps) _ ls l e in let q = through (all_lines bs cs p.left) _ ls l p.second in
       subst (Listing top bs kind tags (c ∷ cs)) (done_value _ ls q.left l q.second)

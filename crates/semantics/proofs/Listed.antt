@@ -1,22 +1,24 @@
 -- Which lines an answer lists: those over the names, each once. Those that are dropped as repeated say nothing new.
-use Prim.Native.Nat.{ℕ}
+use Prim.Native.Nat.{◌≤◌, ℕ}
 use mathlib.Core.Bool.{Bool, false, true}
 use mathlib.Core.List.{List, [], ◌∷◌, map}
 use mathlib.Core.Logic.{◌↔◌, ⊎_elim}
 use mathlib.Core.Path.{◌≡◌, ap, ap₂, refl, subst, sym}
+use native.Mathlib.Omega.{arith}
+use lib.ListN.{length, length-append}
 use borrow.Author.Tests.{not-false}
 use Rattle.rules.specs.Lists.{Each}
 use Rattle.rules.specs.Reading.{choose}
-use Rattle.rules.specs.Syntax.{Atom, Constraint, Goals, Program, Term, atom, constrain, differ, disj, empty, var}
-use Rattle.semantics.specs.Answer.{Line, any_same, differ_goals, is_sort, lacks, line_goal, line_in, line_words, listed, not_all, reify_line, same_words, stays}
+use Rattle.rules.specs.Syntax.{Atom, Constraint, Goal, Goals, Program, Term, atom, constrain, differ, disj, empty, var}
+use Rattle.semantics.specs.Answer.{Line, any_same, differ_goals, is_sort, lacks, line_goal, line_in, line_words, lines_words, listed, not_all, reify_line, same_words, stays}
 use Rattle.semantics.specs.Invariant.{Sat}
 use Rattle.semantics.specs.Logic.{Any, Assignment, Holds, Meets, Tree, any_first, any_later, any_one, constrain_holds, disj_holds, leaf, node, value}
+use Rattle.semantics.specs.Shows.{payloads}
 use Rattle.semantics.specs.Substitution.{same_atom}
 use Rattle.semantics.proofs.Basics.{and_true, by_choose, clash, one_of}
-use Rattle.semantics.proofs.Determined.{line_determined}
 use Rattle.semantics.proofs.Fill.{Met}
 use Rattle.semantics.proofs.Repeats.{same_true}
-use Rattle.semantics.proofs.ReadBack.{LineFits}
+use Rattle.semantics.proofs.ReadBack.{LineFits, goal_determined}
 use Rattle.semantics.proofs.TermLaws.{same_atom_false, same_atom_true}
 
 pub listed_each : (P : Line → Type 0) (names : List ℕ) (before : List (List ℕ)) (ls : List Line) → Each (λ l. line_in names l ≡ true → P l) ls → Each P (listed names before ls)
@@ -26,47 +28,52 @@ listed_each P names before (l ∷ ls) h =
     (λ e. (h.0 (and_true _ _ e).0, listed_each P names (line_words names l ∷ before) ls h.1))
     (λ e. listed_each P names before ls h.1)
 
--- What is asked of the lines shown of an answer's lines: they are some of those over the names, and what they say all of those say.
-pub record Tells (names : List ℕ) (lines shown : List Line) : Type 1 where
-  pub of_them : (P : Line → Type 0) → Each (λ l. line_in names l ≡ true → P l) lines → Each P shown
-  pub enough : (β : Assignment) → Each (λ l. Met β (reify_line names l)) shown → Each (λ l. line_in names l ≡ true → Met β (reify_line names l)) lines
-
 module _ (names : List ℕ) where
-  -- a line whose payloads fit, over the answer's own variables
-  abbrev pub Fits : Line → Type 0
-  Fits l = LineFits (reify_line names l)
+  -- a line whose words are of a number that fits has payloads that fit
+  abbrev pub MayFit : Line → Type 0
+  MayFit l = length (line_words names l) ≤ payloads → LineFits (reify_line names l)
 
-  module _ (β : Assignment) where
-    abbrev Says : Line → Type 0
-    Says l = Met β (reify_line names l)
+  pub listed_fit : (ls : List Line) → Each MayFit ls → length (lines_words names ls) ≤ payloads → Each (λ l. LineFits (reify_line names l)) ls
+  listed_fit [] h s = tt
+  listed_fit (l ∷ ls) h s = let a = length-append (line_words names l) (lines_words names ls) in (h.0 (omega arith), listed_fit ls h.1 (omega arith))
 
-    repeated : (l : Line) (before : List Line) → Fits l → Each Fits before → Each Says before → any_same (line_words names l) (map (line_words names) before) ≡ true → Says l
-    repeated l [] h f k e = clash (cc)
-    repeated l (m ∷ ms) h f k e =
-        ⊎_elim (λ r. subst (Met β) (sym (line_determined (reify_line names l) (reify_line names m) h f.0 (same_true (line_words names l) (line_words names m) r))) k.0) (λ r. repeated l ms h f.1 k.1 r)
+  module _ (H : Goal → Type 0) where
+    abbrev pub Holding : Line → Type 0
+    Holding l = H (line_goal (reify_line names l))
+
+    abbrev Known : Line → Type 0
+    Known l = LineFits (reify_line names l) × (length (line_words names l) ≤ payloads) × Holding l
+
+    repeated : (l : Line) (before : List Line) → MayFit l → Each Known before → any_same (line_words names l) (map (line_words names) before) ≡ true → Holding l
+    repeated l [] h k e = clash (cc)
+    repeated l (m ∷ ms) h k e =
+        ⊎_elim (λ r. let q = same_true (line_words names l) (line_words names m) r in subst H (sym (goal_determined (reify_line names l) (reify_line names m) (h (rw q k.0.1)) k.0.0 k.0.1 q)) k.0.2)
+        (λ r. repeated l ms h k.1 r)
         (one_of (same_words (line_words names l) (line_words names m)) (any_same (line_words names l) (map (line_words names) ms)) e)
 
-    -- what the lines listed say all lines over the names say
-    listed_says : (before ls : List Line) → Each Fits before → Each Says before → Each (λ l. line_in names l ≡ true → Fits l) ls →
-        Each Says (listed names (map (line_words names) before) ls) → Each (λ l. line_in names l ≡ true → Says l) ls
-    listed_says before [] f k g h = tt
-    listed_says before (l ∷ ls) f k g h =
-        go (stays names W l) refl h (λ i j. listed_says (l ∷ before) ls (i, f) (j, k) g.1) (listed_says before ls f k g.1)
+    -- what holds of the lines listed holds of all lines over the names
+    pub all_listed : (before ls : List Line) → Each Known before → Each (λ l. line_in names l ≡ true → MayFit l) ls → length (lines_words names (listed names (map (line_words names) before) ls)) ≤ payloads →
+        Each Holding (listed names (map (line_words names) before) ls) → Each (λ l. line_in names l ≡ true → Holding l) ls
+    all_listed before [] k f s h = tt
+    all_listed before (l ∷ ls) k f s h =
+        go (stays names (map (line_words names) before) l) refl s h (λ i. all_listed (l ∷ before) ls (i, k) f.1) (all_listed before ls k f.1)
       where
         W : List (List ℕ)
         W = map (line_words names) before
 
         Rest : Type 0
-        Rest = Each (λ l. line_in names l ≡ true → Says l) ls
+        Rest = Each (λ l. line_in names l ≡ true → Holding l) ls
 
-        go : (b : Bool) → stays names W l ≡ b → Each Says (choose b (λ _. l ∷ listed names (line_words names l ∷ W) ls) (λ _. listed names W ls)) →
-            (Fits l → Says l → Each Says (listed names (line_words names l ∷ W) ls) → Rest) → (Each Says (listed names W ls) → Rest) → (line_in names l ≡ true → Says l) × Rest
-        go true e h i j = ((λ q. h.0), i (g.0 (and_true _ _ e).0) h.0 h.1)
-        go false e h i j = ((λ q. repeated l before (g.0 q) f k (not-false _ (rw q at e))), j h)
-
-  -- "One that mentions a variable absent from the query terms is dropped .., as is one with the same words as an earlier one."
-  pub listed_tells : (ls : List Line) → Each (λ l. line_in names l ≡ true → Fits l) ls → Tells names ls (listed names [] ls)
-  listed_tells ls g = record { of_them = λ P h. listed_each P names [] ls h; enough = λ β h. listed_says β [] ls tt tt g h }
+        go : (b : Bool) → stays names W l ≡ b →
+            length (lines_words names (choose b (λ _. l ∷ listed names (line_words names l ∷ W) ls) (λ _. listed names W ls))) ≤ payloads →
+            Each Holding (choose b (λ _. l ∷ listed names (line_words names l ∷ W) ls) (λ _. listed names W ls)) →
+            (Known l → length (lines_words names (listed names (line_words names l ∷ W) ls)) ≤ payloads → Each Holding (listed names (line_words names l ∷ W) ls) → Rest) →
+            (length (lines_words names (listed names W ls)) ≤ payloads → Each Holding (listed names W ls) → Rest) → (line_in names l ≡ true → Holding l) × Rest
+        go true e s h i j =
+            let a = length-append (line_words names l) (lines_words names (listed names (line_words names l ∷ W) ls)) in
+            let n : length (line_words names l) ≤ payloads = omega arith in
+            ((λ q. h.0), i (f.0 (and_true _ _ e).0 n, n, h.0) (omega arith) h.1)
+        go false e s h i j = ((λ q. repeated l before (f.0 q) k (not-false _ (rw q at e))), j s h)
 
 -- A line's goal holds just if the line is met.
 

@@ -1,25 +1,37 @@
 -- The output after a run has just the answers of the result on it, word for word and by their numbers.
-use Prim.Native.Nat.{◌+◌, ◌-◌, ◌<◌, ◌≤◌, suc, zero, ℕ}
+use Prim.Native.Nat.{◌+◌, ◌-◌, ◌≤◌, suc, zero, ℕ}
+use mathlib.Core.Bool.{Bool, ◌&&◌, false, true}
 use mathlib.Core.List.{List, [], ◌++◌, ◌∷◌, append_assoc, map}
 use mathlib.Core.Option.{some}
-use mathlib.Core.Path.{◌∙◌, ◌≡◌, ap, refl, subst, sym}
+use mathlib.Core.Path.{◌∙◌, ◌≡◌, ap, refl, sym}
 use native.Mathlib.Omega.{arith}
+use lib.Dec.{eqb}
 use lib.ListN.{get_elem?, length, length-append, length-replicate, replicate}
-use Rattle.page.specs.Form.{AnswerForm, payloads}
+use borrow.Author.Tests.{eqb-true}
 use Rattle.page.specs.Page.{answer_at, answers_left, answers_on, between, nth_part, part, refused}
-use Rattle.page.proofs.AnswersLaws.{Headed, answers_step, headed_at, headed_words, zeros_at}
-use Rattle.page.proofs.FormedLaws.{formed_found, formed_opened}
+use Rattle.page.proofs.AnswersLaws.{Headed, answers_step, headed_at, headed_words, numbered, zeros_at}
 use Rattle.rules.specs.Lists.{Each}
-use Rattle.rules.specs.Syntax.{Program}
-use Rattle.semantics.specs.Demand.{Demand3}
+use Rattle.rules.specs.Reading.{Reading, found, kind_at, next, payload_at, require}
+use Rattle.rules.specs.Syntax.{Goal, Program, Term}
+use Rattle.semantics.specs.Demand.{Demand3, query_count}
+use Rattle.semantics.specs.Logic.{Tree}
 use Rattle.semantics.specs.Promise.{OnPage}
 use Rattle.semantics.specs.Round.{Answer, Result}
 use Rattle.semantics.specs.Run.{leave, page, ran}
-use Rattle.semantics.proofs.Basics.{clash, each_map}
+use Rattle.semantics.specs.Shows.{Shows, deep, read_listed, read_query}
+use Rattle.semantics.proofs.Basics.{and_true, clash, each_map}
 
--- an answer of the form is headed
-formed_headed : (ws : List ℕ) → AnswerForm ws → Headed ws
-formed_headed ws f = let n : length f.inner < payloads = f.short in subst Headed (sym f.is_answer) (record { is_answer = omega arith; is_long = omega arith })
+-- what can be read as an answer is headed
+read_headed : (n : ℕ) (ws : List ℕ) (b : Bool) (r : Reading (List Term × List Goal)) (terms : List Term) (gs : List Goal) (m : ℕ) →
+    (eqb (kind_at ws 0) 15 && eqb (1 + payload_at ws 0) (length ws)) ≡ b → require b 2 0 (λ _. r) ≡ found (terms, gs) m → Headed ws
+read_headed n ws true r terms gs m e q =
+    let (k, l) = and_true (eqb (kind_at ws 0) 15) (eqb (1 + payload_at ws 0) (length ws)) e in
+    record { is_answer = eqb-true (kind_at ws 0) 15 k; is_long = eqb-true (1 + payload_at ws 0) (length ws) l }
+read_headed n ws false r terms gs m e q = clash (cc)
+
+shown_headed : (n : ℕ) (ws : List ℕ) (tuple : List Tree) → Shows n ws tuple → Headed ws
+shown_headed n ws tuple s =
+    read_headed n ws (eqb (kind_at ws 0) 15 && eqb (1 + payload_at ws 0) (length ws)) (next (read_query n ws 1) (λ ts m. next (read_listed (deep ws) ws m) (λ gs e. found (ts, gs) e))) s.terms s.goals (length ws) refl s.reads
 
 -- the answers on words that are followed by answers and zeros
 all_listed : (before : List ℕ) (answers : List Answer) (n : ℕ) (ws : List ℕ) → Each (λ (a : Answer). Headed a.1) answers → ws ≡ before ++ (page answers ++ replicate n 0) →
@@ -40,21 +52,16 @@ nth_words [] i a g = clash (cc)
 nth_words (b ∷ later) zero a g = let same : b ≡ a = cc in ap (λ (c : Answer). some c.1) same
 nth_words (b ∷ later) (suc i) a g = nth_words later i a g
 
-each_words : (Q : List ℕ → Type 0) (answers : List Answer) → Each (λ (a : Answer). Q a.1) answers → Each Q (map (λ (a : Answer). a.1) answers)
-each_words Q [] h = tt
-each_words Q (a ∷ later) h = (h.0, each_words Q later h.1)
-
 pub on_page : (P : Program) (r : Result) → Demand3 P r → (output scratch : List ℕ) → length (page r.answers) ≤ length output → OnPage output (leave (ran r) output scratch).output r
 on_page P r d output scratch fits =
     let n = length output - length (page r.answers) in
     let a = length-append (page r.answers) (replicate n 0) in
-    let forms : Each (λ (a : Answer). AnswerForm a.1) r.answers = each_map (λ (a : Answer) right. right.formed) r.answers d.each_answer in
+    let heads = each_map (λ (a : Answer) right. shown_headed (query_count P) a.1 right.shows_one.0 right.shows_one.1) r.answers d.each_answer in
     let ws = page r.answers ++ replicate n 0 in
-    let listed : answers_on ws ≡ map (λ (a : Answer). a.1) r.answers = all_listed [] r.answers n ws (each_map (λ (a : Answer) f. formed_headed a.1 f) r.answers forms) refl in
-    let all : Each AnswerForm (answers_on ws) = subst (Each AnswerForm) (sym listed) (each_words AnswerForm r.answers forms) in
+    let listed : answers_on ws ≡ map (λ (a : Answer). a.1) r.answers = all_listed [] r.answers n ws heads refl in
     record {
       page_is = listed;
       same_length = a ∙ ap (λ (m : ℕ). length (page r.answers) + m) (length-replicate n 0) ∙ omega arith;
-      numbered = λ i. formed_found ws all i ∙ ap (λ (l : List (List ℕ)). nth_part l i 0) listed;
-      opened = λ i a g. formed_opened ws all i a.1 (ap (λ (l : List (List ℕ)). get_elem? l i) listed ∙ nth_words r.answers i a g);
+      numbered = λ i. (numbered ws i 0 (omega arith)).stands ∙ ap (λ (l : List (List ℕ)). nth_part l i 0) listed;
+      opened = λ i a g. (numbered ws i 0 (omega arith)).is_words a.1 (ap (λ (l : List (List ℕ)). get_elem? l i) listed ∙ nth_words r.answers i a g);
     }

@@ -1,11 +1,10 @@
 -- What is written is read back: the terms and the goals of an answer, by the reader of crate rules and its law that good terms and goals are read back.
 use Prim.Native.Nat.{◌+◌, ◌<◌, ◌≤◌, suc, zero, ℕ}
 use mathlib.Core.List.{List, [], ◌++◌, ◌∷◌}
-use mathlib.Core.Path.{◌≡◌, ap}
+use mathlib.Core.Path.{◌∙◌, ◌≡◌, ap, sym}
 use native.Mathlib.Omega.{arith}
 use lib.ListN.{length, length-append}
 use borrow.Author.Tests.{eq-eqb, le-ltb, lt-ltb}
-use Rattle.page.specs.Form.{payloads}
 use Rattle.rules.specs.Inner.{Spells}
 use Rattle.rules.specs.Lists.{Each}
 use Rattle.rules.specs.Reading.{found, kind_at, payload_at, read_goal}
@@ -15,7 +14,7 @@ use Rattle.rules.specs.Written.{goal_words, part, terms_words, term_words}
 use Rattle.rules.proofs.Complete.{goal_complete, term_complete}
 use Rattle.rules.proofs.Spelled.{goal_some, kind_of, payload_of, stands_self, stands_split}
 use Rattle.semantics.specs.Answer.{Line, differ_goals, is_sort, lacks, line_goal, line_words, lines_words, not_all, reify_line}
-use Rattle.semantics.specs.Shows.{deep, read_answer, read_listed, read_query}
+use Rattle.semantics.specs.Shows.{payloads, deep, read_answer, read_listed, read_query}
 
 -- the payloads of a term's words fit
 abbrev pub TermFits : Term → Type 0
@@ -39,7 +38,7 @@ unfolding GoalsGood GoalGood TermGood
 differ_goals_good b [] h = h.0
 differ_goals_good b (c ∷ bs) h = (h.0, differ_goals_good c bs h.1)
 
-pub line_good : (l : Line) → LineFits l → GoalGood payloads (line_goal l)
+line_good : (l : Line) → LineFits l → GoalGood payloads (line_goal l)
 unfolding GoalGood TermGood
 line_good (is_sort k x) h = h
 line_good (lacks a x) h = h
@@ -103,3 +102,13 @@ answer_back names ts ls n e h k s =
       query_back ts ws 1 h (omega arith) q.0 (omega arith),
       listed_back names ls (deep ws) ws (1 + length (terms_words ts)) k (omega arith) q.1 (omega arith) (omega arith),
     ))
+
+-- lines with the same words are the same goal
+pub goal_determined : (l m : Line) → LineFits l → LineFits m → length (goal_words (line_goal m)) ≤ payloads → goal_words (line_goal l) ≡ goal_words (line_goal m) → line_goal l ≡ line_goal m
+goal_determined l m h k s e =
+    let ws = goal_words (line_goal m) in
+    let all : Spells ws 0 ws = stands_self ws in
+    let n = ap length e in
+    let p = line_back l ws 0 h s (rw e all) (omega arith) in
+    let q = line_back m ws 0 k s all (omega arith) in
+    let z = sym p ∙ q in cc

@@ -2,7 +2,7 @@
 use Prim.Native.Nat.{suc, zero, ℕ}
 use mathlib.Core.Bool.{Bool, ◌||◌, false, true}
 use mathlib.Core.List.{List, [], ◌++◌, ◌∷◌, append_assoc, append-nil}
-use mathlib.Core.Logic.{inl, inr, ⊎_elim}
+use mathlib.Core.Logic.{◌⊎◌, inl, inr, ⊎_elim}
 use mathlib.Core.Option.{none-ne-some, some-injective, some}
 use mathlib.Core.Path.{◌∙◌, ◌≡◌, ap, ap₂, refl, subst, sym}
 use lib.Dec.{eqb}
@@ -14,7 +14,7 @@ use Rattle.semantics.specs.Answer.{same_words}
 use Rattle.semantics.specs.Demand.{Begins, strike, strike_by}
 use Rattle.semantics.specs.Round.{Answer, repeats}
 use Rattle.semantics.specs.Situation.{Given}
-use Rattle.semantics.proofs.Basics.{and_true, by_choose, clash, each_map, one_of, or_right, same_test, some_each, some_left, some_right, some_split}
+use Rattle.semantics.proofs.Basics.{and_true, by_choose, clash, each_map, one_of, or_right, some_each, some_left, some_right, some_split}
 
 pub same_true : (v w : List ℕ) → same_words v w ≡ true → v ≡ w
 same_true [] [] e = refl
@@ -48,8 +48,12 @@ not_given_new ws earlier h = go (repeats ws earlier) refl
     go false e = e
 
 -- two lists in which the same words are given pass the test alike
-repeats_alike : (ws : List ℕ) (xs ys : List Answer) → (Given ws xs → Given ws ys) → (Given ws ys → Given ws xs) → repeats ws xs ≡ repeats ws ys
-repeats_alike ws xs ys f g = same_test (repeats ws xs) (repeats ws ys) (λ e. given_repeats ws ys (f (repeats_given ws xs e))) (λ e. given_repeats ws xs (g (repeats_given ws ys e)))
+same_test : (ws : List ℕ) (xs ys : List Answer) → (Given ws xs → Given ws ys) → (Given ws ys → Given ws xs) → repeats ws xs ≡ repeats ws ys
+same_test ws xs ys f g = go (repeats ws xs) refl
+  where
+    go : (b : Bool) → repeats ws xs ≡ b → repeats ws xs ≡ repeats ws ys
+    go true e = e ∙ sym (given_repeats ws ys (f (repeats_given ws xs e)))
+    go false e = e ∙ sym (not_given_new ws ys (λ h. new_not_given ws xs e (g h)))
 
 given_append : (ws : List ℕ) (xs ys zs : List Answer) → (Given ws xs → Given ws ys) → Given ws (xs ++ zs) → Given ws (ys ++ zs)
 given_append ws xs ys zs f h = ⊎_elim (λ x. some_left (λ (a : Answer). a.1 ≡ ws) ys zs (f x)) (some_right (λ (a : Answer). a.1 ≡ ws) ys zs) (some_split (λ (a : Answer). a.1 ≡ ws) xs zs h)
@@ -93,7 +97,7 @@ given_struck ws before (a ∷ xs) h = by_choose (λ (l : List Answer). Given ws 
 -- it is all one whether repeats are struck from what came before
 strike_alike : (before before' ys : List Answer) → ((ws : List ℕ) → Given ws before → Given ws before') → ((ws : List ℕ) → Given ws before' → Given ws before) → strike before ys ≡ strike before' ys
 strike_alike before before' [] f g = refl
-strike_alike before before' (a ∷ ys) f g = rw (repeats_alike a.1 before before' (f a.1) (g a.1)) (go (repeats a.1 before') (strike_alike before before' ys f g)
+strike_alike before before' (a ∷ ys) f g = rw (same_test a.1 before before' (f a.1) (g a.1)) (go (repeats a.1 before') (strike_alike before before' ys f g)
     (strike_alike (before ++ (a ∷ [])) (before' ++ (a ∷ [])) ys (λ ws. given_append ws before before' (a ∷ []) (f ws)) (λ ws. given_append ws before' before (a ∷ []) (g ws))))
   where
     go : (b : Bool) → strike before ys ≡ strike before' ys → strike (before ++ (a ∷ [])) ys ≡ strike (before' ++ (a ∷ [])) ys → choose b (λ _. strike before ys) (λ _. a ∷ strike (before ++ (a ∷ [])) ys) ≡ choose b (λ _. strike before' ys) (λ _. a ∷ strike (before' ++ (a ∷ [])) ys)

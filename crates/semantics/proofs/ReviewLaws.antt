@@ -37,7 +37,7 @@ sort_true numbers (symbol p) e = clash (cc)
 sort_true numbers (number p) e = tt
 sort_true numbers empty e = clash (cc)
 
-pub sort_false : (k : Sort) (a : Atom) → sort_of k a ≡ false → ¬ OfSort k (leaf a)
+sort_false : (k : Sort) (a : Atom) → sort_of k a ≡ false → ¬ OfSort k (leaf a)
 sort_false symbols (symbol p) e h = clash (cc)
 sort_false symbols (number p) e h = h
 sort_false symbols empty e h = h
@@ -45,11 +45,11 @@ sort_false numbers (symbol p) e h = h
 sort_false numbers (number p) e h = clash (cc)
 sort_false numbers empty e h = h
 
-pub sort_node : (k : Sort) (s t : Tree) → ¬ OfSort k (node s t)
+sort_node : (k : Sort) (s t : Tree) → ¬ OfSort k (node s t)
 sort_node symbols s t h = h
 sort_node numbers s t h = h
 
-pub two_sorts : (k l : Sort) → other_sort k l ≡ true → (v : Tree) → OfSort k v → ¬ OfSort l v
+two_sorts : (k l : Sort) → other_sort k l ≡ true → (v : Tree) → OfSort k v → ¬ OfSort l v
 two_sorts symbols symbols e v h i = clash (cc)
 two_sorts numbers numbers e v h i = clash (cc)
 two_sorts symbols numbers e (leaf (symbol p)) h i = i

@@ -78,7 +78,7 @@ module _ (R : Relation) (Rs : Program) (wf : ProgramIn (R ∷ Rs)) where
   -- A round by itself
   module _ (k : ℕ) (before : List Answer) where
     right : (a : Answer) → Right P wf R.params k (Gives P) a → (a.0 ≡ k) × AnswerRight P a
-    right a r = (r.tagged, record { shows_one = r.shows_one; formed = r.formed; only = λ tuple h. subst (Gives P tuple) (sym r.tagged) (r.only tuple h) })
+    right a r = (r.tagged, record { shows_one = r.shows_one; only = λ tuple h. subst (Gives P tuple) (sym r.tagged) (r.only tuple h) })
 
     wrote : {written : List Answer} → Written P wf R.params k (Gives P) before written → RoundWrote P k before written
     wrote w = record { new = w.new; is_new = w.is_new; each_new = each_map right w.new w.each_right }

@@ -5,8 +5,7 @@ use Rattle.rules.specs.Syntax.{Atom, empty, Term, var, atom, pair, Sort, Constra
 use Rattle.rules.specs.Lists.{joined}
 use Rattle.rules.specs.Reading.{choose}
 use Rattle.rules.specs.Written.{part, terms_words, goal_words}
-use Rattle.semantics.specs.Review.{other_sort, sort_of}
-use Rattle.semantics.specs.Substitution.{Substitution, walk, resolve, same_atom}
+use Rattle.semantics.specs.Substitution.{Substitution, walk, resolve}
 use Rattle.semantics.specs.Steps.{Outcome, done, and_then}
 use Rattle.semantics.specs.Unify.{scan, never, member, unify_terms}
 use Rattle.semantics.specs.Path.{Path}
@@ -105,92 +104,12 @@ line_words names l = goal_words (line_goal (reify_line names l))
 abbrev pub stays : List ℕ → List (List ℕ) → Line → Bool
 stays names before l = line_in names l && not (any_same (line_words names l) before)
 
--- the lines of document 01
+-- the lines that stay
 abbrev pub listed : List ℕ → List (List ℕ) → List Line → List Line
 listed names before [] = []
 listed names before (l ∷ ls) = choose (stays names before l) (λ _. l ∷ listed names (line_words names l ∷ before) ls) (λ _. listed names before ls)
 
--- Document 02, Note 13, "Disequalities that say too much": which of the listed lines stay.
-
--- does one of the lines pass the test?
-abbrev pub some_line : (Line → Bool) → List Line → Bool
-some_line test [] = false
-some_line test (l ∷ ls) = test l || some_line test ls
-
--- a line that gives y another sort than k
-abbrev pub sorts_otherwise : Sort → ℕ → Line → Bool
-sorts_otherwise k y (is_sort l x) = other_sort k l && eqb x y
-sorts_otherwise k y (lacks a x) = false
-sorts_otherwise k y (not_all bs) = false
-
--- "a symbolo variable against a number, pair or empty list; a numbero variable likewise against symbol, pair or empty list; variables of unlike types"
-abbrev pub never_sort : List Line → Sort → Term → Bool
-never_sort lines k (var y) = some_line (sorts_otherwise k y) lines
-never_sort lines k (atom a) = not (sort_of k a)
-never_sort lines k (pair s t) = true
-
--- "a term that holds" the tag, anywhere
-abbrev pub holds_atom : Atom → Term → Bool
-holds_atom a (var y) = false
-holds_atom a (atom b) = same_atom a b
-holds_atom a (pair s t) = holds_atom a s || holds_atom a t
-
--- is this a line by which, among these lines, the pair "can't be equal"?
-abbrev pub bars : List Line → ℕ × Term → Line → Bool
-bars lines b (is_sort k x) = eqb x b.0 && never_sort lines k b.1
-bars lines b (lacks a x) = eqb x b.0 && holds_atom a b.1
-bars lines b (not_all cs) = false
-
--- "one of its pairs can't be equal under the answer's other lines": its types and absences, before or after it
-abbrev pub barred : List Line → List (ℕ × Term) → Bool
-barred lines [] = false
-barred lines (b ∷ bs) = some_line (bars lines b) lines || barred lines bs
-
--- a pair's words: those of the differ that has it alone
-abbrev pub pair_words : List ℕ → ℕ × Term → List ℕ
-pair_words names b = line_words names (not_all (b ∷ []))
-
--- "Pairs are the same when their words are, sides not exchanged."
-abbrev pub among : List ℕ → ℕ × Term → List (ℕ × Term) → Bool
-among names b [] = false
-among names b (c ∷ cs) = same_words (pair_words names b) (pair_words names c) || among names b cs
-
-abbrev pub all_among : List ℕ → List (ℕ × Term) → List (ℕ × Term) → Bool
-all_among names [] cs = true
-all_among names (b ∷ bs) cs = among names b cs && all_among names bs cs
-
--- "all pairs of another listed differ are among its own": of an earlier one ..
-abbrev pub within : List ℕ → List (ℕ × Term) → Line → Bool
-within names bs (is_sort k x) = false
-within names bs (lacks a x) = false
-within names bs (not_all cs) = all_among names cs bs
-
--- .. or of a later one with other pairs: "of two with the same pairs the earlier remains"
-abbrev pub properly_within : List ℕ → List (ℕ × Term) → Line → Bool
-properly_within names bs (is_sort k x) = false
-properly_within names bs (lacks a x) = false
-properly_within names bs (not_all cs) = all_among names cs bs && not (all_among names bs cs)
-
-abbrev pub covered : List ℕ → List (ℕ × Term) → List Line → List Line → Bool
-covered names bs before after = some_line (within names bs) before || some_line (properly_within names bs) after
-
--- The test: does this line, among all the answer's lines, with those before it (in any order) and after it, say too much?
-abbrev pub too_much : List ℕ → List Line → List Line → Line → List Line → Bool
-too_much names lines before (is_sort k x) after = false
-too_much names lines before (lacks a x) after = false
-too_much names lines before (not_all bs) after = barred lines bs || covered names bs before after
-
--- "a listed differ is dropped if .."
-abbrev pub drop_lines : List ℕ → List Line → List Line → List Line → List Line
-drop_lines names lines before [] = []
-drop_lines names lines before (l ∷ after) =
-    choose (too_much names lines before l after) (λ _. drop_lines names lines (l ∷ before) after) (λ _. l ∷ drop_lines names lines (l ∷ before) after)
-
--- the lines that stay
-abbrev pub telling : List ℕ → List Line → List Line
-telling names lines = drop_lines names lines [] lines
-
--- the words of lines, one after the other
+-- and of lines, one after the other
 abbrev pub lines_words : List ℕ → List Line → List ℕ
 lines_words names ls = joined (map (line_words names) ls)
 
@@ -207,13 +126,9 @@ query_terms bs i n = map (resolve bs) (parameters i n)
 abbrev pub names_of : Substitution → ℕ → List ℕ
 names_of bs n = appear_all [] (query_terms bs 0 n)
 
--- "15:n, then the query terms .. Then the path's constraints in order": the words of an answer with these lines
-abbrev pub words_with : Substitution → ℕ → List Line → List ℕ
-words_with bs n shown = let names = names_of bs n in part 15 (terms_words (map (reify names) (query_terms bs 0 n)) ++ lines_words names shown)
-
--- with those of document 01 that do not say too much
+-- "15:n, then the query terms .. Then the path's constraints in order"
 abbrev pub answer_words : Substitution → ℕ → List Line → List ℕ
-answer_words bs n lines = let names = names_of bs n in words_with bs n (telling names (listed names [] lines))
+answer_words bs n lines = let names = names_of bs n in part 15 (terms_words (map (reify names) (query_terms bs 0 n)) ++ lines_words names (listed names [] lines))
 
 -- a trial's bindings "in order": what unification put in front of bs, oldest first
 abbrev pub trial_bindings : Substitution → Substitution → List (ℕ × Term)

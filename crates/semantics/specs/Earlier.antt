@@ -3,11 +3,10 @@ use Rattle.std.specs.Prelude.{◌-◌, suc, zero, ℕ, Bool, ◌&&◌, false, tr
 use Rattle.rules.specs.Accept.{admit}
 use Rattle.rules.specs.Reading.{choose}
 use Rattle.rules.specs.Syntax.{Program, Relation, Term, atom, pair, var}
-use Rattle.semantics.specs.Answer.{Line, all_lines, listed, look_through, names_of, parameters, words_with}
-use Rattle.semantics.specs.Path.{Passing, Path, as_written}
+use Rattle.semantics.specs.Path.{Passing, as_written}
 use Rattle.semantics.specs.Round.{Mode, Result, once, rounds_by}
 use Rattle.semantics.specs.Run.{Report, Run, page, ran, refusal, report_read_by}
-use Rattle.semantics.specs.Steps.{Outcome, and_then, at_bound, done, no_steps, stop, waiting}
+use Rattle.semantics.specs.Steps.{Outcome, at_bound, done, no_steps, stop, waiting}
 use Rattle.semantics.specs.Substitution.{Substitution, walk}
 use Rattle.semantics.specs.Unify.{is_var, scan_next}
 
@@ -37,16 +36,6 @@ abbrev pub occurs_check_before_10 : ℕ → ℕ → Substitution → List Term �
 occurs_check_before_10 room x bs ws t zero = stop no_steps zero
 occurs_check_before_10 room x bs ws t (suc left) =
     choose (is_var x (walk bs t)) (λ _. done true left) (λ _. parts_before_10 room (walk bs t) ws left (λ vs v. occurs_check_before_10 room x bs vs v left))
-
--- Before Note 13 an answer had all the lines of document 01.
-abbrev pub answer_words_before_13 : Substitution → ℕ → List Line → List ℕ
-answer_words_before_13 bs n lines = words_with bs n (listed (names_of bs n) [] lines)
-
-abbrev pub answer_before_13 : Path → ℕ → ℕ → Outcome (List ℕ)
-answer_before_13 p n left =
-    and_then (look_through p.bindings (parameters 0 n) left) (λ _ l.
-    and_then (all_lines p.bindings p.kept l) (λ lines m.
-    done (answer_words_before_13 p.bindings n lines) m))
 
 -- Before Note 2: "Every such path gives its answer, whether or not the same words were given before." Here with "endless output": every answer fits.
 abbrev pub endless_before_2 : Passing → Mode

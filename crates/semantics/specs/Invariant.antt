@@ -7,7 +7,6 @@ use Rattle.rules.specs.Syntax.{Constraint, Goal, Goals, Program, Relation, Sort,
 use Rattle.rules.specs.WellFormed.{AtomGood, TagGood}
 use Rattle.semantics.specs.Logic.{Assignment, value}
 use Rattle.semantics.specs.Path.{ChoicePoint, Path, Task}
-use Rattle.semantics.specs.Answer.{Line, is_sort, lacks, not_all}
 use Rattle.semantics.specs.Review.{other_sort, sort_of}
 use Rattle.semantics.specs.Round.{State}
 use Rattle.semantics.specs.Steps.{constraints, most, variables}
@@ -175,11 +174,3 @@ module _ (P : Program) (wf : ProgramIn P) (n k : ℕ) where
     pub fine : Fine s.path (s.task ∷ s.path.stack)
     pub fine_choices : ChoicesFine s.choices
     pub small_room : s.tally.room < 268435456
-
--- A disequality's line as a trial makes it: it binds some variable, and the first two that it binds are not the same.
-abbrev pub BindsOnce : Line → Type 0
-BindsOnce (is_sort k x) = Unit {0}
-BindsOnce (lacks a x) = Unit {0}
-BindsOnce (not_all []) = ⊥
-BindsOnce (not_all (b ∷ [])) = Unit {0}
-BindsOnce (not_all (b ∷ c ∷ bs)) = ¬ (b.0 ≡ c.0)

@@ -55,7 +55,7 @@ pub record ListedOnce (pass : Passing) (P : Program) (R : Relation) (limit round
 pub record OnPage (output after : List ℕ) (r : Result) : Type 0 where
   pub page_is : answers_on after ≡ words_of r.answers
   pub same_length : length after ≡ length output
-  -- document 02, Note 1: answer i stands where the run's i-th does, and from their count on every number is refused by 10 at the first word beyond them. None is refused by 17 (Note 13).
+  -- document 02, Note 1: answer i stands where the run's i-th does, and from their count on every number is refused by 10 at the first word beyond them
   pub numbered : (i : ℕ) → find after i ≡ nth_part (words_of r.answers) i 0
   -- "it should get that answer's words"
   pub opened : (i : ℕ) (a : Answer) → get_elem? r.answers i ≡ some a → view after i ≡ a.1

@@ -1,5 +1,5 @@
 -- The starred runs of document 01, "Runs to reproduce", its run with 255 variables, and small runs for "Errors this trade has made", for the order of answers and lines, for the
--- branches cut in the last completed round, for the occurs check, for repeats, for disequalities that say too much, and for each bound of a path, as one list of rows.
+-- branches cut in the last completed round, for the occurs check, for repeats, and for each bound of a path, as one list of rows.
 use Rattle.std.specs.Prelude.{ℕ, zero, suc, List, [], ◌∷◌, ◌++◌, map, length}
 use Rattle.word.specs.Word.{word}
 use Rattle.rules.specs.Lists.{joined}
@@ -249,47 +249,6 @@ holds_twice = query (part 11 (word 5 2 ∷ word 3 0 ∷ word 3 0 ∷ word 5 2 �
 abbrev pub sorts : List ℕ
 sorts = part 13 (word 2 1 ∷ word 2 1 ∷ part 11 (word 7 1 ∷ word 0 0 ∷ word 8 1 ∷ word 0 0 ∷ word 7 1 ∷ word 0 0 ∷ []))
 
--- Document 02, Note 13: the query terms are q, or q and r, and stay open
-
-abbrev pub q : ℕ
-q = word 0 0
-
-abbrev pub r : ℕ
-r = word 0 1
-
--- goals that are lines of an answer too: symbolo or numbero of a variable, differ of a variable and a term
-abbrev pub type : ℕ → ℕ → List ℕ
-type kind x = part kind (x ∷ [])
-
-abbrev pub other : ℕ → List ℕ → List ℕ
-other x term = part 6 (x ∷ term)
-
--- differ of the pairs (x, y) and (s, t), and its line
-abbrev pub others : ℕ → ℕ → ℕ → ℕ → List ℕ
-others x y s t = part 6 (word 4 1 ∷ x ∷ y ∷ word 4 1 ∷ s ∷ t ∷ [])
-
-abbrev pub either_other : ℕ → ℕ → ℕ → ℕ → List ℕ
-either_other x y s t = part 11 (other x (s ∷ []) ++ other y (t ∷ []))
-
--- the list of the empty list and an atom, so that the atom stands deep inside
-abbrev pub deep_in : ℕ → List ℕ
-deep_in atom = word 4 1 ∷ word 3 0 ∷ with_empty (atom ∷ [])
-
--- the query of these terms with a conjunction, and an answer with these lines
-abbrev pub asks : List ℕ → List (List ℕ) → List ℕ
-asks terms goals = part 13 (word 2 (length terms) ∷ word 2 (length terms) ∷ part 10 (joined goals))
-
-abbrev pub tells : List ℕ → List (List ℕ) → List ℕ
-tells terms lines = part 15 (terms ++ joined lines)
-
--- symbolo(q), then differ(q, 5) or differ(q, nil): both answers say that q is a symbol
-abbrev pub symbol_twice : List ℕ
-symbol_twice = asks (q ∷ []) (type 7 q ∷ part 11 (other q (word 2 5 ∷ []) ++ other q (word 3 0 ∷ [])) ∷ [])
-
--- `15:3 0:0 7:1 0:0`
-abbrev pub a_symbol : List ℕ
-a_symbol = tells (q ∷ []) (type 7 q ∷ [])
-
 -- `15:1 1:7`
 abbrev pub seven : List ℕ
 seven = word 15 1 ∷ word 1 7 ∷ []
@@ -302,10 +261,6 @@ five = word 15 1 ∷ word 2 5 ∷ []
 abbrev pub row : List ℕ → ℕ → ℕ → ℕ → End → ℕ → ℕ → List Answer → ℕ → Row
 row words round_limit step_limit output end round steps answers cut =
     record { words = words; round_limit = round_limit; step_limit = step_limit; output = output; expected = record { end = end; round = round; steps = steps; answers = answers; cut = cut } }
-
--- the row of a query whose one answer has these lines, found with so many steps
-abbrev pub leaves : List ℕ → List (List ℕ) → ℕ → List (List ℕ) → Row
-leaves terms goals steps lines = row (asks terms goals) 16 1000000 4096 finished 0 steps ((0, tells terms lines) ∷ []) 0
 
 -- each with its round limit, step limit and output length: the listing program's, but for what the run says; then the end, the round, the steps, the answers and the branches cut
 abbrev pub rows : List Row
@@ -355,23 +310,6 @@ rows =
     ∷ row holds_twice 0 9 1 output_full 0 5 ((0, yes) ∷ []) 0
     ∷ row holds_twice 0 9 2 finished 0 5 ((0, yes) ∷ []) 0
     ∷ row sorts 16 1000000 4096 finished 0 13 ((0, word 15 3 ∷ word 0 0 ∷ word 7 1 ∷ word 0 0 ∷ []) ∷ (0, word 15 3 ∷ word 0 0 ∷ word 8 1 ∷ word 0 0 ∷ []) ∷ []) 0
-    ∷ row symbol_twice 0 99 8 finished 0 22 ((0, a_symbol) ∷ []) 0
-    ∷ row symbol_twice 0 99 7 output_full 0 22 ((0, a_symbol) ∷ []) 0
-    ∷ row (asks (q ∷ []) (other q (word 2 5 ∷ []) ∷ type 7 q ∷ [])) 0 99 4 finished 0 12 ((0, a_symbol) ∷ []) 0
-    ∷ row (asks (q ∷ []) (other q (word 2 5 ∷ []) ∷ type 7 q ∷ [])) 0 99 3 output_full 0 12 [] 0
-    ∷ leaves (q ∷ []) (type 7 q ∷ other q (word 1 5 ∷ []) ∷ other q (word 2 5 ∷ []) ∷ other q (word 3 0 ∷ []) ∷ other q (with_empty (word 3 0 ∷ [])) ∷ []) 39 (type 7 q ∷ other q (word 1 5 ∷ []) ∷ [])
-    ∷ leaves (q ∷ []) (type 8 q ∷ other q (word 1 5 ∷ []) ∷ other q (word 2 5 ∷ []) ∷ other q (word 3 0 ∷ []) ∷ other q (with_empty (word 3 0 ∷ [])) ∷ []) 39 (type 8 q ∷ other q (word 2 5 ∷ []) ∷ [])
-    ∷ leaves (q ∷ r ∷ []) (type 7 q ∷ type 8 r ∷ other q (r ∷ []) ∷ []) 16 (type 7 q ∷ type 8 r ∷ [])
-    ∷ leaves (q ∷ r ∷ []) (type 7 q ∷ type 8 r ∷ other r (q ∷ []) ∷ []) 16 (type 7 q ∷ type 8 r ∷ [])
-    ∷ leaves (q ∷ r ∷ []) (type 7 q ∷ type 7 r ∷ other q (r ∷ []) ∷ []) 16 (type 7 q ∷ type 7 r ∷ other q (r ∷ []) ∷ [])
-    ∷ leaves (q ∷ r ∷ []) (type 7 q ∷ other q (r ∷ []) ∷ other r (q ∷ []) ∷ []) 20 (type 7 q ∷ other q (r ∷ []) ∷ other r (q ∷ []) ∷ [])
-    ∷ leaves (q ∷ []) (part 9 (word 1 7 ∷ q ∷ []) ∷ other q (deep_in (word 1 7)) ∷ []) 25 (part 9 (word 1 7 ∷ q ∷ []) ∷ [])
-    ∷ leaves (q ∷ []) (part 9 (word 1 7 ∷ q ∷ []) ∷ other q (deep_in (word 2 7)) ∷ []) 25 (part 9 (word 1 7 ∷ q ∷ []) ∷ other q (deep_in (word 2 7)) ∷ [])
-    ∷ leaves (q ∷ r ∷ []) (type 7 q ∷ others q r (word 2 1) (word 2 2) ∷ []) 20 (type 7 q ∷ [])
-    ∷ leaves (q ∷ r ∷ []) (others q r (word 2 1) (word 2 2) ∷ others r q (word 2 2) (word 2 1) ∷ []) 31 (either_other q r (word 2 1) (word 2 2) ∷ [])
-    ∷ leaves (q ∷ r ∷ []) (others q r (word 2 1) (word 2 2) ∷ others q r (word 2 1) (word 2 3) ∷ []) 31 (either_other q r (word 2 1) (word 2 2) ∷ either_other q r (word 2 1) (word 2 3) ∷ [])
-    ∷ leaves (q ∷ r ∷ []) (others q r (word 2 1) (word 2 2) ∷ other q (word 2 1 ∷ []) ∷ []) 24 (other q (word 2 1 ∷ []) ∷ [])
-    ∷ leaves (q ∷ r ∷ []) (other q (word 2 1 ∷ []) ∷ others q r (word 2 1) (word 2 2) ∷ []) 24 (other q (word 2 1 ∷ []) ∷ [])
     ∷ row (met_twice 5) 16 1000000 4096 finished 0 13 ((0, yes) ∷ []) 0
     ∷ row (met_twice 5) 16 12 4096 steps_used 0 12 [] 0
     ∷ row (met_twice 6) 16 1000000 4096 finished 0 27 ((0, yes) ∷ []) 0

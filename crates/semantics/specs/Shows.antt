@@ -1,12 +1,13 @@
 -- The tuples that an answer's words show: document 01, "An answer's constraints are read as such goals over its own variables."
 use Rattle.std.specs.Prelude.{◌*◌, ◌+◌, suc, zero, ℕ, ◌&&◌, List, [], ◌∷◌, map, ◌≡◌, eqb, ltb, length}
-use Rattle.page.specs.Form.{payloads}
 use Rattle.rules.specs.Lists.{Each}
 use Rattle.rules.specs.Reading.{Reading, choose, found, kind_at, next, payload_at, read_goal, read_term, refuse, require}
 use Rattle.rules.specs.Syntax.{Goal, Term}
 use Rattle.semantics.specs.Logic.{AllProper, Assignment, Holds, Tree, value}
 
--- Answers are read as programs are, by the reader of crate rules; their variables are bounded by nothing but the 28 bits of a payload.
+-- Answers are read as programs are, by the reader of crate rules; their variables are bounded by nothing but the 28 bits of a payload
+abbrev pub payloads : ℕ
+payloads = 268435456
 
 -- how deep the reader goes: always enough
 abbrev pub deep : List ℕ → ℕ

@@ -40,10 +40,6 @@ pub fn table(earlier: &Path) -> String {
         let name = format!("{}, {} given", choices.program.name, choices.given);
         text += &row(&name, &choices.program, engines);
     }
-    for run in programs::disequal() {
-        let name = format!("{} listed", run.program.name);
-        text += &row(&name, &run.program, engines);
-    }
     text
 }
 

@@ -2,7 +2,6 @@
 //! writes them to FILE. `bench beside EARLIER` times it beside the engine of an earlier landing, and prints a table.
 
 mod before;
-mod disequalities;
 mod opening;
 mod plain;
 mod programs;
@@ -352,7 +351,6 @@ fn tables(date: &str, file: &str) {
     let (second, second_goal) = second_table();
     let (third, third_goal) = opening::table();
     let (fourth, fourth_goals) = repeats::table();
-    let (fifth, fifth_goal) = disequalities::table();
     let text = include_str!("benchmark.md")
         .replace("{date}", date)
         .replace("{processor}", &processor())
@@ -364,9 +362,7 @@ fn tables(date: &str, file: &str) {
         .replace("{third}", third.trim_end())
         .replace("{third goal}", &third_goal)
         .replace("{fourth}", fourth.trim_end())
-        .replace("{fourth goals}", &fourth_goals)
-        .replace("{fifth}", fifth.trim_end())
-        .replace("{fifth goal}", &fifth_goal);
+        .replace("{fourth goals}", &fourth_goals);
     print!("{text}");
     fs::write(file, text).unwrap_or_else(|error| {
         eprintln!("{file}: {error}");

@@ -112,7 +112,6 @@ pub unsafe fn run(
         used: 0,
         answers: 0,
         index: 0,
-        others: Vec::new(),
     };
     let mut left = steps;
     let mut number = 0;
@@ -812,9 +811,9 @@ impl Output {
         wanted
     }
 
-    /// Is the answer from `start` up to `next` a repeat? And the slots afterwards: none once words that were put reached into them.
-    fn repeated(self, index: usize, start: usize, next: usize, reached: usize) -> (bool, usize) {
-        if index != 0 && index <= self.end - reached {
+    /// Is the answer from `start` up to `next` a repeat? And the slots afterwards: none once answers reach into them.
+    fn repeated(self, index: usize, start: usize, next: usize) -> (bool, usize) {
+        if index != 0 && index <= self.end - next {
             match self.enter(index, start, next) {
                 Entered::Repeated => return (true, index),
                 Entered::New => return (false, index),
@@ -822,141 +821,6 @@ impl Output {
             }
         }
         (self.among(start, next), 0)
-    }
-}
-
-/// A type or an absence of an answer: the type's word or the tag, and the variable.
-type Other = (u32, u32);
-
-/// Disequalities that say too much are dropped from an answer's lines, which stand from `first` up to `next`.
-impl Output {
-    /// Moves the lines that stay together: the place after them. `others` is lent, to be filled with the types and absences.
-    fn drop_lines(self, first: usize, next: usize, others: &mut Vec<Other>) -> usize {
-        let several = self.collect(first, next, others);
-        if others.is_empty() && !several {
-            return next;
-        }
-        let (mut kept, mut place) = (first, first);
-        while place < next {
-            let behind = self.past(place);
-            let says_too_much = match kind(self.read(place)) {
-                DIFFER => self.impossible(place, others),
-                DISJUNCTION => {
-                    self.one_impossible(place, others)
-                        || self.holds_another(place, first, kept, true)
-                        || self.holds_another(place, behind, next, false)
-                }
-                _ => false,
-            };
-            if !says_too_much {
-                if kept != place {
-                    // SAFETY: both are among the lines, and the one moved to is not behind the other.
-                    unsafe {
-                        std::ptr::copy(self.words.add(place), self.words.add(kept), behind - place)
-                    };
-                }
-                kept += behind - place;
-            }
-            place = behind;
-        }
-        kept
-    }
-
-    /// Fills in the types and absences, and says whether a disequality has several pairs: a lone one has no other's pairs, as its words
-    /// are listed once.
-    #[inline(always)]
-    fn collect(self, first: usize, next: usize, others: &mut Vec<Other>) -> bool {
-        others.clear();
-        let mut several = false;
-        let mut place = first;
-        while place < next {
-            let word = self.read(place);
-            match kind(word) {
-                DIFFER => {}
-                DISJUNCTION => several = true,
-                ABSENTO => others.push((self.read(place + 1), self.read(place + 2))),
-                _ => others.push((word, self.read(place + 1))),
-            }
-            place = self.past(place);
-        }
-        several
-    }
-
-    /// Can't the pair of the differ at this place be equal?
-    #[inline(always)]
-    fn impossible(self, place: usize, others: &[Other]) -> bool {
-        let variable = self.read(place + 1);
-        others
-            .iter()
-            .any(|&(said, of)| of == variable && self.against(said, place, others))
-    }
-
-    fn against(self, said: u32, place: usize, others: &[Other]) -> bool {
-        let term = self.read(place + 2);
-        match kind(said) {
-            SYMBOLO | NUMBERO => match kind(term) {
-                VARIABLE => others
-                    .iter()
-                    .any(|&(other, of)| of == term && kind(other) >= SYMBOLO && other != said),
-                SYMBOL => kind(said) == NUMBERO,
-                NUMBER => kind(said) == SYMBOLO,
-                _ => true,
-            },
-            _ => (place + 2..self.past(place)).any(|at| self.read(at) == said),
-        }
-    }
-
-    fn one_impossible(self, place: usize, others: &[Other]) -> bool {
-        let mut pair = place + 1;
-        while pair < self.past(place) && !others.is_empty() {
-            if self.impossible(pair, others) {
-                return true;
-            }
-            pair = self.past(pair);
-        }
-        false
-    }
-
-    /// Has the disequality at this place all pairs of one of those in a row of lines? One with the same pairs counts if it is earlier.
-    fn holds_another(self, place: usize, first: usize, next: usize, earlier: bool) -> bool {
-        let mut other = first;
-        while other < next {
-            if matches!(kind(self.read(other)), DIFFER | DISJUNCTION)
-                && self.among_pairs(other, place)
-                && (earlier || !self.among_pairs(place, other))
-            {
-                return true;
-            }
-            other = self.past(other);
-        }
-        false
-    }
-
-    /// Are all pairs of the first disequality among those of the second?
-    fn among_pairs(self, one: usize, other: usize) -> bool {
-        let (mut pair, end) = self.pairs(one);
-        while pair < end {
-            let behind = self.past(pair);
-            let (mut own, last) = self.pairs(other);
-            while own < last && !self.same(own, pair, behind) {
-                own = self.past(own);
-            }
-            if own == last {
-                return false;
-            }
-            pair = behind;
-        }
-        true
-    }
-
-    /// Where the pairs of a disequality begin and end.
-    #[inline(always)]
-    fn pairs(self, place: usize) -> (usize, usize) {
-        let first = match kind(self.read(place)) {
-            DIFFER => place,
-            _ => place + 1,
-        };
-        (first, self.past(place))
     }
 }
 
@@ -968,8 +832,6 @@ struct Writer {
     answers: u32,
     /// The slots of the index, or 0.
     index: usize,
-    /// The types and absences of the answer that is written.
-    others: Vec<Other>,
 }
 
 impl Writer {
@@ -1197,44 +1059,6 @@ impl Writer {
         })
     }
 
-    /// Lists the answer once more, without counting its steps, where there is room for what is dropped too: the place after what is left, if
-    /// that fits. Here the plain engine takes memory of its own.
-    #[cold]
-    fn answer_apart(&mut self, state: &mut State, params: u32) -> Result<Option<usize>, Stop> {
-        let steps = std::mem::replace(&mut state.steps, u32::MAX);
-        let mut room = 1 << 12;
-        loop {
-            let mut apart = vec![0; room];
-            let writer = Writer {
-                output: Output {
-                    words: apart.as_mut_ptr(),
-                    end: room,
-                },
-                used: 0,
-                others: Vec::new(),
-                ..*self
-            };
-            let mut page = writer.begin(params);
-            let first = page.unwrap_or(0);
-            for i in 0..state.constraints {
-                let constraint = self.memory.get(CONSTRAINTS + i);
-                page = writer.add_constraint(state, constraint, first, page)?;
-            }
-            if let Some(next) = page {
-                state.steps = steps;
-                let left = writer.output.drop_lines(first, next, &mut self.others);
-                if left > self.output.end - self.used {
-                    return Ok(None);
-                }
-                for (at, &word) in apart[..left].iter().enumerate() {
-                    self.output.write(self.used + at, word);
-                }
-                return Ok(Some(self.used + left));
-            }
-            room *= 2;
-        }
-    }
-
     /// Writes the answer of a path behind those already there, where it stays unless it is a repeat.
     fn answer(&mut self, state: &mut State, params: u32) -> Result<(), Stop> {
         let memory = self.memory;
@@ -1252,22 +1076,15 @@ impl Writer {
                 bound => name_term(memory, bound - 1, top),
             };
         }
-        let begun = self.begin(params);
-        let mut page = begun;
-        let first = begun.unwrap_or(self.used);
+        let mut page = self.begin(params);
+        let first = page.unwrap_or(self.used);
         for i in 0..state.constraints {
             page = self.add_constraint(state, memory.get(CONSTRAINTS + i), first, page)?;
         }
-        let next = match page {
-            Some(next) => Some(self.output.drop_lines(first, next, &mut self.others)),
-            None if begun.is_some() => self.answer_apart(state, params)?,
-            None => None,
-        };
         clear_names(memory, top);
-        let next = next.ok_or(Stop::Output)?;
+        let next = page.ok_or(Stop::Output)?;
         self.put_head(self.used, next, ANSWER, true);
-        let reached = page.unwrap_or(self.output.end);
-        let (repeated, index) = self.output.repeated(self.index, self.used, next, reached);
+        let (repeated, index) = self.output.repeated(self.index, self.used, next);
         self.index = index;
         if !repeated {
             self.used = next;

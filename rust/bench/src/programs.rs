@@ -82,61 +82,6 @@ fn choice(name: &'static str, untold: &[u32], told: &[u32]) -> Choices {
     }
 }
 
-/// A program that gives one answer again and again.
-pub struct Disequal {
-    pub program: Program,
-    pub given: u32,
-    /// The answer's words, with those of lines that say too much and without.
-    pub listed: usize,
-    pub words: usize,
-}
-
-/// Lines of an answer about x, y, z and u.
-pub fn disequal() -> Vec<Disequal> {
-    let lines = |count: usize, line: &dyn Fn(usize) -> String| {
-        (0..count).map(line).collect::<Vec<String>>()
-    };
-    let variable = |number: usize| ["x", "y", "z", "u"][number % 4];
-    let one_pair = |number: usize| format!("(other {} {number})", variable(number));
-    let types = ["(symbol x)", "(symbol y)", "(number z)", "(number u)"].map(String::from);
-    // Of pairs of three kinds, so that some are shared.
-    let two_pairs = |number: usize| {
-        let (first, second) = (variable(number), variable(number + 1));
-        let (one, other) = (number % 3, (number + 1) % 3);
-        format!("(other ({first} . {second}) ({one} . {other}))")
-    };
-    let row = |name, lines: Vec<String>, left: usize, listed: usize| {
-        // Few enough for the words that a program may have.
-        let given = if lines.len() > 100 { 100 } else { 1_000 };
-        let text = include_str!("../programs/disequal.rules")
-            .replace("{lines}", &lines.join(" "))
-            .replace("{again}", &vec!["(same 1 1)"; given].join(" "));
-        Disequal {
-            program: program(name, text, 0),
-            given: given as u32,
-            listed: 5 + listed,
-            words: 5 + left,
-        }
-    };
-    let with_types = [&types[..], &lines(10, &one_pair)].concat();
-    let last = [lines(508, &one_pair), types.to_vec()].concat();
-    vec![
-        row("none", vec!["(same 1 1)".to_string()], 0, 0),
-        row("4 types", types.to_vec(), 8, 8),
-        row("1 disequality", lines(1, &one_pair), 3, 3),
-        row("10 disequalities", lines(10, &one_pair), 30, 30),
-        row("10 disequalities, 4 types", with_types, 8 + 12, 8 + 30),
-        row(
-            "10 disequalities of two pairs",
-            lines(10, &two_pairs),
-            70,
-            70,
-        ),
-        row("512 disequalities", lines(512, &one_pair), 1_536, 1_536),
-        row("508 disequalities, 4 types", last, 762 + 8, 1_524 + 8),
-    ]
-}
-
 /// What joins two goals so that 2 is the only answer?
 const CONNECTIVE: &str = "(rule query (x) ()
   (eval-program ('run ('z) (x ('disj ('== 'z 1) ('disj ('== 'z 2) ('== 'z 3))) ('== 'z 2))) (2)))";

@@ -23,7 +23,7 @@ extern "C" {
         numbers_len: usize,
     ) -> u32;
 
-    /// Looks at the page's answers up to the wanted one, writes where that begins and ends, and keeps nothing. 0: found,
+    /// Looks at headers of the page's answers, writes where the wanted one begins and ends, and keeps nothing. 0: found,
     /// else the refusal's number, with both at its place.
     fn kindcanvas_view(
         page: *const u32,
@@ -234,24 +234,18 @@ pub fn run(
 }
 
 /// The words of one answer, numbered from 0, as a part of the page itself: its header `15:n` and n words. The page is walked by
-/// the headers of its answers, and then the form of each up to the wanted one is tested. Nothing behind the wanted one is looked at.
-/// A page may come from anywhere: any words are taken, nested to any depth, in the same stack.
+/// the headers of its answers. Nothing inside an answer is looked at, and nothing behind the wanted one.
 ///
 /// A page that has no whole answer of that number is refused by 10, at the word where the walk stopped: the page's length, a
-/// word that is no header, or the header of an answer that overruns the page. After that, an answer that isn't terms followed by
-/// constraints is refused by 17, at the first word with which none of its length could go on.
+/// word that is no header, or the header of an answer that overruns the page.
 ///
 /// ```
-/// let page = kindcanvas::words::parse("15:1 1:7 15:3 0:0 7:1 0:0 15:3 7:1 0:0 1:7 0:0")?;
-/// assert_eq!(kindcanvas::view(&page, 1), Ok(&page[2..6]));
+/// let page = kindcanvas::words::parse("15:1 1:7 15:2 4:9 15:9 0:0")?;
+/// assert_eq!(kindcanvas::view(&page, 1), Ok(&page[2..5]));
 ///
-/// let refusal = kindcanvas::view(&page, 3).unwrap_err();
-/// assert_eq!((refusal.number, refusal.place), (10, 10));
-/// assert_eq!(refusal.to_string(), "the page has no whole answer of this number: the walk over its headers stopped at word 10");
-///
-/// // A type leaves one word of the answer, and no constraint has just one.
 /// let refusal = kindcanvas::view(&page, 2).unwrap_err();
-/// assert_eq!((refusal.number, refusal.place), (17, 7));
+/// assert_eq!((refusal.number, refusal.place), (10, 5));
+/// assert_eq!(refusal.to_string(), "the page has no whole answer of this number: the walk over its headers stopped at word 5");
 /// # Ok::<(), kindcanvas::words::TextError>(())
 /// ```
 pub fn view(page: &[u32], answer: u32) -> Result<&[u32], Refusal> {

@@ -15,9 +15,9 @@ use std::fmt;
 /// ```
 #[derive(Clone, Copy, Debug, PartialEq, Eq)]
 pub struct Refusal {
-    /// 1 to 10, or 17.
+    /// 1 to 10.
     pub number: u32,
-    /// A word's place in the program or, for 10 and 17, on the page, counted from 0, or the word count.
+    /// A word's place in the program or, for 10, on the page, counted from 0, or the word count.
     pub place: usize,
 }
 
@@ -51,10 +51,6 @@ impl fmt::Display for Refusal {
                 f,
                 "the page has no whole answer of this number: the walk over its headers stopped at word {place}"
             ),
-            17 => write!(
-                f,
-                "an answer up to the wanted one is not of the form of an answer: none of its length goes on with word {place}"
-            ),
             number => write!(f, "condition {number} turned the file away at word {place}"),
         }
     }
@@ -69,17 +65,15 @@ mod tests {
     #[test]
     fn each_condition_has_its_sentence() {
         let mut sentences: Vec<String> = (1..=10)
-            .chain([17])
             .map(|number| Refusal { number, place: 77 }.to_string())
             .collect();
         for sentence in sentences[1..8].iter().chain(&sentences[9..]) {
             assert!(sentence.contains("word 77"), "{sentence}");
-            assert!(!sentence.starts_with("condition"), "{sentence}");
         }
         assert_eq!(crate::SCRATCH_WORDS, 12_288);
         assert!(sentences[8].contains("12,288 words"), "{}", sentences[8]);
         sentences.sort();
         sentences.dedup();
-        assert_eq!(sentences.len(), 11);
+        assert_eq!(sentences.len(), 10);
     }
 }

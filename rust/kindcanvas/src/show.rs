@@ -1,4 +1,5 @@
-//! One answer of a page in text, shown as words, like a line of `./list`.
+//! One answer of a page in text. The walk over the page looks at nothing inside an answer, so it is shown as words, like a line of
+//! `./list`.
 
 use kindcanvas::words::{self, Source, TextError};
 use kindcanvas::{view, Refusal};
@@ -34,7 +35,6 @@ fn explain(source: &Source, refusal: Refusal) -> String {
             let word = words::show(&source.words[at..=at]);
             let left = source.words.len() - at - 1;
             let case = match word.strip_prefix("15:") {
-                _ if number == 17 => format!("{word} can't stand there in {}", holder(source, at)),
                 Some(count) => format!("{word} has only {left} of its {count} words on the page"),
                 None => format!("{word} is no answer's header"),
             };
@@ -42,18 +42,4 @@ fn explain(source: &Source, refusal: Refusal) -> String {
         }
     };
     format!("refused {number} at {at}: {refusal} ({place}): {case}")
-}
-
-/// The answer that a word is inside of, with its number and where its header stands.
-fn holder(source: &Source, at: usize) -> String {
-    let (mut number, mut header) = (0, 0);
-    loop {
-        let word = source.words[header];
-        let next = header + 1 + (word & 0x0fff_ffff) as usize;
-        if at < next {
-            let (place, word) = (source.places[header], words::show(&[word]));
-            return format!("answer {number}, {word} at {place}");
-        }
-        (number, header) = (number + 1, next);
-    }
 }

@@ -248,7 +248,7 @@ fn refused() {
 fn answers_shown() {
     let list = example("endless-chains.list");
     // Comments change nothing, whatever names they have.
-    let page = "15:1 1:7 # symbol 7 = A\n15:4 0:9 6:2 0:9 1:7 # symbol 7 = B\n15:0 0:0\n";
+    let page = "15:1 1:7 # symbol 7 = A\n15:2 15:9 4:9 # symbol 7 = B\n15:0 0:0\n";
     for (arguments, expected) in [
         (["show", &list, "0"], "15:5 4:1 2:2 4:1 2:3 3:0\n"),
         (
@@ -256,7 +256,7 @@ fn answers_shown() {
             "15:9 4:1 2:2 4:1 2:1 4:1 2:2 4:1 2:3 3:0\n",
         ),
         (["show", "-", "0"], "15:1 1:7\n"),
-        (["show", "-", "1"], "15:4 0:9 6:2 0:9 1:7\n"),
+        (["show", "-", "1"], "15:2 15:9 4:9\n"),
         (["show", "-", "2"], "15:0\n"),
     ] {
         let (status, output, error) = kindcanvas(&arguments, page);
@@ -326,46 +326,6 @@ fn no_answer_to_show() {
         );
         assert_eq!(error, expected);
     }
-}
-
-/// Answers that are whole, but not of the form.
-#[test]
-fn no_form_to_show() {
-    for (page, number, place, case) in [
-        (
-            "15:3 7:1 0:0 1:0",
-            "0",
-            1,
-            "(line 1, column 6): 7:1 can't stand there in answer 0, 15:3 at line 1, column 1",
-        ),
-        (
-            "end finished round 0 steps 4 answers 3 cut 0\n15:1 1:7\n15:4 0:0 15:9 0:0 2:5\n15:0\n",
-            "2",
-            4,
-            "(line 3, column 10): 15:9 can't stand there in answer 1, 15:4 at line 3, column 1",
-        ),
-        (
-            "15:2 1:7 4:1\n15:0",
-            "0",
-            2,
-            "(line 1, column 10): 4:1 can't stand there in answer 0, 15:2 at line 1, column 1",
-        ),
-    ] {
-        let (status, output, error) = kindcanvas(&["show", "-", number], page);
-        assert_eq!((status, output.as_str()), (Some(1), ""), "{page}");
-        let expected = format!(
-            "-: refused 17 at {place}: an answer up to the wanted one is not of the form of an answer: none of its length \
-             goes on with word {place} {case}\n"
-        );
-        assert_eq!(error, expected);
-    }
-    // The walk comes first, and what is behind the wanted answer does not matter.
-    let page = "15:0 15:3 7:1 0:0 1:0 0:0";
-    let (status, output, _) = kindcanvas(&["show", "-", "0"], page);
-    assert_eq!((status, output.as_str()), (Some(0), "15:0\n"));
-    let (status, _, error) = kindcanvas(&["show", "-", "2"], page);
-    assert_eq!(status, Some(1));
-    assert!(error.contains("refused 10 at 5: "), "{error}");
 }
 
 #[test]

@@ -34,9 +34,6 @@ fn answers_opened_from_c() {
          answer 2: refusal 10 start 4 end 4:\n\
          answer 0: refusal 0 start 0 end 1: 15:0\n\
          answer 1: refusal 10 start 1 end 1:\n\
-         answer 0: refusal 0 start 0 end 2: 15:1 1:7\n\
-         answer 1: refusal 17 start 3 end 3:\n\
-         answer 2: refusal 10 start 5 end 5:\n\
          answer 0: refusal 10 start 0 end 0:\n"
     );
 }

@@ -11,8 +11,7 @@ mod seeds;
 
 use kindcanvas::Refusal;
 use reference::gen::Rng;
-use reference::page_coverage::{covered, wanted};
-use reference::pages::{page_case, PageCase};
+use reference::pages::{covered, page_case, wanted, PageCase};
 use reference::word::show;
 use reference::{table, PageFault};
 use seeds::Comparison;
@@ -101,12 +100,12 @@ fn table_of_pages() {
 /// References with an error, to see that it is found.
 #[test]
 fn other_readings_are_found() {
-    for reading in PageFault::all() {
+    for reading in PageFault::ALL {
         let differs = |seed: &u64| {
             let case = random_case(*seed);
             difference(&case, *seed, &case.view_with(reading)).is_some()
         };
-        let found = (0..5_000).filter(differs).count();
+        let found = (0..2_000).filter(differs).count();
         assert!(found >= 5, "{reading:?}: {found}");
     }
 }

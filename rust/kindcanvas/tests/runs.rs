@@ -216,7 +216,7 @@ fn differences_are_found_and_made_small() {
     made_small("late absence", late_absence, 10, 30);
     made_small("no second answer", no_second_answer, 10, 20);
     made_small("cuts when broken", cuts_when_broken, 8, 20);
-    made_small("cuts added up", cuts_added_up, 11, 20);
+    made_small("cuts added up", cuts_added_up, 8, 20);
     made_small("no cut told", no_cut_told, 8, 20);
     made_small("misplaced", misplaced, 1, 1);
 }
@@ -245,19 +245,6 @@ fn other_readings_of_repeats_are_found() {
             _ => case.run(),
         };
         made_small(&format!("{reading:?}"), wrong, 24, 60);
-    }
-}
-
-/// Other readings of the rule on disequalities that say too much (document 02, Note 13), by programs that are neither long nor made for many
-/// answers, for the same reason.
-#[test]
-fn other_readings_of_dropping_are_found() {
-    for reading in Fault::OF_TELLING {
-        let wrong = move |case: &Case| match case.words.len() {
-            0..=200 if !case.made.ends_with("many answers") => case.run_with(Some(reading)),
-            _ => case.run(),
-        };
-        made_small(&format!("{reading:?}"), wrong, 30, 60);
     }
 }
 

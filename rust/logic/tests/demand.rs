@@ -1,4 +1,4 @@
-//! Engines held to demand 3 on random programs, and that it finds the errors this trade has made, and answers and lines struck out wrongly.
+//! Engines held to demand 3 on random programs, and that it finds the errors this trade has made and answers struck out wrongly.
 
 mod programs;
 
@@ -6,8 +6,7 @@ use logic::demand::{End, Run, Seen, Subject};
 use logic::syntax::show;
 use reference::gen::{self, Rng};
 use reference::run::SCRATCH_WORDS;
-use reference::{differs, repeats, run_with, Fault};
-use std::cell::Cell;
+use reference::{repeats, run_with, Fault};
 
 const PROGRAMS: usize = 10_000;
 /// Runs have round limits up to this, and relations are looked at with as many calls.
@@ -31,7 +30,6 @@ fn check(engine: impl Fn(&Case, u32) -> Run) -> Result<Vec<Seen>, String> {
             words: match number % 8 {
                 0 | 4 => gen::program(&mut rng),
                 1 => repeats::few(&mut rng),
-                2 => differs::few(&mut rng),
                 _ => programs::program(&mut rng, 3),
             },
             // Mostly enough; sometimes the run breaks off.
@@ -73,8 +71,7 @@ fn expect_right(name: &str, engine: impl Fn(&Case, u32) -> Run) {
     }
 }
 
-/// The reference's run; `thinned` counts answers from which disequalities were dropped.
-fn reference(fault: Option<Fault>, case: &Case, rounds: u32, thinned: &Cell<usize>) -> Run {
+fn reference(fault: Option<Fault>, case: &Case, rounds: u32) -> Run {
     let outcome = run_with(
         fault,
         &case.words,
@@ -84,8 +81,6 @@ fn reference(fault: Option<Fault>, case: &Case, rounds: u32, thinned: &Cell<usiz
         SCRATCH_WORDS,
     );
     let outcome = outcome.unwrap_or_else(|refusal| panic!("{refusal:?}: {}", show(&case.words)));
-    let given = outcome.trace.given.iter();
-    thinned.set(thinned.get() + given.filter(|given| given.listed > given.words).count());
     Run {
         end: match outcome.end {
             reference::End::Finished => End::Finished,
@@ -120,20 +115,16 @@ fn the_static_library() {
 
 #[test]
 fn the_reference() {
-    let thinned = Cell::new(0);
     expect_right("the reference", |case, rounds| {
-        reference(None, case, rounds, &thinned)
+        reference(None, case, rounds)
     });
-    println!("{} answers without some disequality", thinned.get());
-    assert!(thinned.get() >= 2_000);
 }
 
 #[test]
 fn each_fault_is_found() {
     let mut missed = Vec::new();
-    let faults = Fault::OF_ANSWERS.into_iter();
-    for fault in faults.chain(Fault::STRIKING).chain(Fault::DROPPING_MORE) {
-        match check(|case, rounds| reference(Some(fault), case, rounds, &Cell::new(0))) {
+    for fault in Fault::OF_ANSWERS.into_iter().chain(Fault::STRIKING) {
+        match check(|case, rounds| reference(Some(fault), case, rounds)) {
             Err(wrong) => println!("{fault:?}, {wrong}"),
             Ok(_) => missed.push(fault),
         }

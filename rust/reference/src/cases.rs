@@ -1,6 +1,5 @@
 //! Programs with limits, on and around the places where a run's end changes.
 
-use crate::differs;
 use crate::fault::Fault;
 use crate::gen::{self, pair, part, relation, wrapped, Rng};
 use crate::read::PROGRAM_WORDS;
@@ -76,11 +75,9 @@ const SMALL: usize = 120;
 const STEPS: u32 = 2_000;
 
 /// How programs are made.
-pub const MADE: [&str; 27] = [
+pub const MADE: [&str; 25] = [
     "program",
     "repeats",
-    "disequalities",
-    "many disequalities",
     "many answers",
     "shared parts",
     "constraints",
@@ -108,10 +105,10 @@ pub const MADE: [&str; 27] = [
 
 /// A case that is small enough for slow checkers too.
 pub fn case(rng: &mut Rng) -> Case {
-    let (made, words) = match rng.below(118) {
+    let (made, words) = match rng.below(100) {
         0..=26 => ("program", small(rng, gen::program)),
         27..=31 => ("repeats", small(rng, repeats::few)),
-        32..=33 | 115..=117 => return many_answers(rng),
+        32..=33 => return many_answers(rng),
         34..=39 => ("shared parts", small(rng, shared::parts)),
         40..=54 => ("constraints", small(rng, gen::constrained)),
         55..=58 => ("damaged", small(rng, gen::damaged)),
@@ -121,7 +118,6 @@ pub fn case(rng: &mut Rng) -> Case {
             let length = rng.below(8);
             ("walk of a list", walk(rng, length))
         }
-        100..=114 => ("disequalities", small(rng, differs::few)),
         of_a_bound => return near_a_bound(rng, of_a_bound),
     };
     let rounds = rng.pick(&[0, 1, 2, 2, 3, 3, 4, 5, 7, ROUND_LIMIT]);
@@ -177,11 +173,7 @@ fn calls_ahead(rng: &mut Rng, words: Vec<u32>) -> Vec<u32> {
 
 /// A case of any size.
 pub fn larger(rng: &mut Rng) -> Case {
-    let (made, words) = match rng.below(27) {
-        25..=26 => {
-            let count = rng.pick(&[8, 30, 100, 300, 511, 512]);
-            ("many disequalities", differs::many(rng, count))
-        }
+    let (made, words) = match rng.below(25) {
         0 => {
             let different = rng.between(400, 1_300);
             let words = repeats::many(rng, different, 8_000);
@@ -267,10 +259,6 @@ fn around(rng: &mut Rng, mut case: Case, rounds: u32, steps: u32) -> Case {
         true => beside_answers(rng, &outcome),
         false => needed + rng.below(20),
     };
-    if let Some(words) = beside_dropped(rng, &outcome) {
-        case.output = words;
-        return case;
-    }
     match rng.below(15) {
         0..=3 => (),
         4 => case.steps = outcome.steps,
@@ -320,30 +308,8 @@ fn beside_answers(rng: &mut Rng, outcome: &Outcome) -> usize {
     let kept = rng.pick(&[answers, answers.next_power_of_two()]);
     let times = [1, 1, 2, 4, 8].map(|times| times * kept);
     let left = rng.pick(&[&[0, fewer, fewer], &times[..]].concat());
-    let words = rng.pick(&[given[at].words, given[at].listed]);
     // One less, as many, or one more.
-    given[at].used + words + left + rng.below(3) - 1
-}
-
-/// Half of the time, if there is an answer from which something is dropped: output words in which it just fits, or just not, or just so
-/// with what is dropped.
-fn beside_dropped(rng: &mut Rng, outcome: &Outcome) -> Option<usize> {
-    let given = outcome.trace.given.iter();
-    let dropped: Vec<&Given> = given.filter(|given| given.listed > given.words).collect();
-    if dropped.is_empty() || rng.chance(50) {
-        return None;
-    }
-    let mut repeats = dropped.clone();
-    repeats.retain(|given| given.repeats.is_some());
-    let given = match repeats.is_empty() || rng.chance(50) {
-        true => rng.pick(&dropped),
-        false => rng.pick(&repeats),
-    };
-    let (needs, listed) = (given.needs(), given.used + given.listed);
-    let between = rng.between(needs, listed);
-    let around_needs = [needs - 1, needs, needs, needs + 1];
-    let around_listed = [listed - 1, listed - 1, listed, listed + 1];
-    Some(rng.pick(&[&around_needs, &[between][..], &around_listed].concat()))
+    given[at].needs() + left + rng.below(3) - 1
 }
 
 /// On either side of a bound.

@@ -2,13 +2,11 @@
 
 use crate::cases::{may_keep, Case, MADE, MANY_ANSWERS};
 use crate::fault::Fault;
-use crate::lines;
 use crate::listing;
 use crate::pages;
 use crate::read::{read, Refusal, PROGRAM_WORDS};
 use crate::run::{End, Outcome, OUTPUT_WORDS, ROUND_LIMIT, SCRATCH_WORDS};
 use crate::syntax::{Goal, GoalId, Program, Term, TermId};
-use crate::telling::{telling, telling_with};
 use crate::trace::{Bounded, During, Event, Given, DISTANCES, LAST_BASES, OUTER_VARIABLES};
 use crate::word::*;
 use std::collections::{BTreeSet, HashSet};
@@ -80,8 +78,6 @@ pub fn wanted() -> Vec<String> {
     all.extend(REPEATS.map(String::from));
     all.extend(DIFFERENCES.map(String::from));
     all.extend(Fault::OF_REPEATS.map(told_apart));
-    all.extend(lines::wanted());
-    all.extend(Fault::OF_TELLING.map(told_apart));
     for answers in ANSWERS {
         for space in SPACES {
             all.extend(WHICH.map(|which| of_many(which, answers, space)));
@@ -165,8 +161,6 @@ pub fn covered(case: &Case, result: &Result<Outcome, Refusal>) -> BTreeSet<Strin
             all.extend(cuts(outcome));
             all.extend(readings_of_checks(case, outcome));
             all.extend(readings_of_repeats(case, outcome));
-            all.extend(lines::covered(case, outcome));
-            all.extend(readings_of_telling(case, outcome));
             all.extend(last_word_found(&case.words, outcome));
             let program = read(&case.words).expect("it was run");
             all.extend(syntax(&program));
@@ -478,25 +472,6 @@ fn readings_of_repeats(case: &Case, outcome: &Outcome) -> Vec<String> {
     told_apart_from(outcome, &other_runs(case, readings))
 }
 
-/// The other readings of Note 13 of document 02 by which the run would be another: only those by which one of its answers has other lines,
-/// or which look at what is dropped.
-fn readings_of_telling(case: &Case, outcome: &Outcome) -> Vec<String> {
-    let given = &outcome.trace.given;
-    let dropped = given.iter().any(|given| given.listed > given.words);
-    let differs = |reading: &Fault| {
-        let reading = Some(*reading);
-        let mut lines = given.iter().take(20).map(|given| &given.lines);
-        lines.any(|lines| telling_with(reading, lines) != telling(lines))
-    };
-    let looks = |reading: &Fault| dropped && Fault::OF_DROPPED.contains(reading);
-    let mut readings = Fault::OF_TELLING.to_vec();
-    readings.retain(|reading| looks(reading) || differs(reading));
-    match outcome.steps {
-        0..=1_000 => told_apart_from(outcome, &other_runs(case, &readings)),
-        _ => Vec::new(),
-    }
-}
-
 /// The runs of the case by these readings.
 fn other_runs(case: &Case, readings: &[Fault]) -> Vec<(Fault, Outcome)> {
     let run = |reading| case.run_with(Some(reading)).expect("the same program");
@@ -676,7 +651,7 @@ fn differences(outcome: &Outcome) -> BTreeSet<&'static str> {
 const ANSWERS: [usize; 6] = [MANY_ANSWERS, 16, 32, 64, 128, 512];
 
 /// The output words left, by the number of answers written.
-pub(crate) const SPACES: [&str; 5] = [
+const SPACES: [&str; 5] = [
     "fewer words left than answers",
     "as many words left as answers, or more",
     "twice as many words left, or more",
@@ -727,19 +702,8 @@ fn of_many(which: &str, answers: usize, space: &str) -> String {
     format!("{which}, {answers} or more written, {space}")
 }
 
-/// Which of these an answer is, if it is one. Early and late are the first and the last quarter.
-pub(crate) fn which(given: &Given) -> Option<usize> {
-    let written = given.written;
-    match given.repeats {
-        None => Some(0),
-        Some(number) if number < written / 4 => Some(1),
-        Some(number) if number >= written - written / 4 => Some(2),
-        Some(_) => None,
-    }
-}
-
 /// Which of the spaces the words left are.
-pub(crate) fn space(left: usize, answers: usize) -> usize {
+fn space(left: usize, answers: usize) -> usize {
     match left / answers {
         times @ 0..=1 => times,
         2..=3 => 2,
@@ -756,7 +720,13 @@ fn many_answers(case: &Case, outcome: &Outcome) -> BTreeSet<String> {
     let many = |given: &&Given| given.written >= MANY_ANSWERS && given.needs() <= room;
     for given in outcome.trace.given.iter().filter(many) {
         let written = given.written;
-        let which = which(given);
+        // Early and late are the first and the last quarter.
+        let which = match given.repeats {
+            None => Some(0),
+            Some(number) if number < written / 4 => Some(1),
+            Some(number) if number >= written - written / 4 => Some(2),
+            Some(_) => None,
+        };
         let answers = ANSWERS.iter().rfind(|&&answers| answers <= written);
         let answers = *answers.expect("they are many");
         let before = space(room - given.used, written);

@@ -1,16 +1,11 @@
 //! A separate implementation of the rule language, written from the customer's documents alone and for obviousness, not
 //! speed: the verified engine is compared with it on random programs.
 
-pub mod answers;
 pub mod cases;
 pub mod coverage;
-pub mod differs;
 pub mod fault;
-pub mod form;
 pub mod gen;
-pub mod lines;
 pub mod listing;
-pub mod page_coverage;
 pub mod pages;
 pub mod read;
 pub mod repeats;
@@ -19,7 +14,6 @@ pub mod shared;
 pub mod shrink;
 pub mod syntax;
 pub mod table;
-pub mod telling;
 pub mod trace;
 pub mod view;
 pub mod word;

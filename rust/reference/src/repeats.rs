@@ -6,7 +6,7 @@ use crate::word::*;
 
 /// A query whose alternatives are the ways given, those at place k behind k calls of a relation that just holds: they give their
 /// answers in round k.
-pub(crate) fn query(parameters: usize, variables: usize, by_round: &[Vec<Vec<u32>>]) -> Vec<u32> {
+fn query(parameters: usize, variables: usize, by_round: &[Vec<Vec<u32>>]) -> Vec<u32> {
     let mut alternatives = Vec::new();
     for (calls, ways) in by_round.iter().enumerate() {
         let ways = ways.concat();
@@ -29,7 +29,7 @@ pub(crate) fn query(parameters: usize, variables: usize, by_round: &[Vec<Vec<u32
     .concat()
 }
 
-pub(crate) fn equal(variable: usize, term: &[u32]) -> Vec<u32> {
+fn equal(variable: usize, term: &[u32]) -> Vec<u32> {
     part(EQUAL, [&[word(VARIABLE, variable as u32)], term].concat())
 }
 
@@ -157,10 +157,9 @@ fn earlier(rng: &mut Rng, count: usize) -> usize {
     }
 }
 
-/// An answer for each number, all of one shape but for a few long ones, or such that are long only with what is dropped from them. Such a
-/// one may come again, and an earlier one just behind it.
+/// An answer for each number, all of one shape but for a few long ones. Such a one may come again, and an earlier one just behind it.
 fn in_sequence(rng: &mut Rng, different: usize, words: usize) -> Vec<u32> {
-    let shape = rng.below(8);
+    let shape = rng.below(6);
     // Early, a long one takes more words than may be kept for those before it.
     let before = rng.pick(&[different, different.min(50)]);
     let long: Vec<(usize, usize)> = (0..rng.below(3))
@@ -168,15 +167,11 @@ fn in_sequence(rng: &mut Rng, different: usize, words: usize) -> Vec<u32> {
         .collect();
     let way = |number: usize| {
         let value = word(NUMBER, number as u32);
-        let list = |length: usize| {
-            let list = [word(PAIR, 1), word(SYMBOL, 7)].repeat(length);
-            [&list[..], &[value]].concat()
-        };
-        let long = long.iter().find(|(at, _)| *at == number);
-        let length = long.map_or(0, |(_, length)| *length);
+        if let Some((_, length)) = long.iter().find(|(at, _)| *at == number) {
+            let list = [word(PAIR, 1), word(SYMBOL, 7)].repeat(*length);
+            return equal(0, &[&list[..], &[value]].concat());
+        }
         match shape {
-            0..=5 if length > 0 => equal(0, &list(length)),
-
             0..=1 => equal(0, &[value]),
             2 => {
                 let digits = [number / 8, number % 8].map(|digit| word(NUMBER, digit as u32));
@@ -188,9 +183,7 @@ fn in_sequence(rng: &mut Rng, different: usize, words: usize) -> Vec<u32> {
                 equal(0, &pair(vec![word(SYMBOL, 7)], rest))
             }
             4 => part(DIFFER, vec![word(VARIABLE, 0), value]),
-            5 => part(ABSENTO, vec![value, word(VARIABLE, 0)]),
-            // A list of no elements is the number alone.
-            _ => saying_too_much(number, &list(length), shape == 6),
+            _ => part(ABSENTO, vec![value, word(VARIABLE, 0)]),
         }
     };
     let mut numbers = with_repeats(rng, different);
@@ -217,25 +210,6 @@ fn in_sequence(rng: &mut Rng, different: usize, words: usize) -> Vec<u32> {
     let each = ways.len().div_ceil(rounds);
     let by_round: Vec<Vec<Vec<u32>>> = ways.chunks(each).map(<[_]>::to_vec).collect();
     query(2, 2, &by_round)
-}
-
-/// A symbol that is not the one with this number. That it is not this number or list says too much, and so do some lines more: how many
-/// depends on the number. They stand before all others, or behind them.
-fn saying_too_much(number: usize, other: &[u32], behind: bool) -> Vec<u32> {
-    let differ = |term: &[u32]| part(DIFFER, [&[word(VARIABLE, 0)], term].concat());
-    let numbers = (0..number % 3).map(|at| word(NUMBER, 1_000 + at as u32));
-    let too_much: Vec<u32> = numbers.flat_map(|number| differ(&[number])).collect();
-    let too_much = [too_much, differ(other)].concat();
-    let says = [
-        part(SYMBOLO, vec![word(VARIABLE, 0)]),
-        differ(&[word(SYMBOL, number as u32)]),
-    ]
-    .concat();
-    let goals = match behind {
-        true => [says, too_much],
-        false => [too_much, says],
-    };
-    part(CONJUNCTION, goals.concat())
 }
 
 /// An answer for each two or three digits, some of which come again.

@@ -5,7 +5,6 @@
 use crate::fault::Fault;
 use crate::read::{read, Refusal};
 use crate::syntax::*;
-use crate::telling::telling_with;
 use crate::trace::{Bounded, During, Event, Given, Trace, DISTANCES};
 use crate::word::*;
 use std::collections::{BTreeMap, BTreeSet, HashMap};
@@ -274,23 +273,6 @@ struct Search<'p> {
     steps: u32,
     answers: Answers,
     trace: Trace,
-}
-
-/// An answer to be written.
-struct Draft {
-    /// The words of its query terms.
-    terms: Vec<u32>,
-    /// Its lines as document 01 lists them.
-    listed: Vec<Vec<u32>>,
-    /// What is left of these.
-    left: Vec<Vec<u32>>,
-}
-
-impl Draft {
-    /// Its words with these lines.
-    fn answer(&self, lines: &[Vec<u32>]) -> Vec<u32> {
-        part(ANSWER, &[self.terms.clone(), lines.concat()])
-    }
 }
 
 /// The answers written so far.
@@ -829,48 +811,27 @@ impl Search<'_> {
                 }
             }
         }
-        // "It counts no steps" (document 02, Note 13).
-        let left = telling_with(self.fault, &lines);
-        if self.has(Fault::DroppedTakesStep) {
-            for _ in left.len()..lines.len() {
-                self.step(None)?;
-            }
-        }
-        self.give(
-            Draft {
-                terms: inside,
-                listed: lines,
-                left,
-            },
-            round,
-        )
+        let terms = inside.len();
+        inside.extend(lines.concat());
+        self.give(part(ANSWER, &[inside]), 1 + terms, round)
     }
 
-    /// An answer is written unless it repeats an earlier one.
-    fn give(&mut self, draft: Draft, round: u32) -> Result<(), End> {
-        // "The output-full test and the comparison of Note 2 come after it": after what says too much has been dropped.
-        let answer = draft.answer(&draft.left);
-        let listed = draft.answer(&draft.listed);
-        let compared = self.compared(&draft, round);
+    /// An answer, of which so many words are its header and query terms, is written unless it repeats an earlier one.
+    fn give(&mut self, answer: Vec<u32>, terms: usize, round: u32) -> Result<(), End> {
+        let compared = self.compared(&answer, terms, round);
         let repeats = self.answers.numbers.get(&compared).copied();
         let used = self.answers.words.len();
         self.trace.given.push(Given {
             round,
             steps: self.steps,
             words: answer.len(),
-            listed: listed.len(),
-            lines: draft.listed,
             used,
             written: self.answers.rounds.len(),
             repeats,
         });
-        let room_for = match self.fault {
-            Some(Fault::DroppedNeedsRoom) => listed.len(),
-            _ => answer.len(),
-        };
         // "The output-full test comes before that comparison" (document 02, Note 2): a repeat ends the run too, if it does not fit.
         let needs_room = repeats.is_none() || !self.has(Fault::ComparedBeforeFull);
-        if room_for > self.room - used && needs_room {
+        if answer.len() > self.room - used && needs_room {
             return Err(End::Output);
         }
         // "an answer with the same words as an earlier one of the run is not written", and "Comparing counts no steps".
@@ -897,12 +858,14 @@ impl Search<'_> {
     }
 
     /// What an answer is compared by: its words, but for an error put in.
-    fn compared(&self, draft: &Draft, round: u32) -> Vec<u32> {
-        let mut compared = draft.answer(&draft.left);
+    fn compared(&self, answer: &[u32], terms: usize, round: u32) -> Vec<u32> {
+        let mut compared = answer.to_vec();
         match self.fault {
             Some(Fault::ComparedInRound) => compared.push(round),
-            Some(Fault::ComparedByTerms) => compared = draft.terms.clone(),
-            Some(Fault::ComparedAsListed) => compared = draft.answer(&draft.listed),
+            Some(Fault::ComparedByTerms) => {
+                compared.truncate(terms);
+                compared[0] = 0;
+            }
             Some(Fault::ComparedInAnyOrder) => compared.sort(),
             Some(Fault::ComparedButLastWord) => {
                 compared.pop();

@@ -118,17 +118,13 @@ impl Bounded {
 }
 
 /// An answer of a path, be it written or not.
-#[derive(Clone, Debug, PartialEq, Eq)]
+#[derive(Clone, Copy, Debug, PartialEq, Eq)]
 pub struct Given {
     pub round: u32,
     /// The steps that the run had taken when the writer was through.
     pub steps: u32,
     /// The words that it has.
     pub words: usize,
-    /// Those that it had with what is dropped from it (document 02, Note 13).
-    pub listed: usize,
-    /// Its lines with these.
-    pub lines: Vec<Vec<u32>>,
     /// The words and the answers written before it.
     pub used: usize,
     pub written: usize,

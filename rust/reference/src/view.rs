@@ -1,13 +1,11 @@
-//! One answer of an output page, found by its answer headers (document 02, Note 1), once the form of the answers up to it has been tested
-//! (Note 13).
+//! One answer of an output page, found by its answer headers (document 02, Note 1).
 
 use crate::fault::PageFault;
-use crate::form::leaves_form_with;
 use crate::read::Refusal;
 use crate::word::{kind, payload, ANSWER};
 use std::ops::Range;
 
-/// Where the answer with this number, from 0, stands on the page, header word included; or refusal 10 or 17.
+/// Where the answer with this number, from 0, stands on the page, header word included; or refusal 10.
 pub fn view(page: &[u32], answer: u32) -> Result<Range<usize>, Refusal> {
     view_with(None, page, answer)
 }
@@ -24,23 +22,15 @@ pub fn view_with(
         false => answer,
     };
     let mut at = 0;
-    let mut passed: Vec<Range<usize>> = Vec::new();
-    let wanted = loop {
+    loop {
         at += walk.skipped(at);
         let end = walk.end_of_answer(at)?;
-        if walk.has(PageFault::FormBeforeWalk) {
-            walk.form(at..end)?;
-        }
         if to_pass == 0 {
-            break at..end;
+            return walk.given(at..end);
         }
-        passed.push(at..end);
         to_pass -= 1;
         at = end;
-    };
-    // "after 10": the walk has passed the wanted answer.
-    walk.forms(&passed, &wanted)?;
-    walk.given(wanted)
+    }
 }
 
 struct Walk<'p> {
@@ -64,8 +54,8 @@ impl Walk<'_> {
         }
     }
 
-    /// Where the answer ends whose header has to stand at this place, at most the page's length. Its header is all of it that the walk
-    /// looks at.
+    /// Where the answer ends whose header has to stand at this place, at most the page's length. Its header is all of it that is
+    /// looked at.
     fn end_of_answer(&self, at: usize) -> Result<usize, Refusal> {
         let left = self.page.len() - at;
         if left == 0 {
@@ -100,49 +90,6 @@ impl Walk<'_> {
             return Ok(next.unwrap_or(end));
         }
         Ok(end)
-    }
-
-    /// "an answer up to the wanted one, itself included, that isn't" of the form is refused by 17.
-    fn forms(&self, passed: &[Range<usize>], wanted: &Range<usize>) -> Result<(), Refusal> {
-        if !matches!(
-            self.fault,
-            Some(PageFault::FormNotTested | PageFault::OnlyWantedTested)
-        ) {
-            for answer in passed {
-                self.form(answer.clone())?;
-            }
-        }
-        if !matches!(
-            self.fault,
-            Some(PageFault::FormNotTested | PageFault::WantedNotTested)
-        ) {
-            self.form(wanted.clone())?;
-        }
-        let mut at = wanted.end;
-        while self.has(PageFault::LaterTested) && at < self.page.len() {
-            let Ok(end) = self.end_of_answer(at) else {
-                break;
-            };
-            self.form(at..end)?;
-            at = end;
-        }
-        Ok(())
-    }
-
-    /// Tests the form of one answer.
-    fn form(&self, answer: Range<usize>) -> Result<(), Refusal> {
-        let (header, first) = (answer.start, answer.start + 1);
-        let Some(place) = leaves_form_with(self.fault, &self.page[first..answer.end]) else {
-            return Ok(());
-        };
-        Err(Refusal {
-            number: 17,
-            place: match self.fault {
-                Some(PageFault::PlaceAtHeader) => header,
-                Some(PageFault::PlaceInAnswer) => 1 + place,
-                _ => first + place,
-            },
-        })
     }
 
     /// The wanted answer is passed: nothing more is looked at.

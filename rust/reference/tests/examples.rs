@@ -9,7 +9,7 @@ use std::fs;
 use std::path::Path;
 
 /// Worked out as each file's comment says: file, round of the end, branches cut (0 if it finished), rounds of the answers, answers.
-const EXAMPLES: [(&str, u32, u32, &[u32], &str); 11] = [
+const EXAMPLES: [(&str, u32, u32, &[u32], &str); 10] = [
     ("abo-rh.kp", 2, 0, &[2, 2], "15:2 1:1 1:5 15:2 1:2 1:5"),
     ("abo.kp", 8, 0, &[4, 6], "15:1 1:1 15:1 1:2"),
     (
@@ -39,13 +39,6 @@ const EXAMPLES: [(&str, u32, u32, &[u32], &str); 11] = [
         0,
         &[11, 14],
         "15:2 1:2 3:0 15:6 1:3 4:1 2:1 4:1 2:2 3:0",
-    ),
-    (
-        "open-questions.kp",
-        0,
-        0,
-        &[0],
-        "15:18 4:1 1:24 4:1 0:0 4:1 0:1 3:0 9:2 1:2 0:0 9:2 1:2 0:1 6:2 0:1 1:108 7:1 0:0",
     ),
     (
         "open-typing.kp",

@@ -1,10 +1,9 @@
-//! Notes 1 and 13 of document 02, the viewer: its table, its other readings, and what it claims holds of the reference.
+//! Note 1 of document 02, the viewer: its table, its other readings, and what it claims holds of the reference.
 
 use reference::cases;
 use reference::gen::Rng;
 use reference::listing::listing;
-use reference::page_coverage::{covered, wanted};
-use reference::pages::{answers, left_by_run, page_case, PageCase};
+use reference::pages::{answers, covered, left_by_run, page_case, wanted, PageCase};
 use reference::word::{kind, payload, show, ANSWER, PAYLOADS};
 use reference::{table, view, PageFault, Refusal};
 use std::collections::BTreeMap;
@@ -13,14 +12,14 @@ use std::ops::Range;
 #[test]
 fn table_of_pages() {
     let rows = table::pages();
-    assert!(rows.len() >= 100);
+    assert!(rows.len() >= 40);
     for row in rows {
         assert_eq!(row.case.view(), row.expected, "pages.txt line {}", row.line);
     }
 }
 
 /// Each other reading with a row of the table on which it shows, and what it would make of that row, worked out by hand.
-const SHOWN: [(PageFault, &str); 38] = [
+const SHOWN: [(PageFault, &str); 13] = [
     (
         PageFault::NumberedFromOne,
         "15:1 2:5 15:1 2:5 ; answer 1 => 15:1 2:5 at 0",
@@ -61,113 +60,12 @@ const SHOWN: [(PageFault, &str); 38] = [
         "15:1 1:7 0:0*3 ; answer 1 => refused 10 at 5",
     ),
     (PageFault::PlaceTooFar, "; answer 0 => refused 10 at 1"),
-    (
-        PageFault::FormNotTested,
-        "15:1 14:0 ; answer 0 => 15:1 14:0 at 0",
-    ),
-    (
-        PageFault::FormBeforeWalk,
-        "15:1 14:0 3:0 ; answer 1 => refused 17 at 1",
-    ),
-    (
-        PageFault::OnlyWantedTested,
-        "15:1 14:0 15:1 1:7 ; answer 1 => 15:1 1:7 at 2",
-    ),
-    (
-        PageFault::WantedNotTested,
-        "15:1 14:0 ; answer 0 => 15:1 14:0 at 0",
-    ),
-    (
-        PageFault::LaterTested,
-        "15:1 1:7 15:1 14:0 ; answer 0 => refused 17 at 3",
-    ),
-    (
-        PageFault::PlaceAtHeader,
-        "15:1 1:7 15:1 14:0 ; answer 1 => refused 17 at 2",
-    ),
-    (
-        PageFault::PlaceInAnswer,
-        "15:1 1:7 15:1 14:0 ; answer 1 => refused 17 at 1",
-    ),
-    (
-        PageFault::PlaceAtLine,
-        "15:2 7:1 1:7 ; answer 0 => refused 17 at 1",
-    ),
-    (
-        PageFault::NoLookAhead,
-        "15:3 7:1 0:0 1:0 ; answer 0 => refused 17 at 3",
-    ),
-    (
-        PageFault::PairParityForgotten,
-        "15:5 4:2 1:0*4 ; answer 0 => refused 17 at 2",
-    ),
-    (
-        PageFault::DifferParityForgotten,
-        "15:4 6:3 0:0 1:7 1:7 ; answer 0 => refused 17 at 3",
-    ),
-    (
-        PageFault::SecondPartForgotten,
-        "15:2 4:1 1:0 ; answer 0 => refused 17 at 3",
-    ),
-    (
-        PageFault::OneWordLeft,
-        "15:3 7:1 0:0 1:0 ; answer 0 => refused 17 at 3",
-    ),
-    (
-        PageFault::SevenUnderDisjunction,
-        "15:8 11:7 6:2 0:0 1:7 6:3 0:0 1:7 1:7 ; answer 0 => refused 17 at 5",
-    ),
-    (
-        PageFault::OneUnderDisjunction,
-        "15:4 11:3 6:2 0:0 1:7 ; answer 0 => 15:4 11:3 6:2 0:0 1:7 at 0",
-    ),
-    (
-        PageFault::AnyUnderDisjunction,
-        "15:7 11:6 9:2 1:7 0:0 6:2 0:0 1:7 ; answer 0 => 15:7 11:6 9:2 1:7 0:0 6:2 0:0 1:7 at 0",
-    ),
-    (
-        PageFault::ConjunctionAllowed,
-        "15:7 10:6 6:2 0:0 2:1 6:2 0:1 2:2 ; answer 0 => 15:7 10:6 6:2 0:0 2:1 6:2 0:1 2:2 at 0",
-    ),
-    (
-        PageFault::EqualAllowed,
-        "15:3 5:2 0:0 1:7 ; answer 0 => 15:3 5:2 0:0 1:7 at 0",
-    ),
-    (
-        PageFault::TypeOnTerm,
-        "15:4 7:3 4:1 0:0 0:0 ; answer 0 => 15:4 7:3 4:1 0:0 0:0 at 0",
-    ),
-    (
-        PageFault::AtomForVariable,
-        "15:2 7:1 1:7 ; answer 0 => 15:2 7:1 1:7 at 0",
-    ),
-    (
-        PageFault::UnknownVariable,
-        "15:3 6:2 0:5 0:268435455 ; answer 0 => refused 17 at 2",
-    ),
-    (
-        PageFault::AnyTag,
-        "15:3 9:2 3:0 0:0 ; answer 0 => 15:3 9:2 3:0 0:0 at 0",
-    ),
-    (
-        PageFault::EmptyWithPayload,
-        "15:1 3:1 ; answer 0 => 15:1 3:1 at 0",
-    ),
-    (
-        PageFault::TermBehindGoal,
-        "15:4 7:1 0:0 1:0 1:0 ; answer 0 => 15:4 7:1 0:0 1:0 1:0 at 0",
-    ),
-    (
-        PageFault::TermsNeeded,
-        "15:3 6:2 0:5 0:268435455 ; answer 0 => refused 17 at 1",
-    ),
 ];
 
 #[test]
 fn other_readings_show_in_the_table() {
     let rows = table::pages();
-    let readings = SHOWN.into_iter().map(|(reading, _)| reading);
-    assert!(readings.eq(PageFault::all()));
+    assert_eq!(SHOWN.map(|(reading, _)| reading), PageFault::ALL);
     for (reading, text) in SHOWN {
         let shown = table::page(0, text);
         let row = rows.iter().find(|row| row.case == shown.case);
@@ -180,16 +78,15 @@ fn other_readings_show_in_the_table() {
 #[test]
 fn other_readings_show_in_random_cases() {
     let mut rng = Rng::new(21);
-    let readings: Vec<PageFault> = PageFault::all().collect();
-    let mut shown = vec![0; readings.len()];
-    for _ in 0..5_000 {
+    let mut shown = [0; PageFault::ALL.len()];
+    for _ in 0..2_000 {
         let case = page_case(&mut rng);
         let result = case.view();
-        for (count, &reading) in shown.iter_mut().zip(&readings) {
+        for (count, reading) in shown.iter_mut().zip(PageFault::ALL) {
             *count += (case.view_with(reading) != result) as usize;
         }
     }
-    println!("{readings:?}: {shown:?}");
+    println!("{:?}: {shown:?}", PageFault::ALL);
     assert!(shown.iter().all(|&count| count >= 5), "{shown:?}");
 }
 
@@ -197,23 +94,18 @@ fn other_readings_show_in_random_cases() {
 fn random_cases_cover_all() {
     let mut rng = Rng::new(22);
     let mut counts: BTreeMap<String, usize> = BTreeMap::new();
-    for _ in 0..50_000 {
+    for _ in 0..20_000 {
         for what in covered(&page_case(&mut rng)) {
             *counts.entry(what).or_default() += 1;
         }
     }
     let wanted = wanted();
-    for what in counts.keys() {
-        assert!(wanted.contains(what), "{what}");
-    }
-    for what in &wanted {
-        counts.entry(what.clone()).or_default();
-    }
-    for (what, count) in &counts {
+    assert!(counts.keys().all(|what| wanted.contains(what)));
+    for what in wanted {
+        let count = counts.get(&what).copied().unwrap_or_default();
         println!("{count:8} {what}");
+        assert!(count >= 5, "{what}");
     }
-    counts.retain(|_, count| *count < 5);
-    assert!(counts.is_empty(), "hardly covered: {counts:?}");
 }
 
 /// The answers of a run are those of its listing, one a line, and behind them is no other.
@@ -253,30 +145,24 @@ fn pages_left_by_runs() {
     assert!(viewed >= 1_000 && full >= 50 && empty >= 50);
 }
 
-/// The words that a view has no business with: behind the wanted answer, behind a word refused by 17 up to the wanted answer's end but
-/// for headers, or, refused by 10, inside the answers passed and behind the word where the walk stopped.
+/// The words that a view has no business with: inside the answers up to the wanted one, and behind it or behind the word where the
+/// walk stopped.
 fn not_looked_at(case: &PageCase, result: &Result<Range<usize>, Refusal>) -> Vec<usize> {
-    let whole = answers(&case.page);
-    let (untested, behind) = match result {
+    let (passed, behind) = match result {
         Ok(part) => (part.end, part.end),
-        Err(refusal) if refusal.number == 17 => {
-            (refusal.place + 1, whole[case.answer as usize].end)
-        }
-        Err(refusal) => (0, refusal.place + 1),
+        Err(refusal) => (refusal.place, refusal.place + 1),
     };
-    let inside = whole
+    let inside = answers(&case.page[..passed])
         .into_iter()
-        .flat_map(|answer| answer.start + 1..answer.end)
-        .filter(|place| (untested..behind).contains(place));
+        .flat_map(|answer| answer.start + 1..answer.end);
     inside.chain(behind..case.page.len()).collect()
 }
 
-/// "The page is walked by its answer headers", and once that has passed the wanted answer, words inside are looked at up to the first that
-/// is refused.
+/// "The page is walked by its answer headers, and nothing inside an answer is looked at."
 #[test]
-fn nothing_else_is_looked_at() {
+fn only_headers_decide() {
     let mut rng = Rng::new(24);
-    let mut changed = [0; 3];
+    let mut changed = 0;
     for _ in 0..20_000 {
         let case = page_case(&mut rng);
         let result = case.view();
@@ -287,12 +173,7 @@ fn nothing_else_is_looked_at() {
                 other.page[place] = rng.number() as u32;
             }
         }
-        let which = match result.as_ref().map_err(|refusal| refusal.number) {
-            Ok(_) => 0,
-            Err(10) => 1,
-            Err(_) => 2,
-        };
-        changed[which] += (other != case) as usize;
+        changed += (other != case) as usize;
         assert_eq!(other.view(), result, "{case}\n{other}");
         // All of them headers, or none.
         for word in [ANSWER << 28, ANSWER << 28 | (PAYLOADS - 1), 0] {
@@ -302,8 +183,8 @@ fn nothing_else_is_looked_at() {
             assert_eq!(other.view(), result, "{case}\n{other}");
         }
     }
-    println!("{changed:?} pages changed, given, refused by 10 and by 17");
-    assert!(changed.iter().all(|&changed| changed >= 1_000));
+    println!("{changed} pages changed");
+    assert!(changed >= 10_000);
 }
 
 /// Where the answer is there, the page may as well end with it, or go on for longer. An answer overruns as long as one of its words is
@@ -333,7 +214,6 @@ fn lengths_of_the_page() {
                 };
                 assert_eq!(resized(part.end - 1), Err(refusal), "{case}");
             }
-            Err(refusal) if refusal.number == 17 => (),
             Err(refusal) => {
                 let Some(&header) = case.page.get(refusal.place) else {
                     continue;

@@ -2,4 +2,4 @@
 mod hash;
 mod index;
 pub(crate) mod repeated;
-pub(crate) mod same;
+mod same;

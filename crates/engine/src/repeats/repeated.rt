@@ -14,29 +14,27 @@ pub(crate) enum Compared {
 
 // Compares with all answers one after the other: there is no index, or it is given up.
 fn compare_all(output: &mut [u32], used: usize, next: usize, end: usize, answers: u32) -> Compared
-    requires { (answers < 4294967295) × ((ws : List (List ℕ)) × (v : List ℕ) × Comparing output.old used next next end 0 ws v) }
-    ensures { (ws : List (List ℕ)) (v : List ℕ) → Comparing output.old used next next end 0 ws v
+    requires { (answers < 4294967295) × ((ws : List (List ℕ)) × (v : List ℕ) × Comparing output.old used next end 0 ws v) }
+    ensures { (ws : List (List ℕ)) (v : List ℕ) → Comparing output.old used next end 0 ws v
         → ComparedAs output.old output.new used next end ws v result }
 {
-    if among(output, 0, used, used, next) {
+    if among(output, used, next) {
         return Compared::Repeated(0);
     }
     Compared::New(fitted(output, next, end, answers + 1, 0))
 }
 
-// Compares the answer from `used` up to `next` with the answers before it, of which there are so many. The last `index` words up to `end` are their index, unless the answer, while it
-// was written, reached into it.
+// Compares the answer from `used` up to `next` with the answers before it, of which there are so many. The last `index` words up to `end` are their index.
 pub(crate) fn repeated(
     output: &mut [u32],
     used: u32,
     next: u32,
-    reached: u32,
     end: usize,
     answers: u32,
     index: u32,
 ) -> Compared
-    requires { (answers < 4294967295) × ((ws : List (List ℕ)) × (v : List ℕ) × Comparing output.old used next reached end index ws v) }
-    ensures { (ws : List (List ℕ)) (v : List ℕ) → Comparing output.old used next reached end index ws v
+    requires { (answers < 4294967295) × ((ws : List (List ℕ)) × (v : List ℕ) × Comparing output.old used next end index ws v) }
+    ensures { (ws : List (List ℕ)) (v : List ℕ) → Comparing output.old used next end index ws v
         → ComparedAs output.old output.new used next end ws v result }
 {
     let start = used as usize;
@@ -45,7 +43,7 @@ pub(crate) fn repeated(
     if size == 0 {
         return compare_all(output, start, behind, end, answers);
     }
-    if end - (reached as usize) < size {
+    if end - behind < size {
         return compare_all(output, start, behind, end, answers);
     }
     match enter(output, start, behind, end - size, size) {

@@ -1,5 +1,4 @@
 // Terms by reference: followed through bindings, looked through, unified; constraints reviewed.
-pub(crate) mod compare;
 pub(crate) mod occurs;
 pub(crate) mod review;
 pub(crate) mod scan;

@@ -25,13 +25,7 @@ pub enum Reviewed {
 }
 
 // Is the constraint a type of this kind that reaches the open variable?
-pub(crate) fn reaches(
-    program: &[u32],
-    scratch: &[u32],
-    constraint: u32,
-    kind: u32,
-    variable: u32,
-) -> bool
+fn reaches(program: &[u32], scratch: &[u32], constraint: u32, kind: u32, variable: u32) -> bool
     requires { (bs : Substitution) × (c : Constraint) × (k : Sort) × Constrains program.now scratch.now bs constraint c × (kind ≡ other_kind k) }
     ensures { (bs : Substitution) (c : Constraint) (k : Sort) → Constrains program.now scratch.now bs constraint c → kind ≡ other_kind k
         → result ≡ definition.reaches bs k variable c }
@@ -79,7 +73,7 @@ fn clashes(
 }
 
 // A type's review: fails on an atom of another kind, on a pair, and on an open variable that the other type reaches.
-pub(crate) fn review_type(
+fn review_type(
     program: &[u32],
     scratch: &[u32],
     term: u32,

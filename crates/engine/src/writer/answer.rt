@@ -8,7 +8,7 @@ ghost use Rattle.engine.specs.Layout.{most_variables};
 ghost use Rattle.engine.specs.Term.{Room};
 ghost use Rattle.engine.specs.Lines.{AnswerSoFar};
 ghost use Rattle.engine.specs.Query.{Query, query_words};
-ghost use Rattle.engine.specs.Answer.{Answering, AnsweredAs, Ends, EndedAs, LinesListed, ToldAs};
+ghost use Rattle.engine.specs.Answer.{Answering, AnsweredAs, Ends, EndedAs};
 
 use crate::layout::MOST_OUTPUT;
 use crate::search::state::State;
@@ -16,23 +16,13 @@ use crate::writer::constraint::{Added, add_constraints};
 use crate::writer::look::LookedThrough;
 use crate::writer::names::clear_names;
 use crate::writer::query::{look_parameters, name_parameters, put_parameters};
-use crate::writer::telling::put_staying;
 use crate::writer::term::{Put, put_head};
-use crate::writer::thin::thin;
 use word::{Word, at_most};
 
-// How the lines that stay end: where the answer ends, beyond `end` if it does not fit, up to where words were touched on the way, and the steps left; or a stop.
-#[derive(Drop)]
-pub enum Told {
-    Done(usize, usize, u32),
-    StepsOut,
-    WaitingOut(u32),
-}
-
-// The output words used then, up to where words were touched, and the steps left; that it does not fit, with the steps left; or a stop.
+// The output words used then and the steps left; that it does not fit, with the steps left; or a stop.
 #[derive(Drop)]
 pub enum Answered {
-    Written(u32, u32, u32),
+    Written(u32, u32),
     Full(u32),
     StepsOut,
     WaitingOut(u32),
@@ -65,69 +55,23 @@ fn begin_answer(
 }
 
 // The answer's own word, if all of it fits.
-fn end_answer(output: &mut [u32], start: usize, end: usize, told: Told) -> Answered
-    requires { Room output.old end × ((o : List ℕ) × (v : List ℕ) × Ends o output.old start end v told) }
-    ensures { (o : List ℕ) (v : List ℕ) → Ends o output.old start end v told → EndedAs o output.old output.new start end v told result }
+fn end_answer(output: &mut [u32], start: usize, end: usize, added: Added) -> Answered
+    requires { Room output.old end × ((o : List ℕ) × (v : List ℕ) × Ends o output.old start end v added) }
+    ensures { (o : List ℕ) (v : List ℕ) → Ends o output.old start end v added → EndedAs o output.old output.new start end v added result }
 {
-    match told {
-        Told::StepsOut => {
+    match added {
+        Added::StepsOut => {
             return Answered::StepsOut;
         }
-        Told::WaitingOut(left) => {
+        Added::WaitingOut(left) => {
             return Answered::WaitingOut(left);
         }
-        Told::Done(at, reached, left) => {
+        Added::Done(at, left) => {
             if end < at {
                 return Answered::Full(left);
             }
             put_head(output, start, at, Word::ANSWER, true);
-            return Answered::Written(at as u32, reached as u32, left);
-        }
-    }
-}
-
-// Drops the lines that say too much. Where all lines that are listed fit, their words tell; else the answer is begun anew, and each line that may be dropped is decided before it is put, with as
-// many steps for a trial as all of them had.
-fn tell(
-    program: &[u32],
-    scratch: &mut [u32],
-    output: &mut [u32],
-    state: State,
-    params: u32,
-    start: usize,
-    first: usize,
-    end: usize,
-    steps: u32,
-    added: Added,
-) -> Told
-    requires { LinesListed program.now scratch.old output.old state.constraints state.trail params start first end steps added }
-    ensures { (g : LinesListed program.now scratch.old output.old state.constraints state.trail params start first end steps added)
-        → ToldAs g scratch.new output.new result }
-{
-    match added {
-        Added::StepsOut => {
-            return Told::StepsOut;
-        }
-        Added::WaitingOut(left) => {
-            return Told::WaitingOut(left);
-        }
-        Added::Done(at, left) => {
-            if at <= end {
-                let next = thin(output, first, at);
-                return Told::Done(next, at, left);
-            }
-            let again = begin_answer(program, scratch, output, params, start, end);
-            let next = put_staying(
-                program,
-                scratch,
-                output,
-                state.constraints,
-                state.trail,
-                again,
-                end,
-                steps,
-            );
-            return Told::Done(next, end, left);
+            return Answered::Written(at as u32, left);
         }
     }
 }
@@ -167,11 +111,8 @@ pub(crate) fn write_answer(
                 first,
                 left,
             );
-            let told = tell(
-                program, scratch, output, state, params, start, first, end, left, added,
-            );
             clear_names(scratch, top);
-            return end_answer(output, start, end, told);
+            return end_answer(output, start, end, added);
         }
     }
 }

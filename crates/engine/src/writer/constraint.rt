@@ -148,7 +148,7 @@ fn type_lines(
 }
 
 // One constraint, by the reference of its goal.
-pub(crate) fn add_constraint(
+fn add_constraint(
     program: &[u32],
     scratch: &mut [u32],
     output: &mut [u32],

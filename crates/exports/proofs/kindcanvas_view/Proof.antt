@@ -15,10 +15,10 @@ enum-known-number : tie.Need-enum-known-number
 enum-known-number c = search rules
 
 returns : tie.Need-returns
-returns c = ap view_call (sym (rw c.before.from.given.1 at c.before.before.before.find.ensures.0))
+returns c = ap view_call (sym (rw c.before.from.given.1 at c.before.before.before.find.ensures))
 
 returns-2 : tie.Need-returns-2
-returns-2 c = ap view_call (sym (rw c.before.number.given.1 at c.before.before.before.find.ensures.0))
+returns-2 c = ap view_call (sym (rw c.before.number.given.1 at c.before.before.before.find.ensures))
 
 pub kindcanvas_view_spec : {M : Type 1} → statement M
 kindcanvas_view_spec =

@@ -5,8 +5,7 @@ use mathlib.Core.Path.{◌≡◌, ◌∙◌, ap, sym}
 use native.Mathlib.Omega.{arith}
 use mathlib.Core.List.{List}
 use Rattle.page.specs.Page.{find, part, part_ptr, part_words}
-use Rattle.page.proofs.WalkLaws.{Whole}
-use Rattle.page.proofs.FindLaws.{found_whole}
+use Rattle.page.proofs.WalkLaws.{Whole, walked_whole}
 use Rattle.page.proofs.view.Statement.{statement}
 use Rattle.page.proofs.view.Tie as tie
 
@@ -15,10 +14,10 @@ abbrev page_of : tie.After-start → List ℕ
 page_of c = c.before.before.before.before.args.page.now
 
 found : (c : tie.After-start) → find (page_of c) c.before.before.before.before.args.answer ≡ part c.start.given.0.0 c.start.given.0.1.0
-found c = sym (rw c.start.given.1 at c.before.before.find.ensures.0)
+found c = sym (rw c.start.given.1 at c.before.before.find.ensures)
 
 whole : (c : tie.After-start) → Whole (page_of c) c.start.given.0.0 c.start.given.0.1.0
-whole c = found_whole (page_of c) c.before.before.before.before.args.answer c.start.given.0.0 c.start.given.0.1.0 (found c)
+whole c = (walked_whole (page_of c) c.before.before.before.before.args.answer 0 c.start.given.0.0 c.start.given.0.1.0 (found c)).1
 
 find-requires : tie.Need-find-requires
 find-requires c κs = search rules
@@ -54,7 +53,7 @@ returns c =
 returns-2 : tie.Need-returns-2
 returns-2 c =
     let page = c.before.before.before.before.before.args.page in
-    let none = rw c.before.enum_told.given.1 at c.before.before.before.find.ensures.0 in
+    let none = rw c.before.enum_told.given.1 at c.before.before.before.find.ensures in
     (ap (part_words page.now) none, ap (part_ptr page.ref_ptr) none)
 
 pub view_spec : {M : Type 1} → statement M

@@ -1,5 +1,4 @@
-/* Runs document 01's case C with one more alternative from C, and opens its answers on the page; then those of a damaged page, of one whose second answer is not of the form, and of an
-   empty one. */
+/* Runs document 01's case C with one more alternative from C, and opens its answers on the page; then those of a damaged page and of an empty one. */
 #include "kindcanvas.h"
 
 #include <inttypes.h>
@@ -16,9 +15,6 @@ static const uint32_t program[] = {
 
 /* The second answer lacks a word. */
 static const uint32_t damaged[] = {WORD(15, 0), WORD(15, 2), WORD(1, 7)};
-
-/* The second answer's pair has no second part. */
-static const uint32_t no_answer[] = {WORD(15, 1), WORD(1, 7), WORD(15, 2), WORD(4, 1), WORD(1, 7)};
 
 static void show(const uint32_t *page, size_t words, uint32_t answer) {
     size_t start, end;
@@ -42,8 +38,6 @@ int main(void) {
         show(page, LENGTH(page), answer);
     for (uint32_t answer = 0; answer < 2; answer++)
         show(damaged, LENGTH(damaged), answer);
-    for (uint32_t answer = 0; answer < 3; answer++)
-        show(no_answer, LENGTH(no_answer), answer);
     show(damaged, 0, 0);
     free(scratch);
     return 0;

@@ -108,7 +108,7 @@ returns-3 c = λ P k p cs a g.
     rw c.broken3.ensures (gives_path_out g k writer.write-answer.auto.1.1.0 said c.before.before.left2.given.1)
 
 same_length_7 : tie.Need-same-length-7
-same_length_7 c = c.before.before.completed.auto.0 ∙ c.before.before.before.before.before.before.before.before.backtrack.auto.1.0 ∙ c.before.before.before.before.before.before.before.before.before.before.before.before.before.before.before.before.before.before.before.before.before.before.write-answer.auto.1.0
+same_length_7 c = search rules
 
 same_length_8 : tie.Need-same-length-8
 same_length_8 c = search rules

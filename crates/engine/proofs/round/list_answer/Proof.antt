@@ -17,8 +17,8 @@ enum-known-index c = search rules
 enum-known-index-2 : tie.Need-enum-known-index-2
 enum-known-index-2 c = search rules
 
-add_t13 : tie.Need-overflow-add-t13
-add_t13 c = let q = c.before.before.before.before.before.before.before.before.before.before.requires in omega (arith, q.3.few)
+add_t12 : tie.Need-overflow-add-t12
+add_t12 c = let q = c.before.before.before.before.before.before.before.before.before.before.requires in omega (arith, q.3.few)
 
 same_length : tie.Need-same-length
 same_length c = search rules
@@ -44,7 +44,7 @@ list_answer_spec =
     repeated-requires
     enum-known-index
     enum-known-index-2
-    add_t13
+    add_t12
     same_length
     returns
     same_length_2

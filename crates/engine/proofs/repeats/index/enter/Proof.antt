@@ -68,7 +68,7 @@ sub_same : tie.Need-overflow-sub-same invariant-loop decreases-loop
 sub_same c = omega (arith, c.before.if1.false)
 
 same-requires : tie.Need-same-requires invariant-loop decreases-loop
-same-requires c κs = let h = seek c.before.before.before.before in let n = h.0.table_there in (omega (arith, n.behind, n.room.inside), omega (arith, entry_before h.0 h.1 c.before.if1.false, h.0.words.ends, n.behind, n.room.inside))
+same-requires c κs = let h = seek c.before.before.before.before in (entry_before h.0 h.1 c.before.if1.false, omega (arith, h.0.table_there.behind, h.0.table_there.room.inside))
 
 same_length_2 : tie.Need-same-length-2 invariant-loop decreases-loop
 same_length_2 c = ap length c.before.before.before.before.before.before.loop.invariant.0

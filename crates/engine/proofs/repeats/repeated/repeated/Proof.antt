@@ -10,7 +10,7 @@ use Rattle.engine.proofs.repeats.repeated.repeated.Tie as tie
 
 -- what `enter` tells
 told : (c : tie.After-enter) (ws : List (List ℕ)) (v : List ℕ)
-    → (let a = c.before.before.before.before.before.args in Comparing a.output.now a.used a.next a.reached a.end a.index ws v → EnteredAs a.output.now c.enter.new.0 (a.end - a.index) a.index ws v c.enter.result)
+    → (let a = c.before.before.before.before.before.args in Comparing a.output.now a.used a.next a.end a.index ws v → EnteredAs a.output.now c.enter.new.0 (a.end - a.index) a.index ws v c.enter.result)
 told c ws v g = c.enter.ensures ws v (comparing_seek g c.before.before.before.if1.false c.before.before.if2.false)
 
 compare-all-requires : tie.Need-compare-all-requires

@@ -1,4 +1,4 @@
--- `among` goes from header to header: of those that are left the same is to be told.
+-- `among` goes from header to header: of the answers that are left the same is to be told.
 use Prim.Native.Nat.{ℕ, ◌+◌, ◌-◌}
 use mathlib.Core.Path.{refl, ap, ◌∙◌}
 use mathlib.Core.List.{List}
@@ -6,26 +6,26 @@ use native.Mathlib.Omega.{arith}
 use borrow.Author.Rules.{rules}
 use Rattle.word.specs.Word.{payload}
 use Rattle.semantics.specs.Answer.{any_same}
-use Rattle.engine.specs.Index.{Among}
+use Rattle.engine.specs.Lines.{Whole, Stretch, Rows}
 use Rattle.engine.proofs.RowLaws.{Row, row_end}
-use Rattle.engine.proofs.SameLaws.{among_row, among_found, among_next}
+use Rattle.engine.proofs.SameLaws.{among_found, among_next}
 use Rattle.engine.proofs.repeats.same.among.Statement.{statement}
 use Rattle.engine.proofs.repeats.same.among.Tie as tie
 
 abbrev invariant-loop : tie.invariant-loop
-invariant-loop words first to start next place₀ place = (ws : List (List ℕ)) (v : List ℕ) → Among words first to start next ws v → Row words place to v (any_same v ws)
+invariant-loop words used next place₀ place = (ws : List (List ℕ)) (v : List ℕ) → Rows words 0 used ws → Stretch words used next v → Whole v → Row words place used v (any_same v ws)
 
 abbrev decreases-loop : tie.decreases-loop
-decreases-loop words first to start next place₀ place = to - place
+decreases-loop words used next place₀ place = used - place
 
 loop-holds : tie.Need-loop-init invariant-loop decreases-loop
-loop-holds c = λ ws v h. record { rows = ws; here = h.others; same = refl }
+loop-holds c = λ ws v h i k. record { rows = ws; here = h; same = refl }
 
-same-row-requires : tie.Need-same-row-requires invariant-loop decreases-loop
-same-row-requires c κs = let q = c.before.before.before.requires in (q.1, _, _, among_row q.2 (c.before.loop.invariant q.0 q.1 q.2) c.loop-test.true)
+same-requires : tie.Need-same-requires invariant-loop decreases-loop
+same-requires c κs = (omega (arith, c.loop-test.true), c.before.before.before.requires.5.inside)
 
 returns : tie.Need-returns invariant-loop decreases-loop
-returns c = λ ws v h. among_found h (c.before.before.before.loop.invariant ws v h) c.before.before.loop-test.true c.before.same_row.ensures c.if1.true
+returns c = λ ws v h i k. among_found (c.before.before.before.loop.invariant ws v h i k) c.before.before.loop-test.true k (c.before.same.ensures v i) c.if1.true
 
 mul_from_bits : tie.Need-overflow-mul-from-bits invariant-loop decreases-loop
 mul_from_bits c = omega arith
@@ -52,10 +52,10 @@ loop-less : tie.Need-loop-smaller invariant-loop decreases-loop
 loop-less c = omega arith
 
 loop-again : tie.Need-loop-preserved invariant-loop decreases-loop
-loop-again c = λ ws v h. among_next h (c.before.before.before.before.before.before.loop.invariant ws v h) c.before.before.before.before.before.loop-test.true c.before.before.before.before.same_row.ensures c.before.before.before.if1.false (ap (λ x. c.before.before.before.before.before.before.loop.place + (1 + x)) (c.payload.ensures ∙ ap payload c.before.from-bits.ensures))
+loop-again c = λ ws v h i k. among_next (c.before.before.before.before.before.before.loop.invariant ws v h i k) c.before.before.before.before.before.loop-test.true k (c.before.before.before.before.same.ensures v i) c.before.before.before.if1.false (ap (λ x. c.before.before.before.before.before.before.loop.place + (1 + x)) (c.payload.ensures ∙ ap payload c.before.from-bits.ensures))
 
 returns-2 : tie.Need-returns-2 invariant-loop decreases-loop
-returns-2 c = λ ws v h. row_end (c.before.loop.invariant ws v h) c.loop-test.false
+returns-2 c = λ ws v h i k. row_end (c.before.loop.invariant ws v h i k) c.loop-test.false
 
 pub among_spec : {M : Type 1} → statement M
 among_spec =
@@ -64,7 +64,7 @@ among_spec =
     invariant-loop
     decreases-loop
     loop-holds
-    same-row-requires
+    same-requires
     returns
     mul_from_bits
     shared-slice-read-from-bits

@@ -1,6 +1,5 @@
 -- `same`: the words that are left stand at the other place just if all of them do.
-use Prim.Native.Nat.{ℕ, ◌+◌, ◌-◌}
-use mathlib.Core.Path.{◌≡◌, refl}
+use Prim.Native.Nat.{ℕ, ◌-◌, ◌≤◌}
 use mathlib.Core.List.{List}
 use native.Mathlib.Omega.{arith}
 use Rattle.engine.specs.Lines.{Stretch}
@@ -9,13 +8,13 @@ use Rattle.engine.proofs.repeats.same.same.Statement.{statement}
 use Rattle.engine.proofs.repeats.same.same.Tie as tie
 
 abbrev invariant-loop : tie.invariant-loop
-invariant-loop words place start next other₀ at₀ other at = (other + start ≡ place + at) × ((v : List ℕ) → Stretch words start next v → Matching words other at next place v)
+invariant-loop words place start next earlier₀ at₀ earlier at = (earlier ≤ at) × ((v : List ℕ) → Stretch words start next v → Matching words earlier at next place v)
 
 abbrev decreases-loop : tie.decreases-loop
-decreases-loop words place start next other₀ at₀ other at = next - at
+decreases-loop words place start next earlier₀ at₀ earlier at = next - at
 
 loop-holds : tie.Need-loop-init invariant-loop decreases-loop
-loop-holds c = (refl, λ v h. matching_start v h)
+loop-holds c = (c.requires.0, λ v h. matching_start v h)
 
 mul_if1 : tie.Need-overflow-mul-if1 invariant-loop decreases-loop
 mul_if1 c = omega arith
@@ -32,8 +31,8 @@ shared-slice-read-if1-2 c = omega arith
 returns : tie.Need-returns invariant-loop decreases-loop
 returns c = λ v h. matching_differs (c.before.before.before.before.loop.invariant.1 v h) c.before.before.before.loop-test.true c.if1.true
 
-add_other : tie.Need-overflow-add-other invariant-loop decreases-loop
-add_other c = omega arith
+add_earlier : tie.Need-overflow-add-earlier invariant-loop decreases-loop
+add_earlier c = omega arith
 
 add_at : tie.Need-overflow-add-at invariant-loop decreases-loop
 add_at c = omega arith
@@ -59,7 +58,7 @@ same_spec =
     mul_if1_2
     shared-slice-read-if1-2
     returns
-    add_other
+    add_earlier
     add_at
     loop-less
     loop-again

@@ -1,7 +1,6 @@
 -- `write_answer` writes the answer of a path, as the definition has it.
 use native.Mathlib.Omega.{arith}
-use mathlib.Core.Path.{◌∙◌}
-use Rattle.engine.proofs.AnswerLaws.{answer_low, answer_binds, answer_kept, unnamed, steps_out_now, path_out_now, named_now, query_now, writing_now, listed_now, told_now, long_now, names_now, answered_now}
+use Rattle.engine.proofs.AnswerLaws.{answer_low, answer_binds, answer_kept, unnamed, steps_out_now, path_out_now, named_now, query_now, writing_now, apart_now, touched_now, names_now, ends_now, answered_now}
 use Rattle.engine.specs.Term.{Room}
 use Rattle.engine.proofs.TermLaws.{room_same}
 use borrow.Author.Rules.{rules}
@@ -9,9 +8,6 @@ use Rattle.engine.proofs.writer.answer.write_answer.Statement.{statement}
 use Rattle.engine.proofs.writer.answer.write_answer.Tie as tie
 
 -- earlier places
-abbrev added_at : tie.After-tell → tie.After-add-constraints
-added_at c = c.before.before.before.before.before.before.before
-
 abbrev begun_at : tie.After-add-constraints → tie.After-begin-answer
 begun_at c = c.before.before.before.before.before
 
@@ -70,44 +66,20 @@ begin-answer-requires c κs = let n = c.before.before.before.before in let a = (
 add-constraints-requires : tie.Need-add-constraints-requires
 add-constraints-requires c κs = let b = c.before.before.before.before in let n = named_at b in let a = (start_at n).pre.3 in (writing_now a n.name-parameters.ensures (room_at n) b.begin-answer.ensures, (_, _, _, answer_kept a (named_now a n.name-parameters.ensures), a.sound))
 
-tell-requires : tie.Need-tell-requires
-tell-requires c κs =
-    let d = c.before.before.before.before.before.before in
-    let b = begun_at d in
-    let n = named_at b in
-    listed_now (start_at n).pre.3 n.name-parameters.ensures (room_at n) b.begin-answer.ensures _ d.add-constraints.ensures
-
 clear-names-requires : tie.Need-clear-names-requires
-clear-names-requires c κs =
-    let t = c.before.before.before.before.before in
-    let d = added_at t in
-    let b = begun_at d in
-    let n = named_at b in
-    let a = (start_at n).pre.3 in
-    (omega (arith, a.stored.roomy.long, long_now a n.name-parameters.ensures (room_at n) b.begin-answer.ensures _ d.add-constraints.ensures _ t.tell.ensures), (_, names_now a n.name-parameters.ensures (room_at n) b.begin-answer.ensures _ d.add-constraints.ensures _ t.tell.ensures))
+clear-names-requires c κs = let d = c.before.before.before.before.before in let b = begun_at d in let n = named_at b in let a = (start_at n).pre.3 in (omega (arith, a.stored.roomy.long, (named_now a n.name-parameters.ensures).long, (apart_now a n.name-parameters.ensures (room_at n) b.begin-answer.ensures _ d.add-constraints.ensures).long), (_, names_now a n.name-parameters.ensures (room_at n) b.begin-answer.ensures _ d.add-constraints.ensures))
 
 end-answer-requires : tie.Need-end-answer-requires
-end-answer-requires c κs =
-    let t = c.before.before.before.before.before.before.before.before.before in
-    let d = added_at t in
-    let b = begun_at d in
-    let n = named_at b in
-    let told = told_now (start_at n).pre.3 n.name-parameters.ensures (room_at n) b.begin-answer.ensures _ d.add-constraints.ensures _ t.tell.ensures in
-    (room_same told.touched.long (room_at n), ((start_at n).args.output.now, _, told.stands))
+end-answer-requires c κs = let d = c.before.before.before.before.before.before.before.before.before in let b = begun_at d in let n = named_at b in let a = (start_at n).pre.3 in (room_same (touched_now a n.name-parameters.ensures (room_at n) b.begin-answer.ensures _ d.add-constraints.ensures).long (room_at n), ((start_at n).args.output.now, _, ends_now a n.name-parameters.ensures (room_at n) b.begin-answer.ensures _ d.add-constraints.ensures))
 
 same_length_3 : tie.Need-same-length-3
-same_length_3 c = let t = c.before.before.before.before.before.before.before.before.before.before.before.before in c.before.before.before.before.before.before.clear-names.auto.0 ∙ t.tell.auto.1.0 ∙ (added_at t).add-constraints.auto.1.0 ∙ (named_at (begun_at (added_at t))).name-parameters.auto.1.0
+same_length_3 c = search rules
 
 same_length_4 : tie.Need-same-length-4
 same_length_4 c = search rules
 
 returns-3 : tie.Need-returns-3
-returns-3 c = λ P p cs a.
-    let t = c.before.before.before.before.before.before.before.before.before.before.before.before in
-    let d = added_at t in
-    let b = begun_at d in
-    let n = named_at b in
-    answered_now a n.name-parameters.ensures (room_at n) b.begin-answer.ensures _ d.add-constraints.ensures _ t.tell.ensures _ (looked_at n).look-parameters.ensures (left_at n).left2.given.1 _ _ (limit_at n).at_most.ensures c.before.before.before.before.before.before.clear-names.ensures c.before.before.end-answer.ensures
+returns-3 c = λ P p cs a. let d = c.before.before.before.before.before.before.before.before.before.before.before.before in let b = begun_at d in let n = named_at b in answered_now a n.name-parameters.ensures (room_at n) b.begin-answer.ensures _ d.add-constraints.ensures _ (looked_at n).look-parameters.ensures (left_at n).left2.given.1 _ _ (limit_at n).at_most.ensures c.before.before.before.before.before.before.clear-names.ensures c.before.before.end-answer.ensures
 
 pub write_answer_spec : {M : Type 1} → statement M
 write_answer_spec =
@@ -125,7 +97,6 @@ write_answer_spec =
     name-parameters-requires
     begin-answer-requires
     add-constraints-requires
-    tell-requires
     clear-names-requires
     end-answer-requires
     same_length_3

@@ -1,4 +1,6 @@
 // The engine: a rule file is run through its rounds over lent words.
+#![tactic(auto)]
+
 mod clear;
 mod layout;
 mod repeats;

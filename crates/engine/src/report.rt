@@ -4,7 +4,7 @@ ghost use Rattle.semantics.specs.Steps.{bound_number};
 ghost use Rattle.engine.specs.Report.{bound_of};
 
 // Which of the five bounds on one path was met, in the order of document 01.
-#[derive(Drop)]
+#[derive(Clone, Copy)]
 pub enum Bound {
     Variables,
     Goals,
@@ -29,7 +29,7 @@ impl Bound {
 }
 
 // How a run ended; a refusal carries its number and place.
-#[derive(Drop)]
+#[derive(Clone, Copy)]
 pub enum End {
     Finished,
     Rounds,
@@ -39,7 +39,7 @@ pub enum End {
     Refused(u32, usize),
 }
 
-#[derive(Drop)]
+#[derive(Clone, Copy)]
 pub struct Report {
     pub end: End,
     pub round: u32,

@@ -23,14 +23,14 @@ use crate::writer::answer::{Answered, write_answer};
 use word::at_most;
 
 // How far the output is filled: the words used, the answers, and the length of their index at the end of its usable words, 0 if there is none.
-#[derive(Drop)]
+#[derive(Clone, Copy)]
 pub struct Filled {
     pub used: u32,
     pub answers: u32,
     pub index: u32,
 }
 
-#[derive(Drop)]
+#[derive(Clone, Copy)]
 pub struct Tally {
     // The steps left.
     pub left: u32,
@@ -38,14 +38,14 @@ pub struct Tally {
 }
 
 // How a round ended: completed, with the number of branches it cut, or broken off.
-#[derive(Drop)]
+#[derive(Clone, Copy)]
 pub enum Rounded {
     Completed(Tally, u32),
     Broken(End, Tally),
 }
 
 // What comes of an answer: the round's end, or a goal to be taken next, by its reference, and how far the output is filled then.
-#[derive(Drop)]
+#[derive(Clone, Copy)]
 enum AnswerGiven {
     Ends(Rounded),
     Goes(State, u32, Filled),

@@ -1,4 +1,6 @@
 // The functions for other languages: `check` of crate rules, `run` of crate engine and `find` of crate page, with their results in numbers.
+#![tactic(auto)]
+
 ghost use Rattle.std.specs.Prelude.{◌≡◌, [], ◌∷◌};
 ghost use Rattle.rules.specs.Accept.{read};
 ghost use Rattle.rules.specs.Verdict.{said};
@@ -22,7 +24,7 @@ pub extern "C" fn kindcanvas_check(program: &[u32]) -> u64
 }
 
 // An end in numbers: how, which bound or refusal, and where.
-#[derive(Drop)]
+#[derive(Clone, Copy)]
 struct EndNumbers {
     end: u32,
     which: u32,

@@ -1,5 +1,7 @@
 // Pages on standard input: how many, then each as an answer's number, a word count and its words. Prints a line of what the viewer gets of each:
 // the part's words, none if refused; then where the part starts, or the refusal.
+#![tactic(auto)]
+
 use libc::{STDIN_FILENO, STDOUT_FILENO};
 use page::Found;
 use word::{Word, at_most};

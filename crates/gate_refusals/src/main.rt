@@ -1,4 +1,6 @@
 // Reads programs from standard input, each as its word count and its words, and prints a line of what `check` says of each.
+#![tactic(auto)]
+
 ghost use Rattle.std.specs.Prelude.{◌<◌};
 
 use libc::{STDIN_FILENO, STDOUT_FILENO};

@@ -1,5 +1,7 @@
 // Runs on standard input, one after the other, each as four words and its bytes: round limit, step limit, output words, and how many bytes.
 // Prints what the listing program prints of each.
+#![tactic(auto)]
+
 ghost use Rattle.std.specs.Prelude.{◌≤◌, length};
 
 use libc::{STDIN_FILENO, STDOUT_FILENO};

@@ -1,4 +1,6 @@
 // The text that the listing program prints of a rule file.
+#![tactic(auto)]
+
 mod answers;
 mod put;
 mod report;

@@ -1,4 +1,6 @@
 // The listing program of document 01: words on standard input, the list on standard output.
+#![tactic(auto)]
+
 use libc::{STDIN_FILENO, STDOUT_FILENO};
 
 fn main() {

@@ -1,4 +1,6 @@
 // The answers of an output page, found by their headers. Nothing inside an answer is looked at, and nothing is copied.
+#![tactic(auto)]
+
 ghost use Rattle.std.specs.Prelude.{◌≡◌};
 ghost use Rattle.page.specs.Found.{found_says};
 ghost use Rattle.page.specs.Page.{answer_at, find, part_ptr, view};
@@ -9,7 +11,7 @@ use word::Word;
 const NO_ANSWER: u32 = 10;
 
 // What is found on a page.
-#[derive(Drop)]
+#[derive(Clone, Copy)]
 pub enum Found {
     // An answer: the part from the first place up to but without the second.
     Part(usize, usize),

@@ -13,7 +13,7 @@ use crate::{Condition, Verdict};
 use word::Word;
 
 // The parameters of a relation, if it is there.
-#[derive(Drop)]
+#[derive(Clone, Copy)]
 pub enum Found {
     Params(usize),
     Missing,

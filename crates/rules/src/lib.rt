@@ -1,4 +1,6 @@
 // Rule files in the written form: is this list of words a program, and if not, why and where? And may it be run with these settings?
+#![tactic(auto)]
+
 mod calls;
 mod part;
 mod reading;
@@ -15,7 +17,7 @@ pub use crate::settings::{SCRATCH_WORDS, settings_good};
 const MOST_WORDS: usize = 16384;
 
 // The conditions 1 to 8 by which document 01 turns a program away.
-#[derive(Drop)]
+#[derive(Clone, Copy)]
 pub enum Condition {
     WordCount,
     WrongKind,
@@ -46,7 +48,7 @@ impl Condition {
 }
 
 // What is said of a program: accepted, or the condition that it fails and the place.
-#[derive(Drop)]
+#[derive(Clone, Copy)]
 pub enum Verdict {
     Accepted,
     Refused(Condition, usize),

@@ -6,14 +6,14 @@ use crate::Condition;
 use word::Word;
 
 // A part's kind, and the payload as a count of words.
-#[derive(Drop)]
+#[derive(Clone, Copy)]
 pub struct Part {
     pub kind: u32,
     pub size: usize,
 }
 
 // What a reader of one part found: the place after the part, or a refusal.
-#[derive(Drop)]
+#[derive(Clone, Copy)]
 pub(crate) enum Read {
     Done(usize),
     Refused(Condition, usize),

@@ -1,8 +1,10 @@
 // A 32-bit word of a program or of an answer: the kind in the top four bits, the payload in the low 28.
+#![tactic(auto)]
+
 ghost use Rattle.std.specs.Prelude.{◌≡◌, ◌%◌, min};
 ghost use Rattle.word.specs.Word.{from_bytes, kind, payload, word};
 
-#[derive(Drop)]
+#[derive(Clone, Copy)]
 pub struct Word {
     pub bits: u32,
 }

@@ -13,7 +13,7 @@ const FIRST_ANSWERS: u32 = 8;
 
 const FIRST_SLOTS: u32 = 32;
 
-#[derive(Drop)]
+#[derive(Clone, Copy)]
 pub(crate) enum Entered {
     // An answer with the same words was there.
     Repeated,

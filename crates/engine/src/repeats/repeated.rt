@@ -6,7 +6,7 @@ use crate::repeats::index::{Entered, enter, fitted};
 use crate::repeats::same::among;
 
 // With the index's length afterwards.
-#[derive(Drop)]
+#[derive(Clone, Copy)]
 pub(crate) enum Compared {
     Repeated(u32),
     New(u32),

@@ -14,7 +14,7 @@ use crate::layout::RELATIONS;
 use crate::terms::walk::part_at;
 
 // A relation: its counts, and where its goal is.
-#[derive(Drop)]
+#[derive(Clone, Copy)]
 pub struct RelationHead {
     pub params: u32,
     pub vars: u32,

@@ -137,7 +137,7 @@ fn check_marking(program: &[u32], scratch: &[u32], sought: u32, term: u32, steps
 }
 
 // What is found without marks, with the steps left; or a bound variable is to be entered.
-#[derive(Drop)]
+#[derive(Clone, Copy)]
 pub enum Unmarked {
     Found(u32),
     Clear(u32),

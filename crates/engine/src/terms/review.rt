@@ -16,7 +16,7 @@ use crate::terms::walk::{part_at, skip, variable_at, walk};
 use word::Word;
 
 // A number is the steps left.
-#[derive(Drop)]
+#[derive(Clone, Copy)]
 pub enum Reviewed {
     Fails(u32),
     Holds(u32),

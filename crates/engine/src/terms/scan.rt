@@ -11,7 +11,7 @@ use crate::terms::walk::{Walked, variable_at, walk};
 use word::Word;
 
 // A number is the steps left.
-#[derive(Drop)]
+#[derive(Clone, Copy)]
 pub enum Scanned {
     Found(u32),
     Clear(u32),

@@ -15,7 +15,7 @@ use crate::terms::walk::{Walked, variable_at, walk};
 use word::Word;
 
 // What two followed terms come to: a variable is to be bound to a term, or the parts (first and second of the one, then of the other) are to be equal.
-#[derive(Drop)]
+#[derive(Clone, Copy)]
 pub enum Looked {
     Fails,
     Agrees,
@@ -24,7 +24,7 @@ pub enum Looked {
 }
 
 // What one pair comes to: it fails, unification goes on with so many entries on the trail, parts are to be equal, or a stop. The last number is the steps left.
-#[derive(Drop)]
+#[derive(Clone, Copy)]
 pub enum PairUnified {
     Fails(u32),
     Goes(u32, u32),
@@ -34,7 +34,7 @@ pub enum PairUnified {
 }
 
 // How unification ended, with the entries of the trail then, and the steps left.
-#[derive(Drop)]
+#[derive(Clone, Copy)]
 pub enum Unified {
     Joined(u32, u32),
     Failed(u32, u32),

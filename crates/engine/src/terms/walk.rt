@@ -9,7 +9,7 @@ use crate::layout::POSITIONS;
 use word::Word;
 
 // The part at a reference: its first word.
-#[derive(Drop)]
+#[derive(Clone, Copy)]
 pub struct Part {
     pub bits: u32,
     pub kind: u32,
@@ -46,7 +46,7 @@ pub(crate) fn part_end(reference: u32, size: u32) -> u32
 }
 
 // A term that was followed: its reference, and the word there, so that it is read once. `through` is the last bound variable on the way, plus 1, or 0 where the way led through none.
-#[derive(Drop)]
+#[derive(Clone, Copy)]
 pub struct Walked {
     pub at: u32,
     pub bits: u32,
@@ -101,7 +101,7 @@ pub(crate) fn skip(program: &[u32], term: u32) -> u32
     }
 }
 
-#[derive(Drop)]
+#[derive(Clone, Copy)]
 pub enum Shape {
     // An open variable.
     Open(u32),

@@ -20,7 +20,7 @@ use crate::writer::term::{Put, put_head};
 use word::{Word, at_most};
 
 // The output words used then and the steps left; that it does not fit, with the steps left; or a stop.
-#[derive(Drop)]
+#[derive(Clone, Copy)]
 pub enum Answered {
     Written(u32, u32),
     Full(u32),

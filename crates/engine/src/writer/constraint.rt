@@ -22,7 +22,7 @@ use crate::writer::trial::keep_equations;
 use word::Word;
 
 // How the lines of constraints end: where the next one goes with the steps left, or a stop.
-#[derive(Drop)]
+#[derive(Clone, Copy)]
 pub enum Added {
     Done(usize, u32),
     StepsOut,

@@ -16,7 +16,7 @@ use crate::writer::term::{Put, put_head, put_one, put_term, put_variable};
 use word::Word;
 
 // A type's kind and the variable; absento's tag and the variable; a trial's mark and how many equations it has.
-#[derive(Drop)]
+#[derive(Clone, Copy)]
 pub enum Listed {
     Typed(u32, u32),
     Lacks(u32, u32),

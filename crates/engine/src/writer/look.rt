@@ -9,7 +9,7 @@ use crate::layout::{PAIR_WORD, TRAIL};
 use crate::terms::scan::{Scanned, scan};
 
 // A number is the steps left.
-#[derive(Drop)]
+#[derive(Clone, Copy)]
 pub enum LookedThrough {
     Done(u32),
     StepsOut,

@@ -14,7 +14,7 @@ use crate::terms::walk::{Shape, follow};
 use word::Word;
 
 // The place after the words, or that they do not fit, or are not there.
-#[derive(Drop)]
+#[derive(Clone, Copy)]
 pub enum Put {
     End(usize),
     Missed,

@@ -1,0 +1,21 @@
+
+use Prim.Native.Nat.{ℕ, ◌-◌}
+use mathlib.Core.List.{List}
+use mathlib.Core.Path.{◌≡◌, refl, ap, ◌∙◌}
+use native.Mathlib.Omega.{arith}
+use borrow.Author.Rules.{rules}
+use lib.ListN.{length}
+use Rattle.semantics.specs.Answer.{Line, line_in, line_words, any_same}
+use Rattle.engine.specs.Term.{Puts}
+use Rattle.engine.specs.Line.{LineAs}
+use Rattle.engine.specs.Lines.{Rows}
+use Rattle.engine.proofs.RowLaws.{Row, row_next, row_end, row_found, row_on, row_moved}
+use Rattle.engine.proofs.AddLineLaws.{puts_between}
+use Rattle.engine.proofs.writer.lines.line_repeated.Given as goal
+
+abbrev pub invariant-loop-place : goal.invariant-loop-place
+invariant-loop-place l = (l.output ≡ l.initial.output) × ((ws : List (List ℕ)) (l : Line) (names : List ℕ) → Rows l.initial.output l.first l.at ws → LineAs l.program l.scratch l.line l → Puts l.scratch l.initial.output l.first l.at names (line_in names l)
+    → Row l.output l.place l.at (line_words names l) (any_same (line_words names l) ws))
+
+abbrev pub decreases-loop-place : goal.decreases-loop-place
+decreases-loop-place l = l.at - l.place

@@ -21,7 +21,7 @@ goals_longer ws from to (more g gs) h = omega (arith, goals_longer ws (after ws 
 pub term_shift : (ws : List ℕ) (base from to : ℕ) (t : Term) → TermAt ws 0 from to t → TermAt ws base from to (shift base t)
 term_shift ws base from to (var x) h = (h.0, omega (arith, h.1), h.2)
 term_shift ws base from to (atom a) h = h
-term_shift ws base from to (pair s t) h = (h.0, term_shift ws base _ _ s h.1, term_shift ws base _ _ t h.2)
+term_shift ws base from to (pair s t) h = (h.0, term_shift ws base (from + 1) (from + 1 + payload (get_or ws from 0)) s h.1, term_shift ws base (from + 1 + payload (get_or ws from 0)) to t h.2)
 
 pub terms_shift : (ws : List ℕ) (base from to : ℕ) (ts : List Term) → TermsAt ws 0 from to ts → TermsAt ws base from to (map (shift base) ts)
 terms_shift ws base from to [] h = h

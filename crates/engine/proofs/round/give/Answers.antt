@@ -12,18 +12,16 @@ list_answer-listed-requires c = let q = c.requires in
 
 pub backtrack-requires : goal.backtrack-requires
 backtrack-requires c = let q = c.requires in
-    let writer = c in
-    let said = writer.write_answer.ensures q.0 q.1 q.2 q.4.answering in
-    let same = writer.write_answer.auto.output in
+    let said = c.write_answer.ensures q.0 q.1 q.2 q.4.answering in
+    let same = c.write_answer.auto.output in
     let is_written = c.in-Written.is in
     let y = after_listing q.4 0 same said is_written (c.list_answer-listed.ensures _ 0 _ q.3 said.words (wrote q.4 0 same said is_written)) in
     (q.0, q.1, q.2, listed_held q.4 0 same said y _ c.with_counts-after.ensures)
 
 pub completed-requires : goal.completed-requires
 completed-requires c = let q = c.requires in
-    let writer = c in
-    let said = writer.write_answer.ensures q.0 q.1 q.2 q.4.answering in
-    let same = writer.write_answer.auto.output in
+    let said = c.write_answer.ensures q.0 q.1 q.2 q.4.answering in
+    let same = c.write_answer.auto.output in
     let is_written = c.in-Written.is in
     let y = after_listing q.4 0 same said is_written (c.list_answer-listed.ensures _ 0 _ q.3 said.words (wrote q.4 0 same said is_written)) in
     let is = c.with_counts-after.ensures in
@@ -48,9 +46,8 @@ returns-in-WaitingOut c = λ P k p cs a g.
 
 pub returns-in-Over : goal.returns-in-Over
 returns-in-Over c = λ P k p cs a g.
-    let writer = c in
-    let said = writer.write_answer.ensures P p cs g.answering in
-    let same = writer.write_answer.auto.output in
+    let said = c.write_answer.ensures P p cs g.answering in
+    let same = c.write_answer.auto.output in
     let is_written = c.in-Written.is in
     let y = after_listing g k same said is_written (c.list_answer-listed.ensures _ k _ a said.words (wrote g k same said is_written)) in
     let is = c.with_counts-after.ensures in
@@ -67,9 +64,8 @@ shape_of-output-in-Goal c = c.list_answer-listed.auto.output ∙ c.write_answer.
 
 pub returns-in-Goal : goal.returns-in-Goal
 returns-in-Goal c = λ P k p cs a g.
-    let writer = c in
-    let said = writer.write_answer.ensures P p cs g.answering in
-    let same = writer.write_answer.auto.output in
+    let said = c.write_answer.ensures P p cs g.answering in
+    let same = c.write_answer.auto.output in
     let is_written = c.in-Written.is in
     let y = after_listing g k same said is_written (c.list_answer-listed.ensures _ k _ a said.words (wrote g k same said is_written)) in
     let is = c.with_counts-after.ensures in

@@ -55,7 +55,7 @@ loop-place-preserved c =
     let empty : (let a = c.args in Emptied a.output.now c.clear.new.words a.used a.table a.size) = emptied c.requires.0 c.clear.ensures in
     let told : (ws : List (List ℕ)) (k : Rows c.clear.new.words 0 c.args.used ws) → (let g = c.loop-place.invariant ws k in let a = c.args in EnteredAs c.loop-place.output c.enter.new.output a.table a.size g.done (first g c.loop-place-test.true).one c.enter.result) = λ ws k. let g = c.loop-place.invariant ws k in
     c.enter.ensures g.done (first g c.loop-place-test.true).one (building_seek g c.loop-place-test.true c.from_bits.ensures c.payload-words.ensures (empty).there) in
-    λ ws k. let l = c in building_next (l.loop-place.invariant ws k) c.loop-place-test.true c.from_bits.ensures c.payload-words.ensures (empty l).there (told ws k) c.in-New.is
+    λ ws k. building_next (c.loop-place.invariant ws k) c.loop-place-test.true c.from_bits.ensures c.payload-words.ensures (empty).there (told ws k) c.in-New.is
 
 pub shape_of-output-in-Repeated : goal.shape_of-output-in-Repeated
 shape_of-output-in-Repeated c = 
@@ -64,14 +64,14 @@ shape_of-output-in-Repeated c =
     let long : length c.loop-place.output ≡ length c.args.output.now = let q = known in (c.loop-place.invariant q.0 q.1).touched.long ∙ (empty).touched.long in
     let told : (ws : List (List ℕ)) (k : Rows c.clear.new.words 0 c.args.used ws) → (let g = c.loop-place.invariant ws k in let a = c.args in EnteredAs c.loop-place.output c.enter.new.output a.table a.size g.done (first g c.loop-place-test.true).one c.enter.result) = λ ws k. let g = c.loop-place.invariant ws k in
     c.enter.ensures g.done (first g c.loop-place-test.true).one (building_seek g c.loop-place-test.true c.from_bits.ensures c.payload-words.ensures (empty).there) in
-    let l = c in let q = known l in (told q.0 q.1).touched.long ∙ long l
+    let q = known in (told q.0 q.1).touched.long ∙ long
 
 pub returns-in-Repeated : goal.returns-in-Repeated
 returns-in-Repeated c = 
     let empty : (let a = c.args in Emptied a.output.now c.clear.new.words a.used a.table a.size) = emptied c.requires.0 c.clear.ensures in
     let told : (ws : List (List ℕ)) (k : Rows c.clear.new.words 0 c.args.used ws) → (let g = c.loop-place.invariant ws k in let a = c.args in EnteredAs c.loop-place.output c.enter.new.output a.table a.size g.done (first g c.loop-place-test.true).one c.enter.result) = λ ws k. let g = c.loop-place.invariant ws k in
     c.enter.ensures g.done (first g c.loop-place-test.true).one (building_seek g c.loop-place-test.true c.from_bits.ensures c.payload-words.ensures (empty).there) in
-    λ ws h. let l = c in let k = (empty l).rows ws h in built_from (empty l) (building_not (l.loop-place.invariant ws k) c.loop-place-test.true c.from_bits.ensures c.payload-words.ensures (empty l).there (told ws k))
+    λ ws h. let k = (empty).rows ws h in built_from (empty) (building_not (c.loop-place.invariant ws k) c.loop-place-test.true c.from_bits.ensures c.payload-words.ensures (empty).there (told ws k))
 
 pub shape_of-output-in-Lost : goal.shape_of-output-in-Lost
 shape_of-output-in-Lost c = 
@@ -80,14 +80,14 @@ shape_of-output-in-Lost c =
     let long : length c.loop-place.output ≡ length c.args.output.now = let q = known in (c.loop-place.invariant q.0 q.1).touched.long ∙ (empty).touched.long in
     let told : (ws : List (List ℕ)) (k : Rows c.clear.new.words 0 c.args.used ws) → (let g = c.loop-place.invariant ws k in let a = c.args in EnteredAs c.loop-place.output c.enter.new.output a.table a.size g.done (first g c.loop-place-test.true).one c.enter.result) = λ ws k. let g = c.loop-place.invariant ws k in
     c.enter.ensures g.done (first g c.loop-place-test.true).one (building_seek g c.loop-place-test.true c.from_bits.ensures c.payload-words.ensures (empty).there) in
-    let l = c in let q = known l in (told q.0 q.1).touched.long ∙ long l
+    let q = known in (told q.0 q.1).touched.long ∙ long
 
 pub returns-in-Lost : goal.returns-in-Lost
 returns-in-Lost c = 
     let empty : (let a = c.args in Emptied a.output.now c.clear.new.words a.used a.table a.size) = emptied c.requires.0 c.clear.ensures in
     let told : (ws : List (List ℕ)) (k : Rows c.clear.new.words 0 c.args.used ws) → (let g = c.loop-place.invariant ws k in let a = c.args in EnteredAs c.loop-place.output c.enter.new.output a.table a.size g.done (first g c.loop-place-test.true).one c.enter.result) = λ ws k. let g = c.loop-place.invariant ws k in
     c.enter.ensures g.done (first g c.loop-place-test.true).one (building_seek g c.loop-place-test.true c.from_bits.ensures c.payload-words.ensures (empty).there) in
-    λ ws h. let l = c in let k = (empty l).rows ws h in built_from (empty l) (building_not (l.loop-place.invariant ws k) c.loop-place-test.true c.from_bits.ensures c.payload-words.ensures (empty l).there (told ws k))
+    λ ws h. let k = (empty).rows ws h in built_from (empty) (building_not (c.loop-place.invariant ws k) c.loop-place-test.true c.from_bits.ensures c.payload-words.ensures (empty).there (told ws k))
 
 pub shape_of-output : goal.shape_of-output
 shape_of-output c = 

@@ -14,9 +14,6 @@ use Rattle.engine.proofs.SizeLaws.{followed_size}
 use Rattle.engine.proofs.OccursSteps.{Marking, Parting, marking_start, check_out, check_leaf, check_other_leaf, pair_led, check_again, check_full, parting, first_starts, first_walked, first_falls, first_marks, first_says, second_less, first_clear, first_found, first_out, first_full}
 use Rattle.engine.proofs.terms.occurs.+check.Goals as goal
 
-abbrev check_below : ℕ → In 3 check-kinds.ps
-check_below t = and 3 check-kinds.ps (falls 3 check-kinds.ps ◌<◌ μ_check t) check.Pre
-
 pub loop-left-init : goal.loop-left-init
 loop-left-init t c = (refl, λ bs es u f m. marking_start f m)
 

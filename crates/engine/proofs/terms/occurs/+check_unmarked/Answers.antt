@@ -12,9 +12,6 @@ use Rattle.engine.proofs.ScanSteps.{Scanning, Parting, scanning_start, scan_out,
 use Rattle.engine.proofs.OccursSteps.{unmarked_checks, no_way}
 use Rattle.engine.proofs.terms.occurs.+check_unmarked.Goals as goal
 
-abbrev check_unmarked_below : ℕ → In 2 check-unmarked-kinds.ps
-check_unmarked_below t = and 2 check-unmarked-kinds.ps (falls 2 check-unmarked-kinds.ps ◌<◌ μ_check_unmarked t) check_unmarked.Pre
-
 pub loop-left-init : goal.loop-left-init
 loop-left-init t c = λ low bs u f. scanning_start f
 

@@ -48,7 +48,7 @@ overflow_sub-rest c = omega (arith, c.if-left-eq0.false)
 pub returns-then-rest-eq0 : goal.returns-then-rest-eq0
 returns-then-rest-eq0 c = 
     let parting_at : (let a = c.args in (low : a.sought < 2048) (bs : Substitution) (u : Term) (f : Follows a.program.now a.scratch.now bs a.term u) → Parting (unmarked_checks a.sought low bs) a.program.now a.scratch.now 0 a.steps u c.loop-left.at (c.walk-node.result.at + 1) (c.walk-node.result.at + 1 + c.walk-node.result.payload) (c.loop-left.left - 1)) = λ low bs u f. let g = c.loop-left.invariant low bs u f in let w = c.walk-node.ensures in parting g c.if-left-eq0.false (w.stands bs g.here g.follows) w.node (no_way bs g.follows.stands w.node c.if-node-ne-PAIR.false c.if-node-at.false) c.if-node-ne-PAIR.false (omega arith) in
-    λ bs u f. let d = parting_at.requires.0 bs u f in λ vs e. (first_out d _ (scan_out (first_starts d) c.if-rest-eq0.true) refl) tt vs e
+    λ bs u f. let d = parting_at c.requires.0 bs u f in λ vs e. (first_out d _ (scan_out (first_starts d) c.if-rest-eq0.true) refl) tt vs e
 
 pub overflow_add-second : goal.overflow_add-second
 overflow_add-second c = 
@@ -81,7 +81,7 @@ overflow_sub-result-then-leaf_word-sought-2 c = omega (arith, c.if-rest-eq0.fals
 pub returns-then-leaf_word-sought-2 : goal.returns-then-leaf_word-sought-2
 returns-then-leaf_word-sought-2 c = 
     let parting_at : (let a = c.args in (low : a.sought < 2048) (bs : Substitution) (u : Term) (f : Follows a.program.now a.scratch.now bs a.term u) → Parting (unmarked_checks a.sought low bs) a.program.now a.scratch.now 0 a.steps u c.loop-left.at (c.walk-node.result.at + 1) (c.walk-node.result.at + 1 + c.walk-node.result.payload) (c.loop-left.left - 1)) = λ low bs u f. let g = c.loop-left.invariant low bs u f in let w = c.walk-node.ensures in parting g c.if-left-eq0.false (w.stands bs g.here g.follows) w.node (no_way bs g.follows.stands w.node c.if-node-ne-PAIR.false c.if-node-at.false) c.if-node-ne-PAIR.false (omega arith) in
-    λ bs u f. let d = parting_at.requires.0 bs u f in let w = c.walk-first.ensures in λ vs e. (first_found d _ (scan_leaf (first_starts d) c.if-rest-eq0.false (w.stands bs d.first d.first_follows) w.node c.if-first-ne-PAIR.true c.leaf_word-then-first-ne-PAIR.ensures c.if-leaf_word-sought-2.true) _ refl) tt vs e
+    λ bs u f. let d = parting_at c.requires.0 bs u f in let w = c.walk-first.ensures in λ vs e. (first_found d _ (scan_leaf (first_starts d) c.if-rest-eq0.false (w.stands bs d.first d.first_follows) w.node c.if-first-ne-PAIR.true c.leaf_word-then-first-ne-PAIR.ensures c.if-leaf_word-sought-2.true) _ refl) tt vs e
 
 pub overflow_sub-left : goal.overflow_sub-left
 overflow_sub-left c = omega (arith, c.if-rest-eq0.false)
@@ -120,17 +120,17 @@ loop-left-preserved c =
 pub returns-in-Found : goal.returns-in-Found
 returns-in-Found c = 
     let parting_at : (let a = c.args in (low : a.sought < 2048) (bs : Substitution) (u : Term) (f : Follows a.program.now a.scratch.now bs a.term u) → Parting (unmarked_checks a.sought low bs) a.program.now a.scratch.now 0 a.steps u c.loop-left.at (c.walk-node.result.at + 1) (c.walk-node.result.at + 1 + c.walk-node.result.payload) (c.loop-left.left - 1)) = λ low bs u f. let g = c.loop-left.invariant low bs u f in let w = c.walk-node.ensures in parting g c.if-left-eq0.false (w.stands bs g.here g.follows) w.node (no_way bs g.follows.stands w.node c.if-node-ne-PAIR.false c.if-node-at.false) c.if-node-ne-PAIR.false (omega arith) in
-    λ bs u f. let d = parting_at.requires.0 bs u f in let w = c.walk-first.ensures in let st = w.stands bs d.first d.first_follows in λ vs e. (first_found d _ (first_says d _ st w.node c.if-first-ne-PAIR.false (no_way bs d.first_follows.stands w.node c.if-first-ne-PAIR.false c.if-first-first_part.false) (λ _ vs e. (subst (UnmarkedAs _ bs (walk bs d.first) _ _) c.in-Found.is (c.check_unmarked.ensures bs (walk bs d.first) (first_walked d st))) vs e)) _ refl) tt vs e
+    λ bs u f. let d = parting_at c.requires.0 bs u f in let w = c.walk-first.ensures in let st = w.stands bs d.first d.first_follows in λ vs e. (first_found d _ (first_says d _ st w.node c.if-first-ne-PAIR.false (no_way bs d.first_follows.stands w.node c.if-first-ne-PAIR.false c.if-first-first_part.false) (λ _ vs e. (subst (UnmarkedAs _ bs (walk bs d.first) _ _) c.in-Found.is (c.check_unmarked.ensures bs (walk bs d.first) (first_walked d st))) vs e)) _ refl) tt vs e
 
 pub returns-in-StepsOut : goal.returns-in-StepsOut
 returns-in-StepsOut c = 
     let parting_at : (let a = c.args in (low : a.sought < 2048) (bs : Substitution) (u : Term) (f : Follows a.program.now a.scratch.now bs a.term u) → Parting (unmarked_checks a.sought low bs) a.program.now a.scratch.now 0 a.steps u c.loop-left.at (c.walk-node.result.at + 1) (c.walk-node.result.at + 1 + c.walk-node.result.payload) (c.loop-left.left - 1)) = λ low bs u f. let g = c.loop-left.invariant low bs u f in let w = c.walk-node.ensures in parting g c.if-left-eq0.false (w.stands bs g.here g.follows) w.node (no_way bs g.follows.stands w.node c.if-node-ne-PAIR.false c.if-node-at.false) c.if-node-ne-PAIR.false (omega arith) in
-    λ bs u f. let d = parting_at.requires.0 bs u f in let w = c.walk-first.ensures in let st = w.stands bs d.first d.first_follows in λ vs e. (first_out d _ (first_says d _ st w.node c.if-first-ne-PAIR.false (no_way bs d.first_follows.stands w.node c.if-first-ne-PAIR.false c.if-first-first_part.false) (λ _ vs e. (subst (UnmarkedAs _ bs (walk bs d.first) _ _) c.in-StepsOut.is (c.check_unmarked.ensures bs (walk bs d.first) (first_walked d st))) vs e)) refl) tt vs e
+    λ bs u f. let d = parting_at c.requires.0 bs u f in let w = c.walk-first.ensures in let st = w.stands bs d.first d.first_follows in λ vs e. (first_out d _ (first_says d _ st w.node c.if-first-ne-PAIR.false (no_way bs d.first_follows.stands w.node c.if-first-ne-PAIR.false c.if-first-first_part.false) (λ _ vs e. (subst (UnmarkedAs _ bs (walk bs d.first) _ _) c.in-StepsOut.is (c.check_unmarked.ensures bs (walk bs d.first) (first_walked d st))) vs e)) refl) tt vs e
 
 pub returns-in-WaitingOut : goal.returns-in-WaitingOut
 returns-in-WaitingOut c = 
     let parting_at : (let a = c.args in (low : a.sought < 2048) (bs : Substitution) (u : Term) (f : Follows a.program.now a.scratch.now bs a.term u) → Parting (unmarked_checks a.sought low bs) a.program.now a.scratch.now 0 a.steps u c.loop-left.at (c.walk-node.result.at + 1) (c.walk-node.result.at + 1 + c.walk-node.result.payload) (c.loop-left.left - 1)) = λ low bs u f. let g = c.loop-left.invariant low bs u f in let w = c.walk-node.ensures in parting g c.if-left-eq0.false (w.stands bs g.here g.follows) w.node (no_way bs g.follows.stands w.node c.if-node-ne-PAIR.false c.if-node-at.false) c.if-node-ne-PAIR.false (omega arith) in
-    λ bs u f. let d = parting_at.requires.0 bs u f in let w = c.walk-first.ensures in let st = w.stands bs d.first d.first_follows in λ vs e. (first_full d _ (first_says d _ st w.node c.if-first-ne-PAIR.false (no_way bs d.first_follows.stands w.node c.if-first-ne-PAIR.false c.if-first-first_part.false) (λ _ vs e. (subst (UnmarkedAs _ bs (walk bs d.first) _ _) c.in-WaitingOut.is (c.check_unmarked.ensures bs (walk bs d.first) (first_walked d st))) vs e)) _ refl) tt vs e
+    λ bs u f. let d = parting_at c.requires.0 bs u f in let w = c.walk-first.ensures in let st = w.stands bs d.first d.first_follows in λ vs e. (first_full d _ (first_says d _ st w.node c.if-first-ne-PAIR.false (no_way bs d.first_follows.stands w.node c.if-first-ne-PAIR.false c.if-first-first_part.false) (λ _ vs e. (subst (UnmarkedAs _ bs (walk bs d.first) _ _) c.in-WaitingOut.is (c.check_unmarked.ensures bs (walk bs d.first) (first_walked d st))) vs e)) _ refl) tt vs e
 
 pub check_marking-requires-in-Bound : goal.check_marking-requires-in-Bound
 check_marking-requires-in-Bound c = let p = c.requires in let g = c.loop-left.invariant p.0 p.1.0 p.1.1 p.1.2 in (p.0, (p.1.0, g.here, g.follows))

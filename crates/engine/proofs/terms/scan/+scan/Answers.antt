@@ -10,9 +10,6 @@ use Rattle.engine.proofs.ScanSteps.{Scanning, Parting, scans, scanning_start, sc
 use Prim.Native.Nat.{ℕ, ◌+◌, ◌-◌, ◌<◌}
 use Rattle.engine.proofs.terms.scan.+scan.Goals as goal
 
-abbrev scan_below : ℕ → In 2 scan-kinds.ps
-scan_below t = and 2 scan-kinds.ps (falls 2 scan-kinds.ps ◌<◌ μ_scan t) scan.Pre
-
 pub loop-left-init : goal.loop-left-init
 loop-left-init t c = λ bs u f. scanning_start f
 

@@ -20,34 +20,25 @@ name_parameters-top-requires c = let a = c.requires.3 in (answer_low a, (_, answ
 
 pub begin_answer-first-requires : goal.begin_answer-first-requires
 begin_answer-first-requires c = 
-    let room_at : Room c.args.output.now c.at_most.result = record { inside = omega (arith, c.at_most.ensures); short = omega (arith, c.at_most.ensures) } in
+    let room_at : Room c.args.output.now c.at_most-end.result = record { inside = omega (arith, c.at_most-end.ensures); short = omega (arith, c.at_most-end.ensures) } in
     let a = c.requires.3 in (room_at, answer_low a, (_, _, query_now a c.name_parameters-top.ensures))
 
 pub add_constraints-added-requires : goal.add_constraints-added-requires
 add_constraints-added-requires c = 
-    let start_at : tie.Start = c in
-    let room_at : Room c.args.output.now c.at_most.result = record { inside = omega (arith, c.at_most.ensures); short = omega (arith, c.at_most.ensures) } in
-    let n = c in let a = (start_at n).pre.3 in (writing_now a n.name-parameters.ensures (room_at n) c.begin_answer-first.ensures, (_, _, _, answer_kept a (named_now a n.name-parameters.ensures), a.sound))
+    let room_at : Room c.args.output.now c.at_most-end.result = record { inside = omega (arith, c.at_most-end.ensures); short = omega (arith, c.at_most-end.ensures) } in
+    let a = c.requires.3 in (writing_now a c.name_parameters-top.ensures (room_at) c.begin_answer-first.ensures, (_, _, _, answer_kept a (named_now a c.name_parameters-top.ensures), a.sound))
 
 pub clear_names-requires : goal.clear_names-requires
 clear_names-requires c = 
-    let named_at : tie.After-name-parameters = c in
-    let start_at : tie.Start = c in
-    let room_at : Room c.args.output.now c.at_most.result = record { inside = omega (arith, c.at_most.ensures); short = omega (arith, c.at_most.ensures) } in
-    let b = c in let n = named_at b in let a = (start_at n).pre.3 in (omega (arith, a.stored.roomy.long, (named_now a n.name-parameters.ensures).long, (apart_now a n.name-parameters.ensures (room_at n) b.begin-answer.ensures _ c.add_constraints-added.ensures).long), (_, names_now a n.name-parameters.ensures (room_at n) b.begin-answer.ensures _ c.add_constraints-added.ensures))
+    let room_at : Room c.args.output.now c.at_most-end.result = record { inside = omega (arith, c.at_most-end.ensures); short = omega (arith, c.at_most-end.ensures) } in
+    let a = c.requires.3 in (omega (arith, a.stored.roomy.long, (named_now a c.name_parameters-top.ensures).long, (apart_now a c.name_parameters-top.ensures (room_at) c.begin_answer-first.ensures _ c.add_constraints-added.ensures).long), (_, names_now a c.name_parameters-top.ensures (room_at) c.begin_answer-first.ensures _ c.add_constraints-added.ensures))
 
 pub end_answer-requires : goal.end_answer-requires
 end_answer-requires c = 
-    let named_at : tie.After-name-parameters = c in
-    let start_at : tie.Start = c in
-    let room_at : Room c.args.output.now c.at_most.result = record { inside = omega (arith, c.at_most.ensures); short = omega (arith, c.at_most.ensures) } in
-    let b = c in let n = named_at b in let a = (start_at n).pre.3 in (room_same (touched_now a n.name-parameters.ensures (room_at n) b.begin-answer.ensures _ c.add_constraints-added.ensures).long (room_at n), ((start_at n).args.output.now, _, ends_now a n.name-parameters.ensures (room_at n) b.begin-answer.ensures _ c.add_constraints-added.ensures))
+    let room_at : Room c.args.output.now c.at_most-end.result = record { inside = omega (arith, c.at_most-end.ensures); short = omega (arith, c.at_most-end.ensures) } in
+    let a = c.requires.3 in (room_same (touched_now a c.name_parameters-top.ensures (room_at) c.begin_answer-first.ensures _ c.add_constraints-added.ensures).long (room_at), (c.args.output.now, _, ends_now a c.name_parameters-top.ensures (room_at) c.begin_answer-first.ensures _ c.add_constraints-added.ensures))
 
 pub returns-in-Done : goal.returns-in-Done
 returns-in-Done c = 
-    let named_at : tie.After-name-parameters = c in
-    let limit_at : tie.After-at-most = c in
-    let left_at : tie.After-left2 = c in
-    let looked_at : tie.After-look-parameters = c in
-    let room_at : Room c.args.output.now c.at_most.result = record { inside = omega (arith, c.at_most.ensures); short = omega (arith, c.at_most.ensures) } in
-    λ P p cs a. let b = c in let n = named_at b in answered_now a n.name-parameters.ensures (room_at n) b.begin-answer.ensures _ c.add_constraints-added.ensures _ (looked_at n).look-parameters.ensures (left_at n).left2.given.1 _ _ (limit_at n).at_most.ensures c.clear_names.ensures c.end_answer.ensures
+    let room_at : Room c.args.output.now c.at_most-end.result = record { inside = omega (arith, c.at_most-end.ensures); short = omega (arith, c.at_most-end.ensures) } in
+    λ P p cs a. answered_now a c.name_parameters-top.ensures (room_at) c.begin_answer-first.ensures _ c.add_constraints-added.ensures _ c.look_parameters.ensures c.in-Done.is _ _ c.at_most-end.ensures c.clear_names.ensures c.end_answer.ensures

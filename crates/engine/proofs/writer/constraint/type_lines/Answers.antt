@@ -18,4 +18,4 @@ pub add_typed-next-requires : goal.add_typed-next-requires
 add_typed-next-requires c = let p = c.requires.1 in typed_adds p.1 c.requires.0 p.3 p.4
 
 pub returns-in-Done : goal.returns-in-Done
-returns-in-Done c = λ g bs k t f e. term_done g f.binds t c.args.steps _ (c.look_through.ensures bs t f) (typed_lines k (walk bs t)) c.in-Done.is (typed_page k g f e c.add_Typed.ensures)
+returns-in-Done c = λ g bs k t f e. term_done g f.binds t c.args.steps _ (c.look_through.ensures bs t f) (typed_lines k (walk bs t)) c.in-Done.is (typed_page k g f e c.add_typed-next.ensures)

@@ -9,7 +9,7 @@ pub put_typed-requires : goal.put_typed-requires
 put_typed-requires c = let q = c.requires in let d = typed_line q.2 c.in-Typed.is in (d.low, d.small, (q.1, puts_at q.3 refl q.3.from (typed_member q.1 d q.3.known)))
 
 pub returns-in-Typed : goal.returns-in-Typed
-returns-in-Typed c = λ l names h g. let d = typed_line h c.in-Typed.is in typed_words names d (c.put_Typed.ensures names (puts_at g refl g.from (typed_member names d g.known)))
+returns-in-Typed c = λ l names h g. let d = typed_line h c.in-Typed.is in typed_words names d (c.put_typed.ensures names (puts_at g refl g.from (typed_member names d g.known)))
 
 pub put_lacks-requires : goal.put_lacks-requires
 put_lacks-requires c = let q = c.requires in let d = lacks_line q.2 c.in-Lacks.is in (d.low, (q.1, puts_at q.3 refl q.3.from (lacks_member q.1 d q.3.known)))

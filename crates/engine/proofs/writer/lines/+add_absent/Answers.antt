@@ -9,10 +9,6 @@ use Rattle.engine.proofs.LinesLaws.{AbsentFor, absent_start, absent_as, absent_a
 use Prim.Native.Nat.{ℕ, ◌<◌}
 use Rattle.engine.proofs.writer.lines.+add_absent.Goals as goal
 
-abbrev add_absent_below : ℕ → In 3 add-absent-kinds.ps
-add_absent_below t =
-    and 3 add-absent-kinds.ps (falls 3 add-absent-kinds.ps ◌<◌ μ_add_absent t) add_absent.Pre
-
 pub loop-x-init : goal.loop-x-init
 loop-x-init t c = (omega arith, λ g. absent_start g)
 

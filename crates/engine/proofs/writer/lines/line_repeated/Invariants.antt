@@ -14,8 +14,8 @@ use Rattle.engine.proofs.AddLineLaws.{puts_between}
 use Rattle.engine.proofs.writer.lines.line_repeated.Given as goal
 
 abbrev pub invariant-loop-place : goal.invariant-loop-place
-invariant-loop-place l = (l.output ≡ l.initial.output) × ((ws : List (List ℕ)) (l : Line) (names : List ℕ) → Rows l.initial.output l.first l.at ws → LineAs l.program l.scratch l.line l → Puts l.scratch l.initial.output l.first l.at names (line_in names l)
-    → Row l.output l.place l.at (line_words names l) (any_same (line_words names l) ws))
+invariant-loop-place live = (live.output ≡ live.initial.output) × ((ws : List (List ℕ)) (l : Line) (names : List ℕ) → Rows live.initial.output live.first live.at ws → LineAs live.program live.scratch live.line l → Puts live.scratch live.initial.output live.first live.at names (line_in names l)
+    → Row live.output live.place live.at (line_words names l) (any_same (line_words names l) ws))
 
 abbrev pub decreases-loop-place : goal.decreases-loop-place
 decreases-loop-place l = l.at - l.place

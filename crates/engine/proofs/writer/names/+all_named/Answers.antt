@@ -13,10 +13,6 @@ use Rattle.engine.proofs.NamingLaws.{Asking, asking_low, asking_yes, asking_no, 
 use Prim.Native.Nat.{ℕ, ◌<◌}
 use Rattle.engine.proofs.writer.names.+all_named.Goals as goal
 
-abbrev all_named_below : ℕ → In 2 all-named-kinds.ps
-all_named_below t =
-    and 2 all-named-kinds.ps (falls 2 all-named-kinds.ps ◌<◌ μ_all_named t) all_named.Pre
-
 pub loop-x-init : goal.loop-x-init
 loop-x-init t c = (omega arith, λ u names h g. record { term = u; here = h; same = refl })
 

@@ -12,10 +12,6 @@ use Rattle.engine.proofs.NamingLaws.{Naming, naming_start, naming_low, naming_op
 use Prim.Native.Nat.{ℕ, ◌<◌}
 use Rattle.engine.proofs.writer.names.+name_term.Goals as goal
 
-abbrev name_term_below : ℕ → In 2 name-term-kinds.ps
-name_term_below t =
-    and 2 name-term-kinds.ps (falls 2 name-term-kinds.ps ◌<◌ μ_name_term t) name_term.Pre
-
 pub loop-x-init : goal.loop-x-init
 loop-x-init t c = (omega arith, λ u names h g. naming_start u names h g)
 

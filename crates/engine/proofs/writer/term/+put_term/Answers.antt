@@ -13,10 +13,6 @@ use Rattle.engine.proofs.TermLaws.{laid_of, placed_long, Putting, putting_start,
 use Prim.Native.Nat.{ℕ, ◌<◌}
 use Rattle.engine.proofs.writer.term.+put_term.Goals as goal
 
-abbrev put_term_below : ℕ → In 3 put-term-kinds.ps
-put_term_below t =
-    and 3 put-term-kinds.ps (falls 3 put-term-kinds.ps ◌<◌ μ_put_term t) put_term.Pre
-
 pub loop-at-init : goal.loop-at-init
 loop-at-init t c = (omega arith, λ u names h q. putting_start _ u h q)
 

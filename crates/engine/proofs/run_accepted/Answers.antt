@@ -11,7 +11,7 @@ fill_relations-requires c = filling _ _ 0 [] _ c.requires _ c.clear.ensures
 pub rounds-report-requires : goal.rounds-report-requires
 rounds-report-requires c = let a = c.requires in
     let filled = c.fill_relations in
-    (a.program, query_of _ _ 0 [] _ a, ready _ _ 0 [] _ a _ _ c.clear.ensures filled.auto.1.0 filled.ensures.0 filled.ensures.1)
+    (a.program, query_of _ _ 0 [] _ a, ready _ _ 0 [] _ a _ _ c.clear.ensures filled.auto.scratch filled.ensures.0 filled.ensures.1)
 
 pub returns : goal.returns
 returns c = let a = c.requires in
@@ -19,5 +19,5 @@ returns c = let a = c.requires in
     let filled = c.fill_relations in
     let ran = c.rounds-report in
     rw (c.clear-3.ensures, c.clear-2.ensures)
-    (kept_run _ _ _ _ _ a ran.new.1.0 _ _ (ran.auto.1.0 ∙ filled.auto.1.0 ∙ first.auto.0) ran.auto.1.1.0
-    (ran.ensures a.program (query_of _ _ 0 [] _ a) (ready _ _ 0 [] _ a _ _ first.ensures filled.auto.1.0 filled.ensures.0 filled.ensures.1)))
+    (kept_run _ _ _ _ _ a ran.new.scratch _ _ (ran.auto.scratch ∙ filled.auto.scratch ∙ first.auto.words) ran.auto.output
+    (ran.ensures a.program (query_of _ _ 0 [] _ a) (ready _ _ 0 [] _ a _ _ first.ensures filled.auto.scratch filled.ensures.0 filled.ensures.1)))

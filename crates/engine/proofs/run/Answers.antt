@@ -6,7 +6,6 @@ use Rattle.rules.specs.Settings.{scratch_words}
 use Rattle.rules.specs.Verdict.{no_said}
 use Rattle.rules.proofs.SettingsLaws.{settings_within}
 use Rattle.engine.proofs.RunLaws.{settings_refused, program_refused, admitted, kept_whole}
-use borrow.Author.Rules.{rules}
 use Rattle.engine.proofs.run.Goals as goal
 
 pub returns-then-not-settings_good : goal.returns-then-not-settings_good

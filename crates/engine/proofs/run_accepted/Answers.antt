@@ -2,7 +2,6 @@
 use mathlib.Core.Path.{◌∙◌}
 use mathlib.Core.List.{[]}
 use Rattle.engine.proofs.RunLaws.{query_of, filling, ready, kept_run}
-use borrow.Author.Rules.{rules}
 use Rattle.engine.proofs.run_accepted.Goals as goal
 
 pub fill_relations-requires : goal.fill_relations-requires

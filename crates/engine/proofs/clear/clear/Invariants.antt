@@ -1,11 +1,8 @@
 -- `clear` sets words to 0: to clear what is left always leads to the same.
 use Prim.Native.Nat.{◌-◌, min}
-use mathlib.Core.Path.{◌≡◌, refl, sym, ◌∙◌}
-use native.Mathlib.Omega.{arith}
-use lib.ListN.{length, length-set}
+use mathlib.Core.Path.{◌≡◌}
+use lib.ListN.{length}
 use Rattle.engine.specs.Run.{cleared}
-use Rattle.engine.proofs.ClearLaws.{clear_step, clear_done}
-use borrow.Author.Rules.{rules}
 use Rattle.engine.proofs.clear.clear.Given as goal
 
 abbrev pub invariant-loop-at : goal.invariant-loop-at

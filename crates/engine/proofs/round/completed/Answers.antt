@@ -3,7 +3,6 @@ use mathlib.Core.Path.{refl}
 use mathlib.Core.List.{[]}
 use Rattle.engine.proofs.StartLaws.{marked_whole}
 use Rattle.engine.proofs.RoundLaws.{undone_clean}
-use borrow.Author.Rules.{rules}
 use Rattle.engine.proofs.round.completed.Goals as goal
 
 pub undo-requires : goal.undo-requires

@@ -1,6 +1,5 @@
 -- `end_of` says a stop as the end of a run.
 use mathlib.Core.Path.{refl}
-use borrow.Author.Rules.{rules}
 use Rattle.engine.proofs.round.end_of.Goals as goal
 
 pub returns-in-Steps : goal.returns-in-Steps

@@ -2,7 +2,6 @@
 use mathlib.Core.List.{[]}
 use mathlib.Core.Path.{◌∙◌}
 use Rattle.engine.proofs.RoundLaws.{gives_full, gives_steps_out, gives_path_out, wrote, after_listing, listed_held, none_left, gives_last, gives_next}
-use borrow.Author.Rules.{rules}
 use Rattle.engine.proofs.round.give.Goals as goal
 
 pub list_answer-listed-requires : goal.list_answer-listed-requires

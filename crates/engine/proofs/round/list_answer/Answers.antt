@@ -1,6 +1,5 @@
 -- `list_answer` keeps an answer that was written, or leaves it out as a repeat.
 use Rattle.engine.proofs.ListLaws.{comparing, is_repeat, is_new}
-use borrow.Author.Rules.{rules}
 use native.Mathlib.Omega.{arith}
 use Rattle.engine.proofs.round.list_answer.Goals as goal
 

@@ -1,12 +1,7 @@
 -- `round` goes from answer to answer: a search from the state reached ends as the round does.
-use mathlib.Core.Path.{◌≡◌, refl, ◌∙◌}
+use mathlib.Core.Path.{refl, ◌∙◌}
 use mathlib.Core.List.{[]}
-use lib.ListN.{length}
-use Rattle.rules.specs.Syntax.{Program, Relation}
-use Rattle.semantics.specs.Round as definition
-use Rattle.engine.specs.Rounds.{Starting}
-use Rattle.engine.proofs.RoundLaws.{Rounding, round_starts, round_stops, over_held, round_over, round_answers, round_gives, round_ends, round_goes}
-use borrow.Author.Rules.{rules}
+use Rattle.engine.proofs.RoundLaws.{round_starts, round_stops, over_held, round_over, round_answers, round_gives, round_ends, round_goes}
 use Rattle.engine.proofs.round.round.Goals as goal
 
 pub relation-asked-requires : goal.relation-asked-requires

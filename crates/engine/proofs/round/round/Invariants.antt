@@ -1,12 +1,10 @@
 -- `round` goes from answer to answer: a search from the state reached ends as the round does.
-use mathlib.Core.Path.{◌≡◌, refl, ◌∙◌}
-use mathlib.Core.List.{[]}
+use mathlib.Core.Path.{◌≡◌}
 use lib.ListN.{length}
 use Rattle.rules.specs.Syntax.{Program, Relation}
 use Rattle.semantics.specs.Round as definition
 use Rattle.engine.specs.Rounds.{Starting}
-use Rattle.engine.proofs.RoundLaws.{Rounding, round_starts, round_stops, over_held, round_over, round_answers, round_gives, round_ends, round_goes}
-use borrow.Author.Rules.{rules}
+use Rattle.engine.proofs.RoundLaws.{Rounding}
 use Rattle.engine.proofs.round.round.Given as goal
 
 abbrev pub invariant-loop-why : goal.invariant-loop-why

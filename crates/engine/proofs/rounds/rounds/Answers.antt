@@ -1,10 +1,7 @@
 -- `rounds` runs round after round, as the definition's `rounds` says.
-use Prim.Native.Nat.{◌-◌}
-use mathlib.Core.Path.{◌≡◌, refl, ◌∙◌}
+use mathlib.Core.Path.{refl, ◌∙◌}
 use native.Mathlib.Omega.{arith}
-use lib.ListN.{length}
-use borrow.Author.Rules.{rules}
-use Rattle.engine.proofs.RoundsLaws.{Going, start_going, starting, told_broken, told_completed, broken_fewer, completed_fewer, broken_result, finished_result, rounds_result, next_going}
+use Rattle.engine.proofs.RoundsLaws.{start_going, starting, told_broken, told_completed, broken_fewer, completed_fewer, broken_result, finished_result, rounds_result, next_going}
 use Rattle.engine.proofs.rounds.rounds.Goals as goal
 
 pub loop-end-init : goal.loop-end-init
@@ -69,7 +66,7 @@ returns-then-limit-number c = λ P R q.
 
 pub loop-end-preserved : goal.loop-end-preserved
 loop-end-preserved c = let g = c.loop-end.invariant.2 in (
-      c.round.auto.scratch ∙ c.loop-end.invariant.0,
-      c.round.auto.output ∙ c.loop-end.invariant.1,
-      next_going g (λ P R q. told_completed g q _ _ (c.round.ensures P R _ (starting g q)) c.in-Completed.is) c.if-cuts-eq0.false c.if-limit-number.false,
-    )
+  c.round.auto.scratch ∙ c.loop-end.invariant.0,
+  c.round.auto.output ∙ c.loop-end.invariant.1,
+  next_going g (λ P R q. told_completed g q _ _ (c.round.ensures P R _ (starting g q)) c.in-Completed.is) c.if-cuts-eq0.false c.if-limit-number.false,
+)

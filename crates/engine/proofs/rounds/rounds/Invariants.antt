@@ -1,10 +1,8 @@
 -- `rounds` runs round after round, as the definition's `rounds` says.
 use Prim.Native.Nat.{◌-◌}
-use mathlib.Core.Path.{◌≡◌, refl, ◌∙◌}
-use native.Mathlib.Omega.{arith}
+use mathlib.Core.Path.{◌≡◌}
 use lib.ListN.{length}
-use borrow.Author.Rules.{rules}
-use Rattle.engine.proofs.RoundsLaws.{Going, start_going, starting, told_broken, told_completed, broken_fewer, completed_fewer, broken_result, finished_result, rounds_result, next_going}
+use Rattle.engine.proofs.RoundsLaws.{Going}
 use Rattle.engine.proofs.rounds.rounds.Given as goal
 
 abbrev pub invariant-loop-end : goal.invariant-loop-end

@@ -20,14 +20,14 @@ pub returns-then-n-lt10 : goal.returns-then-n-lt10
 returns-then-n-lt10 t c = rw (one_digit _ c.if-n-lt10.true) c.put_byte.ensures
 
 pub put_number-last-requires : goal.put_number-last-requires
-put_number-last-requires t c = 
+put_number-last-requires t c =
     let room_at : c.args.at + length (decimal (c.args.n / 10)) < 65536 = let n = c.args.n in
     let room = rw (more_digits n c.if-n-lt10.false) at c.requires in
     omega (arith, length-append (decimal (n / 10)) (digit (n % 10) ∷ [])) in
     (omega (arith, c.decreases), omega (arith, room_at))
 
 pub put_byte-requires-2 : goal.put_byte-requires-2
-put_byte-requires-2 t c = 
+put_byte-requires-2 t c =
     let room_at : c.args.at + length (decimal (c.args.n / 10)) < 65536 = let n = c.args.n in
     let room = rw (more_digits n c.if-n-lt10.false) at c.requires in
     omega (arith, length-append (decimal (n / 10)) (digit (n % 10) ∷ [])) in

@@ -1,11 +1,7 @@
 -- `hash`: the words that are left, hashed from where it is, come to the hash of all.
-use Prim.Native.Nat.{ℕ, ◌-◌, ◌<◌}
 use mathlib.Core.Path.{refl}
-use mathlib.Core.List.{List}
 use native.Mathlib.Omega.{arith}
-use Rattle.engine.specs.Lines.{Stretch}
-use Rattle.engine.specs.Index.{hash_from}
-use Rattle.engine.proofs.HashLaws.{Hashing, hashing_next, hashing_end}
+use Rattle.engine.proofs.HashLaws.{hashing_next, hashing_end}
 use Rattle.engine.proofs.repeats.hash.hash.Goals as goal
 
 pub loop-at-init : goal.loop-at-init

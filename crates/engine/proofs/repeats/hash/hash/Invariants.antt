@@ -1,11 +1,9 @@
 -- `hash`: the words that are left, hashed from where it is, come to the hash of all.
 use Prim.Native.Nat.{ℕ, ◌-◌, ◌<◌}
-use mathlib.Core.Path.{refl}
 use mathlib.Core.List.{List}
-use native.Mathlib.Omega.{arith}
 use Rattle.engine.specs.Lines.{Stretch}
 use Rattle.engine.specs.Index.{hash_from}
-use Rattle.engine.proofs.HashLaws.{Hashing, hashing_next, hashing_end}
+use Rattle.engine.proofs.HashLaws.{Hashing}
 use Rattle.engine.proofs.repeats.hash.hash.Given as goal
 
 abbrev pub invariant-loop-at : goal.invariant-loop-at

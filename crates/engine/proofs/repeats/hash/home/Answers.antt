@@ -6,16 +6,15 @@ use native.Mathlib.Omega.{arith}
 use lib.ListN.{drop}
 use Rattle.engine.specs.Index.{hash_from}
 use Rattle.engine.proofs.HashLaws.{stretch_next}
-use borrow.Author.Rules.{rules}
 use Rattle.engine.proofs.repeats.hash.home.Goals as goal
 
 pub overflow_mul-result : goal.overflow_mul-result
-overflow_mul-result c = 
+overflow_mul-result c =
     let slot_less : c.hash-low.result % 4294967296 * c.args.size < 4294967296 * c.args.size = let low : c.hash-low.result % 4294967296 < 4294967296 = omega arith in mul-lt-mul_of_pos_right low c.requires.2 in
     let q = c.requires in omega (arith, q.3, slot_less)
 
 pub returns : goal.returns
-returns c = 
+returns c =
     let slot_less : c.hash-low.result % 4294967296 * c.args.size < 4294967296 * c.args.size = let low : c.hash-low.result % 4294967296 < 4294967296 = omega arith in mul-lt-mul_of_pos_right low c.requires.2 in
     let q = c.requires in
     let size = c.args.size in (

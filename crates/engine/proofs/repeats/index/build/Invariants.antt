@@ -1,13 +1,8 @@
 -- `build`: the answers before `place` are indexed.
-use Prim.Native.Nat.{ℕ, ◌-◌, ◌<◌}
-use mathlib.Core.Path.{◌≡◌, ◌∙◌}
+use Prim.Native.Nat.{ℕ, ◌-◌}
 use mathlib.Core.List.{List}
-use native.Mathlib.Omega.{arith}
-use borrow.Author.Rules.{rules}
-use lib.ListN.{length}
 use Rattle.engine.specs.Lines.{Rows}
-use Rattle.engine.specs.Index.{EnteredAs}
-use Rattle.engine.proofs.BuildLaws.{Building, Emptied, emptied, built_from, building_seek, building_next, building_not, building_end, first}
+use Rattle.engine.proofs.BuildLaws.{Building}
 use Rattle.engine.proofs.repeats.index.build.Given as goal
 
 abbrev pub invariant-loop-place : goal.invariant-loop-place

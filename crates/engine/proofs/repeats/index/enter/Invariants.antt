@@ -1,11 +1,9 @@
 -- `enter`: answers with the same words are led to from the slot where the search is, and what is entered there is led to from the home slot.
-use Prim.Native.Nat.{ℕ, ◌+◌, ◌-◌, ◌<◌}
-use mathlib.Core.Path.{◌≡◌, refl, ap}
+use Prim.Native.Nat.{ℕ, ◌-◌}
+use mathlib.Core.Path.{◌≡◌}
 use mathlib.Core.List.{List}
-use native.Mathlib.Omega.{arith}
-use lib.ListN.{length, length-set}
 use Rattle.engine.specs.Index.{Seeking}
-use Rattle.engine.proofs.IndexLaws.{Sought, sought_start, sought_next, sought_found, sought_empty, entry_before, entered_from, entered_lost}
+use Rattle.engine.proofs.IndexLaws.{Sought}
 use Rattle.engine.proofs.repeats.index.enter.Given as goal
 
 abbrev pub invariant-loop-tries : goal.invariant-loop-tries

@@ -1,7 +1,6 @@
 -- `fitted`: one law for each way in which it returns.
 use native.Mathlib.Omega.{arith}
 use Rattle.engine.proofs.RepeatsLaws.{fitted_same, fitted_table, fitted_longer, fitted_lost}
-use borrow.Author.Rules.{rules}
 use Rattle.engine.proofs.repeats.index.fitted.Goals as goal
 
 pub returns-then-longer-index : goal.returns-then-longer-index

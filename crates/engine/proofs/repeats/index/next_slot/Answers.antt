@@ -1,7 +1,6 @@
 -- `next_slot`, by its test.
 use Prim.Native.Nat.{◌+◌}
 use borrow.Author.Tests.{eq-eqb, ne_eqb}
-use borrow.Author.Rules.{rules}
 use Rattle.engine.proofs.repeats.index.next_slot.Goals as goal
 
 pub returns-then-slot-size : goal.returns-then-slot-size

@@ -1,6 +1,5 @@
 -- `worthwhile` allows only what fits.
 use mathlib.Core.Bool.{false≢true}
-use borrow.Author.Rules.{rules}
 use Rattle.engine.proofs.repeats.index.worthwhile.Goals as goal
 
 pub returns-then-answers-index : goal.returns-then-answers-index

@@ -4,7 +4,6 @@ use mathlib.Core.List.{[], ◌∷◌, ◌++◌}
 use native.Mathlib.Omega.{arith}
 use Rattle.engine.proofs.TermLaws.{untouched}
 use Rattle.engine.proofs.RepeatsLaws.{indexed_none, comparing_room, comparing_fits, compared_new, compared_repeated, start_low}
-use borrow.Author.Rules.{rules}
 use Rattle.engine.proofs.repeats.repeated.compare_all.Goals as goal
 
 pub among-requires : goal.among-requires

@@ -1,14 +1,9 @@
 -- `among` goes from header to header: of the answers that are left the same is to be told.
-use Prim.Native.Nat.{ℕ, ◌+◌, ◌-◌}
-use mathlib.Core.Path.{refl, ap, ◌∙◌}
+use Prim.Native.Nat.{ℕ, ◌-◌}
 use mathlib.Core.List.{List}
-use native.Mathlib.Omega.{arith}
-use borrow.Author.Rules.{rules}
-use Rattle.word.specs.Word.{payload}
 use Rattle.semantics.specs.Answer.{any_same}
 use Rattle.engine.specs.Lines.{Whole, Stretch, Rows}
-use Rattle.engine.proofs.RowLaws.{Row, row_end}
-use Rattle.engine.proofs.SameLaws.{among_found, among_next}
+use Rattle.engine.proofs.RowLaws.{Row}
 use Rattle.engine.proofs.repeats.same.among.Given as goal
 
 abbrev pub invariant-loop-place : goal.invariant-loop-place

@@ -1,9 +1,8 @@
 -- `same`: the words that are left stand at the other place just if all of them do.
 use Prim.Native.Nat.{ℕ, ◌-◌, ◌≤◌}
 use mathlib.Core.List.{List}
-use native.Mathlib.Omega.{arith}
 use Rattle.engine.specs.Lines.{Stretch}
-use Rattle.engine.proofs.SameLaws.{Matching, matching_start, matching_next, matching_differs, matching_end}
+use Rattle.engine.proofs.SameLaws.{Matching}
 use Rattle.engine.proofs.repeats.same.same.Given as goal
 
 abbrev pub invariant-loop-at : goal.invariant-loop-at

@@ -1,10 +1,7 @@
 -- `bind_parameters` binds the parameters one after the other: the invariant is that the arguments left lead to the same substitution.
-use mathlib.Core.Path.{◌≡◌, refl}
-use Prim.Native.Nat.{ℕ}
+use mathlib.Core.Path.{refl}
 use native.Mathlib.Omega.{arith}
-use lib.ListN.{length, length-set}
-use Rattle.semantics.specs.Substitution.{Substitution}
-use Rattle.engine.specs.Call.{BindingParameters}
+use lib.ListN.{length-set}
 use Rattle.engine.proofs.ArgumentLaws.{pass_first, pass_step, pass_end}
 use Rattle.engine.proofs.search.call.bind_parameters.Goals as goal
 

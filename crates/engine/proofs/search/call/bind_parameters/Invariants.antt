@@ -1,11 +1,9 @@
 -- `bind_parameters` binds the parameters one after the other: the invariant is that the arguments left lead to the same substitution.
-use mathlib.Core.Path.{◌≡◌, refl}
+use mathlib.Core.Path.{◌≡◌}
 use Prim.Native.Nat.{ℕ}
-use native.Mathlib.Omega.{arith}
-use lib.ListN.{length, length-set}
+use lib.ListN.{length}
 use Rattle.semantics.specs.Substitution.{Substitution}
 use Rattle.engine.specs.Call.{BindingParameters}
-use Rattle.engine.proofs.ArgumentLaws.{pass_first, pass_step, pass_end}
 use Rattle.engine.proofs.search.call.bind_parameters.Given as goal
 
 abbrev pub invariant-loop-left : goal.invariant-loop-left

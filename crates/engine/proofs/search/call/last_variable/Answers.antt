@@ -1,12 +1,9 @@
 -- `last_variable` goes on while a variable is bound to a variable: the invariant is that what is left leads to the same one.
-use mathlib.Core.Path.{◌≡◌, refl, ◌∙◌, subst}
+use mathlib.Core.Path.{refl, ◌∙◌, subst}
 use native.Mathlib.Omega.{arith}
-use Rattle.rules.specs.Syntax.{Term}
-use Rattle.semantics.specs.Substitution.{Substitution, argument}
 use Rattle.engine.specs.Reference.{Stands}
-use Rattle.engine.specs.Walk.{Follows}
 use Rattle.engine.proofs.ReferenceLaws.{stands_inside}
-use Rattle.engine.proofs.WalkLaws.{hops, walk_variable, walk_hop}
+use Rattle.engine.proofs.WalkLaws.{walk_variable, walk_hop}
 use Rattle.engine.proofs.ArgumentLaws.{last_other, last_open, last_stop, last_onward}
 use Rattle.engine.proofs.search.call.last_variable.Goals as goal
 

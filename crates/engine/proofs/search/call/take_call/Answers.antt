@@ -1,7 +1,6 @@
 -- `take_call` cuts, stops at a bound, or passes the arguments and puts the body to wait.
 use native.Mathlib.Omega.{arith}
 use Rattle.engine.proofs.CallTaken.{callee_few, call_inside, call_listed, call_found, call_cut, call_variables, call_goals, call_passes, call_body, call_goes}
-use borrow.Author.Rules.{rules}
 use Rattle.engine.proofs.search.call.take_call.Goals as goal
 
 pub returns-then-round-st : goal.returns-then-round-st

@@ -1,7 +1,6 @@
 -- `backtrack` undoes what was bound since the newest choice point, and takes its next alternative.
 use native.Mathlib.Omega.{arith}
 use Rattle.engine.proofs.BacktrackTaken.{back_none, back_undoes, back_came, back_next, back_room, moved_room, back_last, back_more}
-use borrow.Author.Rules.{rules}
 use Rattle.engine.proofs.search.choice.backtrack.Goals as goal
 
 pub returns-then-st-eq0 : goal.returns-then-st-eq0

@@ -4,7 +4,6 @@ use native.Mathlib.Omega.{arith}
 use lib.ListN.{length-set}
 use Rattle.engine.specs.Take.{registers}
 use Rattle.engine.proofs.DisjTaken.{point_stores}
-use borrow.Author.Rules.{rules}
 use Rattle.engine.proofs.search.choice.push_choice.Goals as goal
 
 pub bounds-scratch-at-2 : goal.bounds-scratch-at-2

@@ -1,6 +1,5 @@
 -- `take_disj` puts the first alternative to wait, after a choice point where there are more.
 use Rattle.engine.proofs.DisjTaken.{disj_full, disj_inside, disj_last, disj_many, disj_room, disj_goes}
-use borrow.Author.Rules.{rules}
 use Rattle.engine.proofs.search.choice.take_disj.Goals as goal
 
 pub returns-then-st-ge-MOST_GOALS : goal.returns-then-st-ge-MOST_GOALS

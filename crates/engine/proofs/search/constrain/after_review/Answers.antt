@@ -1,6 +1,5 @@
 -- `after_review`: each case of a review.
 use Rattle.engine.proofs.ConstrainTaken.{review_fails, review_holds, review_steps, review_path}
-use borrow.Author.Rules.{rules}
 use Rattle.engine.proofs.search.constrain.after_review.Goals as goal
 
 pub returns-in-Fails : goal.returns-in-Fails

@@ -1,6 +1,5 @@
 -- `take_constraint` keeps the constraint and reviews it.
 use Rattle.engine.proofs.ConstrainTaken.{constraint_full, constraint_reviews, constraint_long, constraint_took}
-use borrow.Author.Rules.{rules}
 use Rattle.engine.proofs.search.constrain.take_constraint.Goals as goal
 
 pub returns-then-st-ge-MOST_CONSTRAINTS : goal.returns-then-st-ge-MOST_CONSTRAINTS

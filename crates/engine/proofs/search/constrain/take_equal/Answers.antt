@@ -1,6 +1,5 @@
 -- `take_equal` unifies, and reviews the constraints where something was bound.
 use Rattle.engine.proofs.ConstrainTaken.{equal_first, equal_ready, equal_fails, equal_steps, equal_path, equal_same, equal_kept, equal_reviewed}
-use borrow.Author.Rules.{rules}
 use Rattle.engine.proofs.search.constrain.take_equal.Goals as goal
 
 pub skip-second-requires : goal.skip-second-requires

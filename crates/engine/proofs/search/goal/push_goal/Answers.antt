@@ -1,7 +1,6 @@
 -- `push_goal` writes one cell.
 use native.Mathlib.Omega.{arith}
 use lib.ListN.{length-set}
-use borrow.Author.Rules.{rules}
 use Rattle.engine.proofs.search.goal.push_goal.Goals as goal
 
 pub bounds-scratch-next : goal.bounds-scratch-next

@@ -1,12 +1,7 @@
 -- `take_conj` lines the goals up in cells: the invariant is that the row of those left completes the row of all.
-use mathlib.Core.List.{List}
-use Prim.Native.Nat.{ℕ, ◌+◌, ◌-◌}
 use native.Mathlib.Omega.{arith}
 use lib.ListN.{length-set}
-use Rattle.rules.specs.Syntax.{Goals, conj, Program}
-use Rattle.semantics.specs.Path.{Path, ChoicePoint}
-use Rattle.engine.specs.Take.{Taking}
-use Rattle.engine.proofs.ConjLaws.{Lining, lining_next}
+use Rattle.engine.proofs.ConjLaws.{lining_next}
 use Rattle.engine.proofs.ConjTaken.{task_inside, task_end, conj_starts, conj_stops, conj_goes, conj_on}
 use Rattle.engine.proofs.search.goal.take_conj.Goals as goal
 

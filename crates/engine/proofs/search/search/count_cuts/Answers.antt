@@ -1,6 +1,5 @@
 -- `count_cuts`: one more if a branch was cut.
 use Rattle.engine.proofs.SearchLaws.{count_one}
-use borrow.Author.Rules.{rules}
 use Rattle.engine.proofs.search.search.count_cuts.Goals as goal
 
 pub returns : goal.returns

@@ -1,14 +1,8 @@
 -- `search` takes turn after turn: the state under way leads to where the first one does.
-use mathlib.Core.Path.{◌≡◌, refl, ◌∙◌}
-use Prim.Native.Nat.{ℕ, suc, ◌<◌}
+use mathlib.Core.Path.{refl, ◌∙◌}
+use Prim.Native.Nat.{suc}
 use native.Mathlib.Omega.{arith}
-use borrow.Author.Rules.{rules}
-use lib.ListN.{length}
-use Rattle.rules.specs.Syntax.{Program}
-use Rattle.semantics.specs.Round as definition
-use Rattle.semantics.specs.Invariant.{ProgramIn}
-use Rattle.engine.specs.Search.{Searching}
-use Rattle.engine.proofs.SearchLaws.{Going, going_start, search_due, searched_stops, searched_over, over_some, searched_goal, searched_answer}
+use Rattle.engine.proofs.SearchLaws.{going_start, search_due, searched_stops, searched_over, over_some, searched_goal, searched_answer}
 use Rattle.engine.proofs.search.search.search.Goals as goal
 
 pub loop-st-init : goal.loop-st-init

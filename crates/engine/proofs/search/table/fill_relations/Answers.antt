@@ -1,10 +1,6 @@
 -- `fill_relations` goes from relation to relation: those before the place are in the table.
-use Prim.Native.Nat.{◌-◌, ◌≤◌}
 use native.Mathlib.Omega.{arith}
-use lib.ListN.{length}
-use Rattle.rules.specs.Syntax.{Program}
-use Rattle.rules.specs.Inner.{RelationsAt}
-use Rattle.engine.proofs.TableLaws.{Filling, fill_start, fill_few, fill_step, fill_end}
+use Rattle.engine.proofs.TableLaws.{fill_start, fill_few, fill_step, fill_end}
 use Rattle.engine.proofs.search.table.fill_relations.Goals as goal
 
 pub loop-at-init : goal.loop-at-init

@@ -1,7 +1,6 @@
 -- `relation` reads a relation's counts where the table has it.
 use native.Mathlib.Omega.{arith}
 use Rattle.engine.proofs.TableLaws.{row_few, row_place, row_inside, row_read}
-use borrow.Author.Rules.{rules}
 use Rattle.engine.proofs.search.table.relation.Goals as goal
 
 pub bounds-scratch-number : goal.bounds-scratch-number

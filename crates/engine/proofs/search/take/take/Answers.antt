@@ -2,7 +2,6 @@
 use mathlib.Core.Path.{refl}
 use native.Mathlib.Omega.{arith}
 use Rattle.engine.proofs.TakeLaws.{take_none, of_kind, is_equal, is_conj, is_disj, is_call, is_constraint, taking, taken_as}
-use borrow.Author.Rules.{rules}
 use Rattle.engine.proofs.search.take.take.Goals as goal
 
 pub returns-then-st-eq0 : goal.returns-then-st-eq0

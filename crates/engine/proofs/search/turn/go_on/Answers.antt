@@ -1,7 +1,6 @@
 -- `go_on` takes the first waiting goal off the stack, or ends the path.
 use native.Mathlib.Omega.{arith}
 use Rattle.engine.proofs.TurnLaws.{cell_there, goes_answer, goes_fewer, goes_goal}
-use borrow.Author.Rules.{rules}
 use Rattle.engine.proofs.search.turn.go_on.Goals as goal
 
 pub returns-then-st-round : goal.returns-then-st-round

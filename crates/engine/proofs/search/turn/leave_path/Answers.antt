@@ -1,7 +1,6 @@
 -- `leave_path` goes back to the newest choice point.
 use Rattle.engine.specs.Turn.{tallied}
 use Rattle.engine.proofs.TurnLaws.{left_over, left_goal}
-use borrow.Author.Rules.{rules}
 use Rattle.engine.proofs.search.turn.leave_path.Goals as goal
 
 pub returns-in-Over : goal.returns-in-Over

@@ -1,6 +1,5 @@
 -- `turn` takes a goal and goes on, goes back or stops.
 use Rattle.engine.proofs.TurnLaws.{held_goes, held_left, held_cut, turn_onward, turn_leaves, turn_cuts, turn_stops}
-use borrow.Author.Rules.{rules}
 use Rattle.engine.proofs.search.turn.turn.Goals as goal
 
 pub go_on-requires : goal.go_on-requires

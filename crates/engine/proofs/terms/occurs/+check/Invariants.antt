@@ -1,17 +1,14 @@
 -- `check` looks at the nodes as the definition does. Recursion and loop fall by the size of the resolved term, read off the words.
-use Prim.Native.Nat.{ℕ, ◌+◌, ◌-◌, ◌<◌}
+use Prim.Native.Nat.{ℕ}
 use mathlib.Core.List.{List}
-use mathlib.Core.Path.{◌≡◌, ◌∙◌, refl, subst}
-use native.Mathlib.Omega.{arith}
+use mathlib.Core.Path.{◌≡◌}
 use lib.ListN.{length}
-use borrow.Author.Rules.{rules}
 use Rattle.rules.specs.Syntax.{Term}
 use Rattle.semantics.specs.Substitution.{Substitution}
-use Rattle.semantics.specs.Unify.{way_end}
-use Rattle.engine.specs.Occurs.{Marks, EnteredAs}
+use Rattle.engine.specs.Occurs.{Marks}
 use Rattle.engine.specs.Walk.{Follows}
 use Rattle.engine.proofs.SizeLaws.{followed_size}
-use Rattle.engine.proofs.OccursSteps.{Marking, Parting, marking_start, check_out, check_leaf, check_other_leaf, pair_led, check_again, check_full, parting, first_starts, first_walked, first_falls, first_marks, first_says, second_less, first_clear, first_found, first_out, first_full}
+use Rattle.engine.proofs.OccursSteps.{Marking}
 use Rattle.engine.proofs.terms.occurs.+check.Given as goal
 
 abbrev pub invariant-loop-left : goal.invariant-loop-left

@@ -1,15 +1,11 @@
 -- `check_unmarked` looks at the nodes as the definition does, as long as no bound variable has to be entered. Recursion and loop fall by the size of the resolved term, read off the words.
-use Prim.Native.Nat.{ℕ, ◌+◌, ◌-◌, ◌<◌}
-use mathlib.Core.Path.{refl, subst}
-use native.Mathlib.Omega.{arith}
-use borrow.Author.Rules.{rules}
+use Prim.Native.Nat.{◌<◌}
 use Rattle.rules.specs.Syntax.{Term}
-use Rattle.semantics.specs.Substitution.{Substitution, walk}
-use Rattle.engine.specs.Occurs.{UnmarkedAs}
+use Rattle.semantics.specs.Substitution.{Substitution}
 use Rattle.engine.specs.Walk.{Follows}
 use Rattle.engine.proofs.SizeLaws.{followed_size}
-use Rattle.engine.proofs.ScanSteps.{Scanning, Parting, scanning_start, scan_out, scan_leaf, scan_other_leaf, scan_full, parting, first_starts, first_walked, first_falls, first_says, second_less, first_clear, first_found, first_out, first_full}
-use Rattle.engine.proofs.OccursSteps.{unmarked_checks, no_way}
+use Rattle.engine.proofs.ScanSteps.{Scanning}
+use Rattle.engine.proofs.OccursSteps.{unmarked_checks}
 use Rattle.engine.proofs.terms.occurs.+check_unmarked.Given as goal
 
 abbrev pub invariant-loop-left : goal.invariant-loop-left

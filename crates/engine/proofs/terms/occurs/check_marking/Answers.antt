@@ -1,7 +1,6 @@
 -- `check_marking` makes the marks, and with them checks the term.
 use native.Mathlib.Omega.{arith}
 use mathlib.Core.List.{[]}
-use borrow.Author.Rules.{rules}
 use Rattle.engine.proofs.MarkLaws.{fresh_marks}
 use Rattle.engine.proofs.OccursSteps.{check_alone}
 use Rattle.engine.proofs.terms.occurs.check_marking.Goals as goal

@@ -1,5 +1,4 @@
 -- `entered_before` tells whether the value was entered, and if not enters it.
-use borrow.Author.Rules.{rules}
 use mathlib.Core.Bool.{false}
 use mathlib.Core.Path.{subst, sym, ◌∙◌}
 use native.Mathlib.Omega.{arith}

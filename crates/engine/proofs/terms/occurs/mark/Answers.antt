@@ -2,7 +2,6 @@
 use Prim.Native.Nat.{◌/◌}
 use mathlib.Core.Path.{refl}
 use native.Mathlib.Omega.{arith}
-use borrow.Author.Rules.{rules}
 use Rattle.engine.proofs.MarkLaws.{mark_fits, one_shifted}
 use Rattle.engine.proofs.terms.occurs.mark.Goals as goal
 

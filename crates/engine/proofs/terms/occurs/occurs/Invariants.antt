@@ -1,15 +1,11 @@
 -- `occurs` goes along the term as far as that needs no marks, and from there with them.
-use Prim.Native.Nat.{◌+◌, ◌-◌, ◌<◌}
-use mathlib.Core.Path.{refl, subst}
-use native.Mathlib.Omega.{arith}
-use borrow.Author.Rules.{rules}
+use Prim.Native.Nat.{◌<◌}
 use Rattle.rules.specs.Syntax.{Term}
-use Rattle.semantics.specs.Substitution.{Substitution, walk}
-use Rattle.engine.specs.Occurs.{UnmarkedAs}
+use Rattle.semantics.specs.Substitution.{Substitution}
 use Rattle.engine.specs.Walk.{Follows}
 use Rattle.engine.proofs.SizeLaws.{followed_size}
-use Rattle.engine.proofs.ScanSteps.{Scanning, Parting, scanning_start, scan_out, scan_onward, scan_leaf, scan_other_leaf, parting, first_starts, first_walked, first_says, second_less, first_clear, first_found, first_out, first_full}
-use Rattle.engine.proofs.OccursSteps.{unmarked_checks, no_way}
+use Rattle.engine.proofs.ScanSteps.{Scanning}
+use Rattle.engine.proofs.OccursSteps.{unmarked_checks}
 use Rattle.engine.proofs.terms.occurs.occurs.Given as goal
 
 abbrev pub invariant-loop-left : goal.invariant-loop-left

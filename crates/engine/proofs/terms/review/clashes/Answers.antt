@@ -1,12 +1,6 @@
 -- `clashes` goes over the constraints kept, as the definition does.
-use mathlib.Core.Path.{◌≡◌}
-use mathlib.Core.List.{List}
-use Prim.Native.Nat.{◌-◌}
 use native.Mathlib.Omega.{arith}
-use Rattle.rules.specs.Syntax.{Sort, Constraint}
-use Rattle.semantics.specs.Substitution.{Substitution}
-use Rattle.engine.specs.Review.{other_kind, ConstraintsHeld}
-use Rattle.engine.proofs.ReviewSteps.{Clashing, clashing_start, clash_next, clash_found, clash_again, clash_none}
+use Rattle.engine.proofs.ReviewSteps.{clashing_start, clash_next, clash_found, clash_again, clash_none}
 use Rattle.engine.proofs.terms.review.clashes.Goals as goal
 
 pub loop-i-init : goal.loop-i-init

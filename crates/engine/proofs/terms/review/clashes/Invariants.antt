@@ -2,11 +2,10 @@
 use mathlib.Core.Path.{◌≡◌}
 use mathlib.Core.List.{List}
 use Prim.Native.Nat.{◌-◌}
-use native.Mathlib.Omega.{arith}
 use Rattle.rules.specs.Syntax.{Sort, Constraint}
 use Rattle.semantics.specs.Substitution.{Substitution}
 use Rattle.engine.specs.Review.{other_kind, ConstraintsHeld}
-use Rattle.engine.proofs.ReviewSteps.{Clashing, clashing_start, clash_next, clash_found, clash_again, clash_none}
+use Rattle.engine.proofs.ReviewSteps.{Clashing}
 use Rattle.engine.proofs.terms.review.clashes.Given as goal
 
 abbrev pub invariant-loop-i : goal.invariant-loop-i

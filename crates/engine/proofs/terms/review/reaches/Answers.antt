@@ -1,6 +1,5 @@
 -- `reaches` looks at one constraint as the definition does.
 use Rattle.engine.proofs.ReviewSteps.{reached, reaches_other, reaches_no_variable, reaches_another, reaches_it}
-use borrow.Author.Rules.{rules}
 use Rattle.engine.proofs.terms.review.reaches.Goals as goal
 
 pub returns-then-part_at-kind : goal.returns-then-part_at-kind

@@ -1,6 +1,5 @@
 -- `review_absento` is a scan for the tag.
 use Rattle.engine.proofs.ReviewSteps.{absento_term, absento_inside, absento_fails, absento_holds, absento_steps, absento_path}
-use borrow.Author.Rules.{rules}
 use Rattle.engine.proofs.terms.review.review_absento.Goals as goal
 
 pub part_at-tag-requires : goal.part_at-tag-requires

@@ -1,12 +1,10 @@
 -- `review_all` goes over the constraints kept, as the definition does.
 use mathlib.Core.List.{List}
 use Prim.Native.Nat.{◌-◌}
-use native.Mathlib.Omega.{arith}
-use borrow.Author.Rules.{rules}
 use Rattle.rules.specs.Syntax.{Constraint}
 use Rattle.semantics.specs.Substitution.{Substitution}
 use Rattle.engine.specs.Review.{ConstraintsHeld}
-use Rattle.engine.proofs.ReviewSteps.{Reviewing, reviewing_start, reviews_next, reviews_end, review_breaks, review_stops, review_bound, review_again, review_long}
+use Rattle.engine.proofs.ReviewSteps.{Reviewing}
 use Rattle.engine.proofs.terms.review.review_all.Given as goal
 
 abbrev pub invariant-loop-i : goal.invariant-loop-i

@@ -1,6 +1,5 @@
 -- `review_differ` unifies on trial, and undoes the trial's bindings whatever it came to.
 use Rattle.engine.proofs.ReviewSteps.{trial_joined, trial_failed, trial_stepped, trial_pathed, differ_fails, differ_holds, differ_clash, differ_steps, differ_path}
-use borrow.Author.Rules.{rules}
 use Rattle.engine.proofs.terms.review.review_differ.Goals as goal
 
 pub undo-requires : goal.undo-requires

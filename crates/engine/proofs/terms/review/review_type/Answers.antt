@@ -2,7 +2,6 @@
 use mathlib.Core.Path.{◌∙◌}
 use Rattle.semantics.specs.Substitution.{walk}
 use Rattle.engine.proofs.ReviewSteps.{type_open, type_atom, type_other, says_fails, says_holds}
-use borrow.Author.Rules.{rules}
 use Rattle.engine.proofs.terms.review.review_type.Goals as goal
 
 pub walk-node-requires : goal.walk-node-requires

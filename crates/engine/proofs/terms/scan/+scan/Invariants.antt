@@ -1,13 +1,9 @@
 -- `scan` looks at the nodes as the definition does. Recursion and loop fall by the size of the resolved term, read off the words.
-use mathlib.Core.Path.{refl}
-use native.Mathlib.Omega.{arith}
-use borrow.Author.Rules.{rules}
 use Rattle.rules.specs.Syntax.{Term}
-use Rattle.semantics.specs.Substitution.{Substitution, walk}
+use Rattle.semantics.specs.Substitution.{Substitution}
 use Rattle.engine.specs.Walk.{Follows}
 use Rattle.engine.proofs.SizeLaws.{followed_size}
-use Rattle.engine.proofs.ScanSteps.{Scanning, Parting, scans, scanning_start, scan_out, scan_leaf, scan_other_leaf, scan_full, parting, first_starts, first_walked, first_falls, first_says, second_less, first_clear, first_found, first_out, first_full}
-use Prim.Native.Nat.{ℕ, ◌+◌, ◌-◌, ◌<◌}
+use Rattle.engine.proofs.ScanSteps.{Scanning, scans}
 use Rattle.engine.proofs.terms.scan.+scan.Given as goal
 
 abbrev pub invariant-loop-left : goal.invariant-loop-left

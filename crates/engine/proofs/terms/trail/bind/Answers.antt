@@ -1,7 +1,6 @@
 -- `bind` writes the variable's word and its place on the trail.
 use lib.ListN.{length-set}
 use native.Mathlib.Omega.{arith}
-use borrow.Author.Rules.{rules}
 use Rattle.engine.proofs.terms.trail.bind.Goals as goal
 
 pub bounds-scratch-trail : goal.bounds-scratch-trail

@@ -1,10 +1,9 @@
 -- `undo` takes bindings back one by one: the invariant is that the trail's new part is shorter and all else as it was.
 use mathlib.Core.List.{List}
 use Prim.Native.Nat.{ℕ}
-use native.Mathlib.Omega.{arith}
 use Rattle.semantics.specs.Substitution.{Substitution}
 use Rattle.engine.specs.Trail.{Trailed}
-use Rattle.engine.proofs.TrailLaws.{Undoing, undo_start, undo_top, undo_again, undo_ends}
+use Rattle.engine.proofs.TrailLaws.{Undoing}
 use Rattle.engine.proofs.terms.trail.undo.Given as goal
 
 abbrev pub invariant-loop-top : goal.invariant-loop-top

@@ -1,6 +1,5 @@
 -- `look` looks at two followed terms as the definition does, by the kinds of their words.
 use Rattle.engine.proofs.UnifySteps.{look_left, look_right, look_same, look_other, look_parts, look_pair, look_words, look_equal}
-use borrow.Author.Rules.{rules}
 use Rattle.engine.proofs.terms.unify.look.Goals as goal
 
 pub returns-then-b_kind-ne-VARIABLE : goal.returns-then-b_kind-ne-VARIABLE

@@ -1,11 +1,8 @@
 -- `unify` takes pair after pair, as the definition does, and falls by the steps left.
-use native.Mathlib.Omega.{arith}
-use borrow.Author.Rules.{rules}
-use lib.ListN.{length-set}
 use Rattle.rules.specs.Syntax.{Term}
 use Rattle.semantics.specs.Substitution.{Substitution}
-use Rattle.engine.specs.Unify.{TwoTerms, PairUnifiedAs}
-use Rattle.engine.proofs.UnifyLoop.{Unifying, unifying_start, unifying_two, unify_out, paired_long, unify_failed, unify_stepped, unify_pathed, unify_joined, unify_fewer, unify_pop, unify_full, unify_push}
+use Rattle.engine.specs.Unify.{TwoTerms}
+use Rattle.engine.proofs.UnifyLoop.{Unifying}
 use Rattle.engine.proofs.terms.unify.unify.Given as goal
 
 abbrev pub invariant-loop-rest : goal.invariant-loop-rest

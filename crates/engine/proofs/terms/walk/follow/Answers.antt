@@ -1,7 +1,5 @@
-
 use native.Mathlib.Omega.{arith}
 use Rattle.engine.proofs.FollowLaws.{walked_below, shaped_open, shaped_pair, shaped_leaf}
-use borrow.Author.Rules.{rules}
 use Rattle.engine.proofs.terms.walk.follow.Goals as goal
 
 pub walk-node-requires : goal.walk-node-requires

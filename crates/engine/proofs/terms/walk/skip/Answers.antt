@@ -1,10 +1,6 @@
 -- `skip` goes from second part to second part: each ends where the whole does.
-use Prim.Native.Nat.{◌-◌}
 use native.Mathlib.Omega.{arith}
-use lib.ListN.{length}
-use Rattle.rules.specs.Syntax.{Term}
-use Rattle.engine.specs.Reference.{pos_of, Stands}
-use Rattle.engine.proofs.ReferenceLaws.{stands_inside, Skipping, skip_start, skip_ends, skip_on, skip_pair}
+use Rattle.engine.proofs.ReferenceLaws.{stands_inside, skip_start, skip_ends, skip_on, skip_pair}
 use Rattle.engine.proofs.terms.walk.skip.Goals as goal
 
 pub loop-part-init : goal.loop-part-init

@@ -1,10 +1,9 @@
 -- `skip` goes from second part to second part: each ends where the whole does.
 use Prim.Native.Nat.{◌-◌}
-use native.Mathlib.Omega.{arith}
 use lib.ListN.{length}
 use Rattle.rules.specs.Syntax.{Term}
 use Rattle.engine.specs.Reference.{pos_of, Stands}
-use Rattle.engine.proofs.ReferenceLaws.{stands_inside, Skipping, skip_start, skip_ends, skip_on, skip_pair}
+use Rattle.engine.proofs.ReferenceLaws.{Skipping}
 use Rattle.engine.proofs.terms.walk.skip.Given as goal
 
 abbrev pub invariant-loop-part : goal.invariant-loop-part

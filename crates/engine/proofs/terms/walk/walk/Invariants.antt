@@ -1,8 +1,7 @@
 -- `walk` follows a reference as the definition does: the invariant is that what is left to follow comes to the same term.
-use native.Mathlib.Omega.{arith}
 use Rattle.engine.specs.Reference.{refer}
 use Rattle.engine.proofs.WalkLaws.{hops}
-use Rattle.engine.proofs.WalkLoop.{Walking, walking_starts, walking_inside, walking_below, walking_variable, walking_node, walking_open, walking_on, walking_falls}
+use Rattle.engine.proofs.WalkLoop.{Walking}
 use Rattle.engine.proofs.terms.walk.walk.Given as goal
 
 abbrev pub invariant-loop-part : goal.invariant-loop-part

@@ -1,6 +1,5 @@
 -- `begin_answer` puts the query terms, if they fit.
 use Rattle.engine.proofs.AnswerLaws.{begin_none, begin_put, begin_missed}
-use borrow.Author.Rules.{rules}
 use Rattle.engine.proofs.writer.answer.begin_answer.Goals as goal
 
 pub returns-then-end-start : goal.returns-then-end-start

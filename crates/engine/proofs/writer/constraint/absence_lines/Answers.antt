@@ -1,7 +1,6 @@
 -- `absence_lines` looks at the term's nodes, then adds the lines of its open variables.
 use native.Mathlib.Omega.{arith}
 use mathlib.Core.List.{[]}
-use borrow.Author.Rules.{rules}
 use Rattle.semantics.specs.Substitution.{resolve}
 use Rattle.semantics.specs.Answer.{appear, lacks_each}
 use Rattle.engine.proofs.ReviewSteps.{absento_inside}

@@ -1,5 +1,4 @@
 -- `add_constraint` goes by the kind of the constraint's word.
-use borrow.Author.Rules.{rules}
 use Rattle.rules.specs.Syntax.{differ, typed, absento}
 use Rattle.engine.proofs.ReviewSteps.{differ_at, absento_at, typed_at}
 use Rattle.engine.proofs.ConstraintLaws.{lists_differ, added_one}

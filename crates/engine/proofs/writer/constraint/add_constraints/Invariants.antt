@@ -1,14 +1,12 @@
 -- `add_constraints` goes over the constraints kept, as the definition does.
 use Prim.Native.Nat.{ℕ, ◌-◌}
 use mathlib.Core.List.{List}
-use native.Mathlib.Omega.{arith}
-use borrow.Author.Rules.{rules}
 use Rattle.rules.specs.Syntax.{Constraint}
 use Rattle.semantics.specs.Substitution.{Substitution}
 use Rattle.semantics.specs.Invariant.{Sound}
 use Rattle.engine.specs.Review.{ConstraintsHeld}
 use Rattle.engine.specs.Lines.{Writing}
-use Rattle.engine.proofs.ConstraintLaws.{Adding, adding_start, adding_long, adding_writing, adding_next, adding_end, adding_still, adding_room, adding_stops, adding_bound, adding_on}
+use Rattle.engine.proofs.ConstraintLaws.{Adding}
 use Rattle.engine.proofs.writer.constraint.add_constraints.Given as goal
 
 abbrev pub invariant-loop-i : goal.invariant-loop-i

@@ -1,6 +1,5 @@
 -- `differ_lines` tries the two terms again. The trial is undone, or its equations are kept and listed.
 use mathlib.Core.List.{reverse}
-use borrow.Author.Rules.{rules}
 use Rattle.engine.proofs.ReviewSteps.{trial_joined, trial_failed, trial_stepped, trial_pathed}
 use Rattle.engine.proofs.ConstraintLaws.{writing_apart, trial_grown, differ_failed, differ_stepped, differ_pathed, tried, tried_line_is, tried_line, tried_steps, tried_path, tried_done}
 use Rattle.engine.proofs.writer.constraint.differ_lines.Goals as goal

@@ -1,5 +1,4 @@
 -- `type_lines` looks at the term's nodes, then adds its line if it is an open variable.
-use borrow.Author.Rules.{rules}
 use Rattle.semantics.specs.Substitution.{walk}
 use Rattle.semantics.specs.Answer.{typed_lines}
 use Rattle.engine.proofs.ConstraintLaws.{term_steps, term_path, term_done, typed_adds, typed_page}

@@ -1,6 +1,4 @@
-
 use Rattle.engine.proofs.LineLaws.{equation_low, equation_asks, equation_lacks}
-use borrow.Author.Rules.{rules}
 use Rattle.engine.proofs.writer.line.equation_named.Goals as goal
 
 pub has_name-requires : goal.has_name-requires

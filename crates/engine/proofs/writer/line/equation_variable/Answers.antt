@@ -1,6 +1,4 @@
-
 use Rattle.engine.proofs.LineLaws.{half_low, half_high}
-use borrow.Author.Rules.{rules}
 use Rattle.engine.proofs.writer.line.equation_variable.Goals as goal
 
 pub returns-then-i-eq0 : goal.returns-then-i-eq0

@@ -1,13 +1,10 @@
-
 use Prim.Native.Nat.{ℕ, ◌-◌}
 use mathlib.Core.List.{List}
-use mathlib.Core.Path.{refl}
-use native.Mathlib.Omega.{arith}
 use Rattle.rules.specs.Syntax.{Term}
 use Rattle.semantics.specs.Answer.{bindings_in}
 use Rattle.engine.specs.Names.{NamesGiven}
 use Rattle.engine.specs.Line.{EquationsIn}
-use Rattle.engine.proofs.LineLaws.{Checking, check_next, check_end, check_fails, check_on}
+use Rattle.engine.proofs.LineLaws.{Checking}
 use Rattle.engine.proofs.writer.line.equations_named.Given as goal
 
 abbrev pub invariant-loop-i : goal.invariant-loop-i

@@ -1,6 +1,4 @@
-
 use Rattle.engine.proofs.LineLaws.{name_missing, name_there}
-use borrow.Author.Rules.{rules}
 use Rattle.engine.proofs.writer.line.has_name.Goals as goal
 
 pub returns-then-scratch-x-eq0 : goal.returns-then-scratch-x-eq0

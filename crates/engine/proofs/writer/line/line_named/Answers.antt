@@ -1,7 +1,5 @@
-
 use mathlib.Core.List.{◌∷◌}
 use Rattle.engine.proofs.LineLaws.{typed_line, lacks_line, differ_line, typed_named, lacks_named, differ_named}
-use borrow.Author.Rules.{rules}
 use Rattle.engine.proofs.writer.line.line_named.Goals as goal
 
 pub has_name-requires : goal.has_name-requires

@@ -1,10 +1,8 @@
-
 use native.Mathlib.Omega.{arith}
 use mathlib.Core.List.{◌∷◌}
 use mathlib.Core.Path.{refl}
 use Rattle.engine.proofs.TermLaws.{puts_at, laid_of, laid_room}
 use Rattle.engine.proofs.LineLaws.{differ_one, differ_full, differ_missed, differ_put}
-use borrow.Author.Rules.{rules}
 use Rattle.engine.proofs.writer.line.put_differ.Goals as goal
 
 pub returns-then-count-eq1 : goal.returns-then-count-eq1

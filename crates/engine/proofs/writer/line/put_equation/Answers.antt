@@ -1,8 +1,6 @@
-
 use native.Mathlib.Omega.{arith}
 use Rattle.engine.proofs.TermLaws.{laid_of, laid_room}
 use Rattle.engine.proofs.LineLaws.{equation_full, equation_low, equation_puts, equation_variable, right_puts, equation_no_variable, equation_no_right, equation_inner, equation_put}
-use borrow.Author.Rules.{rules}
 use Rattle.engine.proofs.writer.line.put_equation.Goals as goal
 
 pub returns-then-end-start : goal.returns-then-end-start

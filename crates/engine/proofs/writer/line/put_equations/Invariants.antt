@@ -1,14 +1,10 @@
-
 use Prim.Native.Nat.{ℕ, ◌-◌}
 use mathlib.Core.List.{List}
-use native.Mathlib.Omega.{arith}
-use borrow.Author.Rules.{rules}
 use Rattle.rules.specs.Syntax.{Term}
 use Rattle.semantics.specs.Answer.{bindings_in}
 use Rattle.engine.specs.Term.{Puts}
 use Rattle.engine.specs.Line.{EquationsIn, equations_words}
-use Rattle.engine.proofs.TermLaws.{puts_behind, placed_long}
-use Rattle.engine.proofs.LineLaws.{Going, going_start, going_next, going_end, next_missed, next_put}
+use Rattle.engine.proofs.LineLaws.{Going}
 use Rattle.engine.proofs.writer.line.put_equations.Given as goal
 
 abbrev pub invariant-loop-i : goal.invariant-loop-i

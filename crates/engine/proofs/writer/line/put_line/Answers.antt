@@ -1,8 +1,6 @@
-
 use Rattle.engine.proofs.LineLaws.{typed_line, typed_words, typed_member, lacks_line, lacks_words, lacks_member, differ_line, differ_line_words, differ_in}
 use mathlib.Core.Path.{refl}
 use Rattle.engine.proofs.TermLaws.{puts_at}
-use borrow.Author.Rules.{rules}
 use Rattle.engine.proofs.writer.line.put_line.Goals as goal
 
 pub put_typed-requires : goal.put_typed-requires

@@ -1,7 +1,5 @@
-
 use Rattle.engine.proofs.TermLaws.{puts_behind, laid_of}
 use Rattle.engine.proofs.LineLaws.{typed_missed, typed_put}
-use borrow.Author.Rules.{rules}
 use Rattle.engine.proofs.writer.line.put_typed.Goals as goal
 
 pub returns-in-Missed : goal.returns-in-Missed

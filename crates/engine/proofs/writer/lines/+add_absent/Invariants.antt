@@ -1,12 +1,7 @@
-
 use Prim.Native.Nat.{◌≤◌}
-use mathlib.Core.Path.{sym, refl}
-use native.Mathlib.Omega.{arith}
-use borrow.Author.Rules.{rules}
 use Rattle.engine.specs.Lines.{AddsAbsent}
 use Rattle.engine.proofs.SizeLaws.{followed_size}
-use Rattle.engine.proofs.LinesLaws.{AbsentFor, absent_start, absent_as, absent_add, absent_leaf, absent_pair, absent_first, absent_next, page_long}
-use Prim.Native.Nat.{ℕ, ◌<◌}
+use Rattle.engine.proofs.LinesLaws.{AbsentFor}
 use Rattle.engine.proofs.writer.lines.+add_absent.Given as goal
 
 abbrev pub invariant-loop-x : goal.invariant-loop-x

@@ -1,7 +1,5 @@
-
 use mathlib.Core.Path.{sym, ◌∙◌}
 use Rattle.engine.proofs.AddLineLaws.{page_rows, earlier_puts, behind_puts, page_full, page_dropped, page_repeated, page_missed, page_put}
-use borrow.Author.Rules.{rules}
 use Rattle.engine.proofs.writer.lines.add_line.Goals as goal
 
 pub returns-then-end-at : goal.returns-then-end-at

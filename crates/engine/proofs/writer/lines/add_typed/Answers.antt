@@ -1,6 +1,4 @@
-
 use Rattle.engine.proofs.LinesLaws.{typed_as, typed_add, typed_leaf, typed_pair}
-use borrow.Author.Rules.{rules}
 use Rattle.engine.proofs.writer.lines.add_typed.Goals as goal
 
 pub add_line-requires : goal.add_line-requires

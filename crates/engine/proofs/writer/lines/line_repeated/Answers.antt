@@ -1,14 +1,7 @@
-
-use Prim.Native.Nat.{ℕ, ◌-◌}
-use mathlib.Core.List.{List}
-use mathlib.Core.Path.{◌≡◌, refl, ap, ◌∙◌}
+use mathlib.Core.Path.{refl, ap, ◌∙◌}
 use native.Mathlib.Omega.{arith}
-use borrow.Author.Rules.{rules}
 use lib.ListN.{length}
-use Rattle.semantics.specs.Answer.{Line, line_in, line_words, any_same}
-use Rattle.engine.specs.Term.{Puts}
-use Rattle.engine.specs.Line.{LineAs}
-use Rattle.engine.specs.Lines.{Rows}
+use Rattle.semantics.specs.Answer.{line_words, any_same}
 use Rattle.engine.proofs.RowLaws.{Row, row_next, row_end, row_found, row_on, row_moved}
 use Rattle.engine.proofs.AddLineLaws.{puts_between}
 use Rattle.engine.proofs.writer.lines.line_repeated.Goals as goal
@@ -29,9 +22,9 @@ pub overflow_add-next-in-loop-place : goal.overflow_add-next-in-loop-place
 overflow_add-next-in-loop-place c = omega (arith, c.loop-place-test.true, c.requires.5.room.short, c.payload-size.ensures)
 
 pub same_line-requires : goal.same_line-requires
-same_line-requires c = 
+same_line-requires c =
     let now_at : (let a = c.args in let q = c.requires in Row c.loop-place.output c.loop-place.place a.at (line_words q.2 q.1) (any_same (line_words q.2 q.1) q.0)) = let q = c.requires in c.loop-place.invariant.1 q.0 q.1 q.2 q.3 q.4 q.5 in
-    let q = c.requires in let r = row_next (now_at) c.loop-place-test.true c.from_bits.ensures c.payload-size.ensures in (q.1, q.2, q.4, puts_between q.5 (ap length c.loop-place.invariant.0) r.here r.inside)
+    let q = c.requires in let r = row_next now_at c.loop-place-test.true c.from_bits.ensures c.payload-size.ensures in (q.1, q.2, q.4, puts_between q.5 (ap length c.loop-place.invariant.0) r.here r.inside)
 
 pub shape_of-output-then-same_line : goal.shape_of-output-then-same_line
 shape_of-output-then-same_line c = ap length (c.same_line.ensures.0 ∙ c.loop-place.invariant.0)

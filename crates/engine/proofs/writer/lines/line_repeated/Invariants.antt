@@ -1,16 +1,11 @@
-
 use Prim.Native.Nat.{ℕ, ◌-◌}
 use mathlib.Core.List.{List}
-use mathlib.Core.Path.{◌≡◌, refl, ap, ◌∙◌}
-use native.Mathlib.Omega.{arith}
-use borrow.Author.Rules.{rules}
-use lib.ListN.{length}
+use mathlib.Core.Path.{◌≡◌}
 use Rattle.semantics.specs.Answer.{Line, line_in, line_words, any_same}
 use Rattle.engine.specs.Term.{Puts}
 use Rattle.engine.specs.Line.{LineAs}
 use Rattle.engine.specs.Lines.{Rows}
-use Rattle.engine.proofs.RowLaws.{Row, row_next, row_end, row_found, row_on, row_moved}
-use Rattle.engine.proofs.AddLineLaws.{puts_between}
+use Rattle.engine.proofs.RowLaws.{Row}
 use Rattle.engine.proofs.writer.lines.line_repeated.Given as goal
 
 abbrev pub invariant-loop-place : goal.invariant-loop-place

@@ -1,6 +1,4 @@
-
 use Rattle.engine.proofs.AddLineLaws.{same_missed, same_found, same_short, read_back}
-use borrow.Author.Rules.{rules}
 use Rattle.engine.proofs.writer.lines.same_line.Goals as goal
 
 pub returns-in-Missed : goal.returns-in-Missed

@@ -1,12 +1,10 @@
 -- `look_equations` looks at the right sides in order, as the definition does.
 use Prim.Native.Nat.{ℕ, ◌-◌}
 use mathlib.Core.List.{List}
-use native.Mathlib.Omega.{arith}
-use borrow.Author.Rules.{rules}
 use Rattle.rules.specs.Syntax.{Term}
 use Rattle.semantics.specs.Substitution.{Substitution}
 use Rattle.engine.specs.Look.{Looks}
-use Rattle.engine.proofs.LookLaws.{LookingRights, rights_start, rights_end, rights_next, rights_steps, rights_path, rights_on}
+use Rattle.engine.proofs.LookLaws.{LookingRights}
 use Rattle.engine.proofs.writer.look.look_equations.Given as goal
 
 abbrev pub invariant-loop-i : goal.invariant-loop-i

@@ -1,6 +1,5 @@
 -- `look_through` is a scan that finds nothing.
 use Rattle.engine.proofs.LookLaws.{look_found, look_clear, look_steps, look_path}
-use borrow.Author.Rules.{rules}
 use Rattle.engine.proofs.writer.look.look_through.Goals as goal
 
 pub returns-in-StepsOut : goal.returns-in-StepsOut

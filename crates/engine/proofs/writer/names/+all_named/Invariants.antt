@@ -1,16 +1,12 @@
-
 use Prim.Native.Nat.{◌≤◌}
 use mathlib.Core.List.{List}
-use native.Mathlib.Omega.{arith}
-use borrow.Author.Rules.{rules}
-use mathlib.Core.Path.{refl}
 use Rattle.rules.specs.Syntax.{Term}
 use Rattle.semantics.specs.Answer.{vars_in}
 use Rattle.engine.specs.Walk.{Resolves}
 use Rattle.engine.specs.Names.{NamesGiven}
 use Rattle.engine.proofs.SizeLaws.{followed_size}
-use Rattle.engine.proofs.NamingLaws.{Asking, asking_low, asking_yes, asking_no, asking_leaf, asking_pair, asking_not_first, asking_next}
-use Prim.Native.Nat.{ℕ, ◌<◌}
+use Rattle.engine.proofs.NamingLaws.{Asking}
+use Prim.Native.Nat.{ℕ}
 use Rattle.engine.proofs.writer.names.+all_named.Given as goal
 
 abbrev pub invariant-loop-x : goal.invariant-loop-x

@@ -1,15 +1,12 @@
-
 use Prim.Native.Nat.{◌≤◌}
 use mathlib.Core.List.{List}
-use native.Mathlib.Omega.{arith}
-use borrow.Author.Rules.{rules}
 use Rattle.rules.specs.Syntax.{Term}
 use Rattle.semantics.specs.Answer.{appear}
 use Rattle.engine.specs.Walk.{Resolves}
 use Rattle.engine.specs.Names.{Names}
 use Rattle.engine.proofs.SizeLaws.{followed_size}
-use Rattle.engine.proofs.NamingLaws.{Naming, naming_start, naming_low, naming_open, naming_leaf, naming_pair, naming_falls, naming_next}
-use Prim.Native.Nat.{ℕ, ◌<◌}
+use Rattle.engine.proofs.NamingLaws.{Naming}
+use Prim.Native.Nat.{ℕ}
 use Rattle.engine.proofs.writer.names.+name_term.Given as goal
 
 abbrev pub invariant-loop-x : goal.invariant-loop-x

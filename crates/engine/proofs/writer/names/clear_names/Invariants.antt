@@ -1,10 +1,6 @@
-
 use Prim.Native.Nat.{ℕ, ◌%◌}
 use mathlib.Core.List.{List}
-use native.Mathlib.Omega.{arith}
 use Rattle.engine.specs.Names.{Named}
-use Rattle.engine.proofs.NameLaws.{named_still, named_trans}
-use Rattle.engine.proofs.NamingLaws.{Popped, pop, all_taken}
 use Rattle.engine.proofs.writer.names.clear_names.Given as goal
 
 abbrev pub invariant-loop-last : goal.invariant-loop-last

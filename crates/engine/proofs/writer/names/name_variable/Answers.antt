@@ -1,7 +1,5 @@
-
 use native.Mathlib.Omega.{arith}
 use Rattle.engine.proofs.NameLaws.{names_top, named_already, named_now}
-use borrow.Author.Rules.{rules}
 use Rattle.engine.proofs.writer.names.name_variable.Goals as goal
 
 pub returns-then-scratch-at-ne0 : goal.returns-then-scratch-at-ne0

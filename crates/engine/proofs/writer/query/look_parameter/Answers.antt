@@ -1,6 +1,5 @@
 -- `look_parameter` takes the steps of a query term.
 use Rattle.engine.proofs.WriterLaws.{parameter_follows, parameter_looked, parameter_no_steps, parameter_step}
-use borrow.Author.Rules.{rules}
 use Rattle.engine.proofs.writer.query.look_parameter.Goals as goal
 
 pub look_through-requires : goal.look_through-requires

@@ -1,6 +1,5 @@
 -- `name_parameter` names the variables of a query term.
 use Rattle.engine.proofs.WriterLaws.{parameter_named, parameter_resolves}
-use borrow.Author.Rules.{rules}
 use Rattle.engine.proofs.writer.query.name_parameter.Goals as goal
 
 pub returns-then-entry-eq0 : goal.returns-then-entry-eq0

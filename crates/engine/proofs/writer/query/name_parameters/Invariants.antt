@@ -1,11 +1,10 @@
 -- `name_parameters` names the variables of all query terms.
 use Prim.Native.Nat.{◌-◌}
 use mathlib.Core.List.{[]}
-use native.Mathlib.Omega.{arith}
 use Rattle.semantics.specs.Substitution.{Substitution}
 use Rattle.engine.specs.Walk.{Binds}
 use Rattle.engine.specs.Names.{Names}
-use Rattle.engine.proofs.QueryLaws.{NamingAll, naming_all_start, naming_all_next, naming_all_end}
+use Rattle.engine.proofs.QueryLaws.{NamingAll}
 use Rattle.engine.proofs.writer.query.name_parameters.Given as goal
 
 abbrev pub invariant-loop-x : goal.invariant-loop-x

@@ -1,6 +1,5 @@
 -- `put_parameter` puts a query term.
 use Rattle.engine.proofs.WriterLaws.{parameter_puts, parameter_put, parameter_resolves}
-use borrow.Author.Rules.{rules}
 use Rattle.engine.proofs.writer.query.put_parameter.Goals as goal
 
 pub put_variable-requires : goal.put_variable-requires

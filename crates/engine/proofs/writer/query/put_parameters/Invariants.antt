@@ -1,12 +1,9 @@
 -- `put_parameters` puts all query terms.
 use Prim.Native.Nat.{ℕ, ◌-◌}
 use mathlib.Core.List.{List}
-use native.Mathlib.Omega.{arith}
 use Rattle.semantics.specs.Substitution.{Substitution}
 use Rattle.engine.specs.Query.{Query}
-use Rattle.engine.proofs.TermLaws.{placed_long}
-use Rattle.engine.proofs.QueryLaws.{query_puts, PuttingAll, putting_all_start, putting_all_next, putting_all_missed, putting_all_end}
-use borrow.Author.Rules.{rules}
+use Rattle.engine.proofs.QueryLaws.{PuttingAll}
 use Rattle.engine.proofs.writer.query.put_parameters.Given as goal
 
 abbrev pub invariant-loop-x : goal.invariant-loop-x

@@ -1,16 +1,13 @@
-
-use Prim.Native.Nat.{◌≤◌, ◌-◌}
+use Prim.Native.Nat.{◌≤◌}
 use mathlib.Core.List.{List}
-use native.Mathlib.Omega.{arith}
-use borrow.Author.Rules.{rules}
 use Rattle.rules.specs.Syntax.{Term}
 use Rattle.rules.specs.Written.{term_words}
 use Rattle.semantics.specs.Answer.{reify, vars_in}
 use Rattle.engine.specs.Walk.{Resolves}
 use Rattle.engine.specs.Term.{Puts}
 use Rattle.engine.proofs.SizeLaws.{followed_size}
-use Rattle.engine.proofs.TermLaws.{laid_of, placed_long, Putting, putting_start, putting_full, putting_low, putting_named, putting_open, putting_leaf, putting_pair, puts_first, putting_missed, putting_no, putting_next}
-use Prim.Native.Nat.{ℕ, ◌<◌}
+use Rattle.engine.proofs.TermLaws.{Putting}
+use Prim.Native.Nat.{ℕ}
 use Rattle.engine.proofs.writer.term.+put_term.Given as goal
 
 abbrev pub invariant-loop-at : goal.invariant-loop-at

@@ -1,6 +1,4 @@
-
 use Rattle.engine.proofs.TermLaws.{head_put, head_missed}
-use borrow.Author.Rules.{rules}
 use Rattle.engine.proofs.writer.term.put_head.Goals as goal
 
 pub returns-then-put_word : goal.returns-then-put_word

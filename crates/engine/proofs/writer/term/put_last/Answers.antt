@@ -1,6 +1,4 @@
-
 use Rattle.engine.proofs.TermLaws.{placed_last, missed_last}
-use borrow.Author.Rules.{rules}
 use Rattle.engine.proofs.writer.term.put_last.Goals as goal
 
 pub returns-then-put_word : goal.returns-then-put_word

@@ -1,6 +1,4 @@
-
 use Rattle.engine.proofs.TermLaws.{one_full}
-use borrow.Author.Rules.{rules}
 use Rattle.engine.proofs.writer.term.put_one.Goals as goal
 
 pub returns-then-end-at : goal.returns-then-end-at

@@ -1,7 +1,5 @@
-
 use native.Mathlib.Omega.{arith}
 use Rattle.engine.proofs.TermLaws.{variable_number, variable_put}
-use borrow.Author.Rules.{rules}
 use Rattle.engine.proofs.writer.term.put_variable.Goals as goal
 
 pub overflow_sub-number : goal.overflow_sub-number

@@ -1,6 +1,4 @@
-
 use Rattle.engine.proofs.TermLaws.{word_written, word_there, word_differs}
-use borrow.Author.Rules.{rules}
 use Rattle.engine.proofs.writer.term.put_word.Goals as goal
 
 pub returns-then-write : goal.returns-then-write

@@ -1,11 +1,8 @@
-
 use Prim.Native.Nat.{ℕ}
 use mathlib.Core.List.{List}
-use native.Mathlib.Omega.{arith}
-use lib.ListN.{length-set}
 use Rattle.semantics.specs.Substitution.{Substitution}
 use Rattle.engine.specs.Trail.{Trailed}
-use Rattle.engine.proofs.TrialLaws.{Keeping, keeping_start, keeping_end, Newest, newest, newest_low, newest_some, newest_taken}
+use Rattle.engine.proofs.TrialLaws.{Keeping}
 use Rattle.engine.proofs.writer.trial.keep_equations.Given as goal
 
 abbrev pub invariant-loop-top : goal.invariant-loop-top

@@ -1,8 +1,6 @@
-
 use Prim.Native.Nat.{◌+◌, ◌/◌}
 use native.Mathlib.Omega.{arith}
 use Rattle.engine.proofs.TrialLaws.{half_even, half_odd}
-use borrow.Author.Rules.{rules}
 use Rattle.engine.proofs.writer.trial.keep_variable.Goals as goal
 
 pub overflow_mul-scratch : goal.overflow_mul-scratch

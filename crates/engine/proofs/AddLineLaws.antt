@@ -14,7 +14,6 @@ use Rattle.rules.proofs.Spelled.{stands_at as Spells_at, stands_split as spells_
 use Rattle.semantics.specs.Answer.{index, reify, reify_bindings, differ_goals, Line, is_sort, lacks, not_all, line_in, line_words, lines_words, same_words, any_same, listed, stays}
 use Rattle.semantics.proofs.Repeats.{same_refl, same_true}
 use Rattle.semantics.proofs.Basics.{by_choose, joined_more}
-use Rattle.engine.specs.Reference.{at}
 use Rattle.engine.specs.Term.{Puts, Touched, Laid, Placed, all_laid, some_missing}
 use Rattle.engine.specs.Lines.{add_line, add_lines, Wholes, Stretch, Rows, AnswerSoFar, Writing, Extended}
 use Rattle.engine.specs.declared.writer.term.Put.{Put}

@@ -5,7 +5,7 @@ use mathlib.Core.List.{List, [], ◌∷◌, map}
 use native.Mathlib.Omega.{arith}
 use lib.ListN.{length}
 use Rattle.rules.specs.Syntax.{Term, var, atom, pair, Constraint, differ, typed, absento, Goal, Goals, one, more, constrain, conj, disj}
-use Rattle.rules.specs.Reading.{kind_at, after}
+use Rattle.rules.specs.Reading.{kind_at, payload_at, after}
 use Rattle.semantics.specs.Substitution.{shift, shift_constraint}
 use Rattle.engine.specs.Layout.{references}
 use Rattle.engine.specs.Reference.{TermAt, TermsAt, ConstraintAt, GoalsAt, pos_of, base_of, beyond, TaskAt, RestAt, VarsC, KeepsAt}
@@ -21,7 +21,7 @@ goals_longer ws from to (more g gs) h = omega (arith, goals_longer ws (after ws 
 pub term_shift : (ws : List ℕ) (base from to : ℕ) (t : Term) → TermAt ws 0 from to t → TermAt ws base from to (shift base t)
 term_shift ws base from to (var x) h = (h.0, omega (arith, h.1), h.2)
 term_shift ws base from to (atom a) h = h
-term_shift ws base from to (pair s t) h = (h.0, term_shift ws base _ _ s h.1, term_shift ws base _ _ t h.2)
+term_shift ws base from to (pair s t) h = (h.0, term_shift ws base (from + 1) (from + 1 + payload_at ws from) s h.1, term_shift ws base (from + 1 + payload_at ws from) to t h.2)
 
 pub terms_shift : (ws : List ℕ) (base from to : ℕ) (ts : List Term) → TermsAt ws 0 from to ts → TermsAt ws base from to (map (shift base) ts)
 terms_shift ws base from to [] h = h

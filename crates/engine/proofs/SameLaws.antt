@@ -96,7 +96,7 @@ answer_stands {o} {first} {to} {place} {w} (x ∷ xs) h a =
     let ends : to ≡ first + length x + length (joined xs) = n.later.stretch.ends in
     ⊎_elim
     (λ e. record { words = subst (λ p. Spells o p w) (sym e.0) (subst (Spells o first) (sym e.1) n.here.words); whole = subst Whole (sym e.1) n.whole; inside = omega (arith, e.0) })
-    (answer_stands xs n.later)
+    (answer_stands {o = o} {first = first + length x} {to = to} {place = place} {w = w} xs n.later)
     a
 
 -- an answer is among others just if it stands there

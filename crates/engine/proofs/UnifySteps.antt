@@ -20,9 +20,9 @@ use Rattle.semantics.proofs.SubstitutionLaws.{walk_followed}
 use Rattle.semantics.proofs.UnifyLaws.{LookRight, look_ok, bind_ok}
 use Rattle.semantics.proofs.UnifyLaws as laws
 use Rattle.engine.specs.Layout.{references}
-use Rattle.engine.specs.Reference.{at, AtomIs, base_of, Stands}
+use Rattle.engine.specs.Reference.{AtomIs, base_of, Stands}
 use Rattle.engine.specs.Memory.{trail_at, BindingsIn, bound}
-use Rattle.engine.specs.Walk.{PartRead, Binds, Follows}
+use Rattle.engine.specs.Walk.{PartRead, Follows}
 use Rattle.engine.specs.Occurs.{OccursAs}
 use Rattle.engine.specs.Scan.{scan_says}
 use Rattle.engine.specs.Unify.{BindsTo, PartsTo, LookedAs, TwoTerms, PairGoes, PairUnifiedAs}

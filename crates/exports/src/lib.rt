@@ -88,7 +88,7 @@ pub extern "C" fn kindcanvas_view(
     start: &mut usize,
     end: &mut usize,
 ) -> u32
-    ensures* { λ r. ⌜ view_call (find page.now answer) ≡ record { result = r; start = start.new; end = end.new } ⌝ }
+    ensures { view_call (find page.now answer) ≡ record { result = result; start = start.new; end = end.new } }
 {
     match page::find(page, answer) {
         Found::Part(from, to) => {

@@ -296,9 +296,13 @@ argument_equivariant N pairs bs cs s t k h = argument_like N pairs k h
 
 -- "binds each parameter to its argument"
 module _ (pass : Passing) (equivariant : Equivariant pass) (N : Renaming) (pairs : OneToOne N) where
+  params_like : (base base' new new' : ℕ) {ts us : List Term} {bs cs : Substitution} → ((i : ℕ) → i < length ts → N (new + i) (new' + i)) →
+      TermsLike (made_from N base base') ts us → BindingsLike N bs cs → BindingsLike N (bind_params_by pass new base ts bs) (bind_params_by pass new' base' us cs)
+  params_like base base' new new' f nil_like k = k
+  params_like base base' new new' {bs = bs} {cs} f (cons_like {a = s} {b = t} {xs = xs} h hs) k =
+      let first : N new new' = subst₂ N (omega arith) (omega arith) (f 0 (omega arith)) in
+      params_like base base' (suc new) (suc new') (λ i l. subst₂ N (omega arith) (omega arith) (f (suc i) (omega arith))) hs (cons_like (first, equivariant N pairs bs cs (shift base s) (shift base' t) k (shift_like base base' h)) k)
+
   pub bind_params_like : (new new' base base' : ℕ) {ts us : List Term} {bs cs : Substitution} → ((i : ℕ) → i < length ts → N (new + i) (new' + i)) →
       TermsLike (made_from N base base') ts us → BindingsLike N bs cs → BindingsLike N (bind_params_by pass new base ts bs) (bind_params_by pass new' base' us cs)
-  bind_params_like new new' base base' f nil_like k = k
-  bind_params_like new new' base base' {bs = bs} {cs} f (cons_like {a = s} {b = t} {xs = xs} h hs) k =
-      let first : N new new' = subst₂ N (omega arith) (omega arith) (f 0 (omega arith)) in
-      bind_params_like (suc new) (suc new') base base' (λ i l. subst₂ N (omega arith) (omega arith) (f (suc i) (omega arith))) hs (cons_like (first, equivariant N pairs bs cs (shift base s) (shift base' t) k (shift_like base base' h)) k)
+  bind_params_like new new' base base' = params_like base base' new new'

@@ -25,11 +25,11 @@ module _ (N : Renaming) (pairs : OneToOne N) where
   appear_like : {xs ys : List ℕ} {s t : Term} → NamesLike xs ys → TermLike N s t → NamesLike (appear xs s) (appear ys t)
   appear_like {xs} {ys} k (var_like {x} {y} h) = choose_like NamesLike (member x xs) (member y ys) _ _ _ _ (member_like N pairs x y h k) k (append_like k (cons_like h nil_like))
   appear_like k atom_like = k
-  appear_like k (pair_like h i) = appear_like (appear_like k h) i
+  appear_like {xs = xs} {ys = ys} k (pair_like {s = s} {t = t} {u = u} {v = v} h i) = appear_like {xs = appear xs s} {ys = appear ys u} {s = t} {t = v} (appear_like {xs = xs} {ys = ys} {s = s} {t = u} k h) i
 
   appear_all_like : {xs ys : List ℕ} {ss ts : List Term} → NamesLike xs ys → TermsLike N ss ts → NamesLike (appear_all xs ss) (appear_all ys ts)
   appear_all_like k nil_like = k
-  appear_all_like k (cons_like h hs) = appear_all_like (appear_like k h) hs
+  appear_all_like {xs = xs} {ys = ys} k (cons_like {a = s} {b = t} {xs = ss} {ys = ts} h hs) = appear_all_like {xs = appear xs s} {ys = appear ys t} {ss = ss} {ts = ts} (appear_like {xs = xs} {ys = ys} {s = s} {t = t} k h) hs
 
   pub index_like : (x y : ℕ) {xs ys : List ℕ} → N x y → NamesLike xs ys → index x xs ≡ index y ys
   index_like x y h nil_like = refl

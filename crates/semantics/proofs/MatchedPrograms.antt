@@ -56,6 +56,8 @@ module _ (M : ℕ → ℕ → Type 0) where
       where
         go : (P Q : Program) → Matching P Q → OptionLike RelationLike (get_elem? P 0) (get_elem? Q 0) → report_program_by (once pass) P round_limit step_limit output ≡ report_program_by (once pass) Q round_limit step_limit output
         go [] [] f none_like = refl
+        go [] (S ∷ Ss) f x4 = elim x4 [ ]
+        go (R ∷ Rs) [] f x4 = elim x4 [ ]
         go (R ∷ Rs) (S ∷ Ss) f (some_like h) = ap ran (matched_rounds (R ∷ Rs) (S ∷ Ss) f pass equivariant R S h step_limit round_limit 0 (usable output) step_limit 0 [])
 
     -- and so is the whole run of words that are read as these programs

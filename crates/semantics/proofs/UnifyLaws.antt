@@ -312,7 +312,7 @@ module _ (top : ℕ) where
       go (extend x u bs' l q p d) told ih =
           let b : Binds top bs (walk bs s) (walk bs t) x u = rw q at told in
           let k = bind_ok top bs good (walk bs s) (walk bs t) x u b left (some bs') l p in
-          leads_unified r (rw k.0 (binds_leads top bs s t ws x u b)) (rest_ok fuel ih bs' (rw k.0 (good, k.1)) ws l r left' (sym (d fuel) ∙ e))
+          leads_unified {ps = (s, t) ∷ ws} r (rw k.0 (binds_leads top bs s t ws x u b)) (rest_ok fuel ih bs' (rw k.0 (good, k.1)) ws l r left' (sym (d fuel) ∙ e))
       go (split a b c d q p i) told ih = let k = rw q at told in leads_unified r (parts_leads top bs s t ws a b c d k.0 k.1) (ih bs good ((b, d) ∷ ws) a c left r left' (sym (i fuel) ∙ e))
       go (jammed a b c d q p i) told ih = clash (cc (i fuel))
 

@@ -14,24 +14,24 @@ pub returns-then-page-at : goal.returns-then-page-at
 returns-then-page-at c = sym (page_ends c.args.page.now c.args.at c.if-page-at.true)
 
 pub returns-then-kind-ne-ANSWER : goal.returns-then-kind-ne-ANSWER
-returns-then-kind-ne-ANSWER c = 
+returns-then-kind-ne-ANSWER c =
     let kind_is : c.kind.result ≡ kind (get_or c.args.page.now c.args.at 0) = c.kind.ensures ∙ ap kind c.from_bits-header.ensures in
     sym (no_header c.args.page.now c.args.at c.if-page-at.false (λ e. c.if-kind-ne-ANSWER.true (kind_is ∙ e)))
 
 pub returns-then-left-words : goal.returns-then-left-words
-returns-then-left-words c = 
+returns-then-left-words c =
     let kind_is : c.kind.result ≡ kind (get_or c.args.page.now c.args.at 0) = c.kind.ensures ∙ ap kind c.from_bits-header.ensures in
-    let is_header : kind (get_or c.args.page.now c.args.at 0) ≡ 15 = sym (kind_is) ∙ c.if-kind-ne-ANSWER.false in
+    let is_header : kind (get_or c.args.page.now c.args.at 0) ≡ 15 = sym kind_is ∙ c.if-kind-ne-ANSWER.false in
     let payload_is : c.payload-words.result ≡ payload (get_or c.args.page.now c.args.at 0) = c.payload-words.ensures ∙ ap payload c.from_bits-header.ensures in
-    sym (overruns c.args.page.now c.args.at c.if-page-at.false (is_header)
+    sym (overruns c.args.page.now c.args.at c.if-page-at.false is_header
     (omega (arith, c.if-left-words.true, payload_is)))
 
 pub returns : goal.returns
-returns c = 
+returns c =
     let kind_is : c.kind.result ≡ kind (get_or c.args.page.now c.args.at 0) = c.kind.ensures ∙ ap kind c.from_bits-header.ensures in
-    let is_header : kind (get_or c.args.page.now c.args.at 0) ≡ 15 = sym (kind_is) ∙ c.if-kind-ne-ANSWER.false in
+    let is_header : kind (get_or c.args.page.now c.args.at 0) ≡ 15 = sym kind_is ∙ c.if-kind-ne-ANSWER.false in
     let payload_is : c.payload-words.result ≡ payload (get_or c.args.page.now c.args.at 0) = c.payload-words.ensures ∙ ap payload c.from_bits-header.ensures in
     let page = c.args.page.now in
     let at = c.args.at in
-    ap (λ (p : ℕ). part at (at + 1 + p)) (payload_is)
-    ∙ sym (is_whole page at c.if-page-at.false (is_header) (omega (arith, c.if-left-words.false, payload_is)))
+    ap (λ (p : ℕ). part at (at + 1 + p)) payload_is
+    ∙ sym (is_whole page at c.if-page-at.false is_header (omega (arith, c.if-left-words.false, payload_is)))

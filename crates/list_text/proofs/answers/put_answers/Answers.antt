@@ -1,0 +1,73 @@
+-- Answer after answer, as the walk over the page finds them.
+use Prim.Native.Nat.{ℕ, ◌+◌, ◌*◌, ◌-◌, ◌≤◌}
+use mathlib.Core.List.{List, map}
+use mathlib.Core.Path.{◌≡◌, ◌∙◌, refl, sym}
+use native.Mathlib.Omega.{arith}
+use lib.ListN.{length, length-drop, length-take}
+use Rattle.page.specs.Page.{answer_at, answers_left, answers_on, between, part, refused}
+use Rattle.page.proofs.AnswersLaws.{answers_step}
+use Rattle.page.proofs.WalkLaws.{Whole, whole_at}
+use Rattle.rules.specs.Lists.{joined}
+use Rattle.list_text.specs.Listing.{line}
+use Rattle.list_text.proofs.TextLaws.{Left, begin, done, step}
+use borrow.Author.Rules.{rules}
+use Rattle.list_text.proofs.answers.put_answers.Goals as goal
+
+pub loop-end-init : goal.loop-end-init
+loop-end-init c = (omega arith, omega arith, begin _ _ _, refl)
+
+pub offset_bounds-page-i : goal.offset_bounds-page-i
+offset_bounds-page-i c =
+    let found : answer_at c.args.page.now c.loop-end.i ≡ part c.in-Part.field-0 c.in-Part.end = sym (rw c.in-Part.is at c.answer_at.ensures) in
+    let whole : Whole c.args.page.now c.loop-end.i c.in-Part.end = (whole_at c.args.page.now c.loop-end.i c.in-Part.field-0 c.in-Part.end found).1 in
+    omega (arith, whole.on_page)
+
+pub slice_bounds-put_line-count : goal.slice_bounds-put_line-count
+slice_bounds-put_line-count c =
+    let found : answer_at c.args.page.now c.loop-end.i ≡ part c.in-Part.field-0 c.in-Part.end = sym (rw c.in-Part.is at c.answer_at.ensures) in
+    let whole : Whole c.args.page.now c.loop-end.i c.in-Part.end = (whole_at c.args.page.now c.loop-end.i c.in-Part.field-0 c.in-Part.end found).1 in
+    omega (arith, whole.is_end)
+
+pub slice_bounds-put_line-start : goal.slice_bounds-put_line-start
+slice_bounds-put_line-start c =
+    let found : answer_at c.args.page.now c.loop-end.i ≡ part c.in-Part.field-0 c.in-Part.end = sym (rw c.in-Part.is at c.answer_at.ensures) in
+    let whole : Whole c.args.page.now c.loop-end.i c.in-Part.end = (whole_at c.args.page.now c.loop-end.i c.in-Part.field-0 c.in-Part.end found).1 in
+    omega (arith, whole.is_end)
+
+pub slice_bounds-put_line-end : goal.slice_bounds-put_line-end
+slice_bounds-put_line-end c =
+    let found : answer_at c.args.page.now c.loop-end.i ≡ part c.in-Part.field-0 c.in-Part.end = sym (rw c.in-Part.is at c.answer_at.ensures) in
+    let whole : Whole c.args.page.now c.loop-end.i c.in-Part.end = (whole_at c.args.page.now c.loop-end.i c.in-Part.field-0 c.in-Part.end found).1 in
+    omega (arith, whole.fits)
+
+pub put_line-next-requires : goal.put_line-next-requires
+put_line-next-requires c =
+    let found : answer_at c.args.page.now c.loop-end.i ≡ part c.in-Part.field-0 c.in-Part.end = sym (rw c.in-Part.is at c.answer_at.ensures) in
+    let whole : Whole c.args.page.now c.loop-end.i c.in-Part.end = (whole_at c.args.page.now c.loop-end.i c.in-Part.field-0 c.in-Part.end found).1 in
+    let long : length (between c.args.page.now c.loop-end.i c.in-Part.end) ≡ c.in-Part.end - c.loop-end.i = simp (length-take, length-drop) (omega (arith, whole.fits)) in
+    (omega (arith, long, whole.is_end), omega (arith, long, whole.is_end, whole.fits, c.loop-end.invariant.1, c.requires))
+
+pub loop-end-smaller : goal.loop-end-smaller
+loop-end-smaller c =
+    let found : answer_at c.args.page.now c.loop-end.i ≡ part c.in-Part.field-0 c.in-Part.end = sym (rw c.in-Part.is at c.answer_at.ensures) in
+    let whole : Whole c.args.page.now c.loop-end.i c.in-Part.end = (whole_at c.args.page.now c.loop-end.i c.in-Part.field-0 c.in-Part.end found).1 in
+    omega (arith, whole.is_end, whole.fits)
+
+pub loop-end-preserved : goal.loop-end-preserved
+loop-end-preserved c =
+    let found : answer_at c.args.page.now c.loop-end.i ≡ part c.in-Part.field-0 c.in-Part.end = sym (rw c.in-Part.is at c.answer_at.ensures) in
+    let whole : Whole c.args.page.now c.loop-end.i c.in-Part.end = (whole_at c.args.page.now c.loop-end.i c.in-Part.field-0 c.in-Part.end found).1 in
+    let long : length (between c.args.page.now c.loop-end.i c.in-Part.end) ≡ c.in-Part.end - c.loop-end.i = simp (length-take, length-drop) (omega (arith, whole.fits)) in
+    let inv = c.loop-end.invariant in (
+      whole.fits,
+      omega (arith, long, whole.is_end, inv.1, c.put_line-next.ensures.1),
+      step (line (between c.args.page.now c.loop-end.i c.in-Part.end)) (rw (answers_step c.args.page.now c.loop-end.i (part c.in-Part.field-0 c.in-Part.end) found) at inv.2) c.put_line-next.ensures.0,
+      c.put_line-next.auto.out ∙ inv.3,
+    )
+
+pub shape_of-out-in-Refused : goal.shape_of-out-in-Refused
+shape_of-out-in-Refused c = c.loop-end.invariant.3
+
+pub returns-in-Refused : goal.returns-in-Refused
+returns-in-Refused c = let none = sym (rw c.in-Refused.is at c.answer_at.ensures) in
+    (done (rw (answers_step c.args.page.now c.loop-end.i (refused _ _) none) at c.loop-end.invariant.2), omega (arith, c.loop-end.invariant.0, c.loop-end.invariant.1, c.requires))

@@ -7,6 +7,8 @@ use std::fmt;
 
 /// The toolchain's own libraries. Another root that is no crate of this repository is a fault, so that no chain is lost.
 const LIBRARIES: [&str; 4] = ["Prim", "mathlib", "lib", "native"];
+/// The crates of the toolchain whose definitions this repository names.
+const LIBRARY_CRATES: [&str; 1] = ["std"];
 
 /// A public function with its contract, and the modules that the names in it are imported from.
 #[derive(Debug, PartialEq)]
@@ -14,7 +16,7 @@ pub struct Contract {
     pub function: String,
     pub requires: bool,
     pub ensures: bool,
-    /// As written, with the crate in front: `Rattle·engine·specs.specs.Report`.
+    /// As written, with the crate in front: `Rattle.engine.specs.Report`.
     pub imports: Vec<String>,
 }
 
@@ -54,9 +56,9 @@ fn code(text: &str, mark: &str) -> String {
     kept
 }
 
-/// The words of a name: `_≤_` is written around its operands, as `a ≤ b`, or whole.
+/// The words of a name: `◌≤◌` is written around its operands, as `a ≤ b`, or whole.
 fn words_of(name: &str) -> impl Iterator<Item = &str> {
-    name.split('_').filter(|word| !word.is_empty())
+    name.split('◌').filter(|word| !word.is_empty())
 }
 
 /// The words that `ghost use` lines bring in, each with the modules of the names that have it.
@@ -122,23 +124,30 @@ pub fn contracts(text: &str) -> Result<Vec<Contract>, String> {
             return Err(format!("{} fn", before.join(" ")));
         }
         let rest = &code[at + 3..];
-        let end = rest.find('(').ok_or("a function without parameters")?;
+        let end = rest
+            .find(['(', '<'])
+            .ok_or("a function without parameters")?;
         let function = rest[..end].trim();
-        let parameters = parameters(&rest[end..])?;
+        let parameters = parameters(&rest[end..]).map_err(|e| format!("{function}: {e}"))?;
         let mut contract = Contract {
             function: function.to_string(),
             requires: false,
             ensures: false,
             imports: Vec::new(),
         };
-        // A clause is a word and a part in braces; the first part without such a word is the body.
+        // A clause is a word, a name if there are several, and a part in braces; the first part without such a word is the body.
         let mut from = at;
         loop {
             let open = from + code[from..].find('{').ok_or("a function without a body")?;
-            let word = code[from..open].split_whitespace().last();
-            match word {
-                Some("requires") => contract.requires = true,
-                Some("ensures") => contract.ensures = true,
+            let before: Vec<&str> = code[from..open].split_whitespace().collect();
+            match before[..] {
+                [.., "requires" | "requires*"] | [.., "requires" | "requires*", _] => {
+                    contract.requires = true
+                }
+                [.., "ensures" | "ensures*"] | [.., "ensures" | "ensures*", _] => {
+                    contract.ensures = true
+                }
+                [.., "ghost", _] => return Err(format!("{function}: a ghost value")),
                 _ => break,
             }
             let close = closing(&code, open)?;
@@ -155,19 +164,25 @@ pub fn contracts(text: &str) -> Result<Vec<Contract>, String> {
     Ok(found)
 }
 
-/// The names of the parameters that `text` begins with, in parentheses.
+/// The names of the parameters that `text` begins with: of types, in angle brackets, if there are any, and then of values, in parentheses.
 fn parameters(text: &str) -> Result<BTreeSet<String>, String> {
-    let end = text.find(')').ok_or("parameters without their end")?;
-    let list = text[1..end].split(',').map(str::trim);
+    let (types, text) = match text.strip_prefix('<') {
+        Some(rest) => rest.split_once('>').ok_or("types without their end")?,
+        None => ("", text),
+    };
+    let values = text.strip_prefix('(').ok_or("types that cannot be read")?;
+    let end = values.find(')').ok_or("parameters without their end")?;
+    let list = types.split(',').chain(values[..end].split(','));
     Ok(list
+        .map(str::trim)
         .filter(|parameter| !parameter.is_empty())
         .map(|parameter| parameter.split(':').next().unwrap_or(parameter).trim())
         .map(|name| name.trim_start_matches("mut ").to_string())
         .collect())
 }
 
-/// What the language itself has: the value of a place, products, functions, records and their fields' equations, the types of bound names.
-const OF_THE_LANGUAGE: [&str; 8] = ["now", "×", "→", "record", "=", ":", ".", "λ"];
+/// What the language itself has: what a function returns, products, functions, records and their fields' equations, the types of bound names.
+const OF_THE_LANGUAGE: [&str; 7] = ["result", "×", "→", "record", "=", ":", "λ"];
 
 /// The modules of the imported names in a clause, and those that are named in full. A word that is neither imported nor a parameter, a bound name, a field or a number is a
 /// fault.
@@ -179,7 +194,7 @@ fn named(
     let spaced = clause.replace('λ', " λ ");
     let parts = |c: char| c.is_whitespace() || "(){}⌜⌝,;".contains(c);
     let written: Vec<&str> = spaced.split(parts).filter(|w| !w.is_empty()).collect();
-    // `λ r. …` binds r up to the clause's end, and `record { a = … }` has the field a
+    // `λ n. …` binds n up to the clause's end, and `record { a = … }` has the field a
     let bound = |word: &str| {
         written
             .windows(2)
@@ -188,12 +203,12 @@ fn named(
     let mut modules = in_full(clause);
     for (i, word) in written.iter().enumerate() {
         let field = word.starts_with('.') || written.get(i + 1) == Some(&"=");
-        let full = word.starts_with("Rattle·");
+        let full = word.starts_with("Rattle.");
         let number = word.chars().all(|c| c.is_ascii_digit());
-        if field || full || number || OF_THE_LANGUAGE.contains(word) {
+        let first = word.split('.').next().unwrap_or(word);
+        if field || full || number || OF_THE_LANGUAGE.contains(&first) {
             continue;
         }
-        let first = word.split('.').next().unwrap_or(word);
         for part in words_of(first) {
             match words.get(part) {
                 Some(of) => modules.extend(of.iter().cloned()),
@@ -208,7 +223,7 @@ fn named(
 /// The paths of modules of crates that stand in some code.
 fn in_full(code: &str) -> Vec<String> {
     let end = |c: char| c.is_whitespace() || "(){},;".contains(c);
-    code.match_indices("Rattle·")
+    code.match_indices("Rattle.")
         .map(|(at, _)| {
             code[at..]
                 .split(end)
@@ -249,11 +264,14 @@ pub fn named_by(text: &str) -> Vec<String> {
     in_full(&code(text, "//"))
 }
 
-/// Is this a path of a crate's proofs, `Rattle·X.proofs` from another crate or `Rattle·X·proofs` from its own?
+/// Is this a path of the proofs of a crate of this repository, `Rattle.X.proofs`?
 pub fn of_proofs(path: &str) -> bool {
     let mut parts = path.split('.');
-    let root = parts.next().unwrap_or("");
-    root.starts_with("Rattle·") && (root.ends_with("·proofs") || parts.next() == Some("proofs"))
+    parts.next() == Some("Rattle")
+        && parts
+            .next()
+            .is_some_and(|krate| !LIBRARY_CRATES.contains(&krate))
+        && parts.next() == Some("proofs")
 }
 
 /// Where a path leads; `is_module` says whether a crate's `specs/` has a module of that name.
@@ -263,14 +281,17 @@ pub fn resolve(path: &str, is_module: &dyn Fn(&Module) -> bool) -> Result<Import
     }
     let mut parts = path.split('.');
     let root = parts.next().unwrap_or("");
-    let Some(krate) = root.strip_prefix("Rattle·") else {
+    if root != "Rattle" {
         return if LIBRARIES.contains(&root) {
             Ok(Import::Leaf)
         } else {
             Err(format!("{path} is of no known library"))
         };
-    };
-    let krate = krate.split('·').next().unwrap_or("").to_string();
+    }
+    let krate = parts.next().unwrap_or("").to_string();
+    if LIBRARY_CRATES.contains(&krate.as_str()) {
+        return Ok(Import::Leaf);
+    }
     match (parts.next(), parts.next()) {
         (Some("specs"), Some("declared")) => Ok(Import::Leaf),
         (Some("specs"), Some(name)) => {

@@ -16,7 +16,7 @@ use Rattle.semantics.specs.Logic.{AllProper, Assignment, Holds, Proper, Tree, fi
 use Rattle.semantics.specs.Path.{Path}
 use Rattle.semantics.specs.Review.{clashes}
 use Rattle.semantics.specs.Shows.{Shows, payloads, read_answer}
-use Rattle.semantics.specs.Steps.{done, goals}
+use Rattle.semantics.specs.Steps.{done}
 use Rattle.semantics.specs.Substitution.{Substitution, resolve, walk}
 use Rattle.semantics.proofs.Basics.{each_map}
 use Rattle.semantics.proofs.Fill.{Among, Filled, LineGood, Met, among_left, among_right, among_self, atom_payload, atom_payload_one, differs_in, filled, met_agrees, some_filled, values_agree}

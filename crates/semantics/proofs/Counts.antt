@@ -12,7 +12,6 @@ use Rattle.rules.specs.Syntax.{Constraint, Goal, Program, Relation, Term, absent
 use Rattle.semantics.specs.Answer.{all_lines, answer, lines_of, look_through, parameters, trial_bindings, trial_lines}
 use Rattle.semantics.specs.Path.{ChoicePoint, Path, Taken, Passing, bound_to, called, cut, equal_taken, goals_count, goes, keeping, leaves, make_call, make_call_by, take_goal, taken, taken_by, within}
 use Rattle.semantics.specs.Review.{review, review_all, reviewed, trial_fails}
-use Rattle.semantics.specs.Round.{broken}
 use Rattle.semantics.specs.Steps.{Bound, Outcome, constraints, disjunctions, goals, most, variables}
 use Rattle.semantics.specs.Substitution.{Substitution, shift, shift_constraint}
 use Rattle.semantics.specs.Unify.{is_atom, never, scan, unify_terms}

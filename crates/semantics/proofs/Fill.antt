@@ -16,7 +16,7 @@ use Rattle.semantics.specs.Answer.{Line, bindings_in, is_sort, lacks, line_in, n
 use Rattle.semantics.specs.Unify.{member}
 use Rattle.semantics.specs.Invariant.{Sat}
 use Rattle.semantics.specs.Logic.{Assignment, Lacks, OfSort, Proper, Tree, leaf, node, value}
-use Rattle.semantics.proofs.Basics.{and_true, clash, each_append, each_map, one_of, or_right, same}
+use Rattle.semantics.proofs.Basics.{and_true, clash, each_append, each_map, one_of, or_right}
 use Rattle.semantics.proofs.Fresh.{Free, fresh}
 
 -- what a line says

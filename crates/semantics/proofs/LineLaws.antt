@@ -22,7 +22,6 @@ use Rattle.semantics.specs.Substitution.{Substitution, resolve, walk}
 use Rattle.semantics.specs.Unify.{is_atom, member, never, scan, unify_terms}
 use Rattle.semantics.proofs.Basics.{clash, each_append, each_map, each_reverse, one_of}
 use Rattle.semantics.proofs.Fill.{Among, Fit, LineGood, Met, atom_payload, differs_in}
-use Rattle.semantics.proofs.Fresh.{fresh}
 use Rattle.semantics.proofs.StepLaws.{done_value, through}
 use Rattle.semantics.proofs.SubstitutionLaws.{Seen, complete, complete_open, open_tail, resolve_in, resolve_opened, resolve_opens, value_complete, value_resolve, value_walk, walk_in, walk_seen}
 use Rattle.semantics.proofs.TermLaws.{lacks_term, replace, replace_other, vars_below}

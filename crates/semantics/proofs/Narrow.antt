@@ -15,7 +15,6 @@ use Rattle.semantics.specs.Invariant.{ConstraintIn, Passes, Sat, Sound, TermIn}
 use Rattle.semantics.specs.Logic.{AllProper, Assignment, Meets, value}
 use Rattle.semantics.specs.Path.{ChoicePoint, Path, Taken, bound_to, cut, equal_taken, goes, keeping, leaves, take_constraint, take_equal}
 use Rattle.semantics.specs.Review.{review, review_all}
-use Rattle.semantics.specs.Round.{broken}
 use Rattle.semantics.specs.Steps.{Outcome, and_then, done, stop}
 use Rattle.semantics.specs.Substitution.{Substitution}
 use Rattle.semantics.specs.Unify.{unify_terms}

@@ -10,7 +10,7 @@ use lib.Dec.{ltb}
 use lib.ListN.{length, length-append}
 use lib.Seq.{take_at}
 use borrow.Author.Tests.{eqb-true}
-use Rattle.rules.specs.Reading.{choose, found}
+use Rattle.rules.specs.Reading.{choose}
 use Rattle.rules.specs.Syntax.{Term, atom, pair, var}
 use Rattle.semantics.specs.Answer.{resolve_right, trial_bindings}
 use Rattle.semantics.specs.Invariant.{Fits, Good, In, Open, Sat, TermIn}

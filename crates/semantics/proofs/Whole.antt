@@ -8,16 +8,13 @@ use native.Mathlib.Decide.{dec_le, dec_lt}
 use native.Mathlib.Omega.{arith}
 use Rattle.rules.specs.Lists.{Each, Some}
 use Rattle.rules.specs.Syntax.{Program, Relation}
-use Rattle.rules.specs.Written.{written}
 use Rattle.semantics.specs.Demand.{AnswerRight, Completed, Demand3, ShowsIn, ShowsIt, ShowsUpTo}
 use Rattle.semantics.specs.Invariant.{ProgramIn, RelationIn, StateFine}
 use Rattle.semantics.specs.Logic.{Assignment, Gives, Holds, Tree}
 use Rattle.semantics.specs.Round.{Answer, End, Result, Rounded, Tally, after_cuts, after_round, broken, completed, finished, one_round, result, rounds, rounds_used, start}
 use Rattle.semantics.proofs.Basics.{clash, each_append, each_map, some_both, some_each, some_left, some_map}
 use Rattle.semantics.proofs.Cover.{Covers, ◌⇔◌}
-use Rattle.semantics.proofs.Names.{inner}
 use Rattle.semantics.proofs.Sound.{sound_start}
-use Rattle.semantics.proofs.SubstitutionLaws.{complete}
 use Rattle.semantics.proofs.TermLaws.{from}
 use Rattle.semantics.proofs.Turn.{Breaks, Right, RoundedWell, Written, completed_before, open_of, search_well}
 

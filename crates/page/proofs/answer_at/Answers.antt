@@ -1,9 +1,7 @@
 -- `answer_at` finds what `answer_at` does: at each `return` the tests that led there say which case holds.
-use borrow.Author.Rules.{rules}
 use mathlib.Core.Path.{◌≡◌, ◌∙◌, ap, sym}
 use native.Mathlib.Omega.{arith}
 use Prim.Native.Nat.{ℕ, ◌+◌}
-use mathlib.Core.List.{List}
 use lib.ListN.{get_or}
 use Rattle.word.specs.Word.{kind, payload}
 use Rattle.page.specs.Page.{part}

@@ -1,9 +1,7 @@
 -- `view` gives the words of what `find` finds, where they stand; an answer that is found is on the page whole.
-use borrow.Author.Rules.{rules}
 use Prim.Native.Nat.{ℕ, ◌+◌, ◌*◌}
 use mathlib.Core.Path.{◌≡◌, ◌∙◌, ap, sym}
 use native.Mathlib.Omega.{arith}
-use mathlib.Core.List.{List}
 use Rattle.page.specs.Page.{find, part, part_ptr, part_words}
 use Rattle.page.proofs.WalkLaws.{Whole, walked_whole}
 use Rattle.page.proofs.view.Goals as goal

@@ -2,7 +2,6 @@
 use mathlib.Core.Path.{sym, ap, ◌∙◌}
 use Rattle.rules.specs.Verdict.{said}
 use Rattle.rules.proofs.Checked.{count_low, count_high, structure_stops, structure_ends}
-use borrow.Author.Rules.{rules}
 use Rattle.rules.proofs.check.Goals as goal
 
 pub returns-then-program-lt1 : goal.returns-then-program-lt1

@@ -2,7 +2,6 @@
 use mathlib.Core.Path.{sym, ◌∙◌}
 use native.Mathlib.Omega.{arith}
 use Rattle.rules.proofs.Pass.{item_inside, call_inside, call_terms, call_params, call_missing, call_wrong, call_right}
-use borrow.Author.Rules.{rules}
 use Rattle.rules.proofs.calls.check_call.Goals as goal
 
 pub part_at-requires : goal.part_at-requires

@@ -1,15 +1,8 @@
 -- `check_calls` goes through the items of the program to the first fault of a call.
-use mathlib.Core.Path.{◌≡◌, sym, ap, ◌∙◌}
-use mathlib.Core.List.{List}
-use Prim.Native.Nat.{◌-◌}
+use mathlib.Core.Path.{sym, ap, ◌∙◌}
 use native.Mathlib.Omega.{arith}
-use borrow.Author.Rules.{rules}
-use lib.ListN.{length}
-use Rattle.rules.specs.Syntax.{Program}
-use Rattle.rules.specs.Calls.{relations_fault}
 use Rattle.rules.specs.Accept.{judge}
 use Rattle.rules.specs.Verdict.{said}
-use Rattle.rules.specs.Inner.{RelationsAt, Item, Rest, items_fault}
 use Rattle.rules.proofs.Pass.{start_items, next_item, items_none}
 use Rattle.rules.proofs.calls.check_calls.Goals as goal
 

@@ -1,11 +1,5 @@
 -- `count_terms` counts the terms that fill a part.
-use mathlib.Core.Path.{◌≡◌}
-use mathlib.Core.List.{List}
-use Prim.Native.Nat.{◌+◌, ◌-◌, ◌≤◌}
 use native.Mathlib.Omega.{arith}
-use lib.ListN.{length}
-use Rattle.rules.specs.Syntax.{Term}
-use Rattle.rules.specs.Inner.{GoodTermsAt}
 use Rattle.rules.proofs.Pass.{term_first, term_rest, terms_none}
 use Rattle.rules.proofs.calls.count_terms.Goals as goal
 

@@ -2,11 +2,9 @@
 use mathlib.Core.Path.{◌≡◌}
 use mathlib.Core.List.{List}
 use Prim.Native.Nat.{◌+◌, ◌-◌, ◌≤◌}
-use native.Mathlib.Omega.{arith}
 use lib.ListN.{length}
 use Rattle.rules.specs.Syntax.{Term}
 use Rattle.rules.specs.Inner.{GoodTermsAt}
-use Rattle.rules.proofs.Pass.{term_first, term_rest, terms_none}
 use Rattle.rules.proofs.calls.count_terms.Given as goal
 
 abbrev pub invariant-loop-at : goal.invariant-loop-at

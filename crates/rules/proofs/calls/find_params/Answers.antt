@@ -1,11 +1,7 @@
 -- `find_params` goes from relation to relation to the wanted one.
 use mathlib.Core.Path.{refl}
-use Prim.Native.Nat.{◌-◌}
 use native.Mathlib.Omega.{arith}
-use lib.ListN.{length}
-use Rattle.rules.specs.Syntax.{Program}
-use Rattle.rules.specs.Inner.{RelationsAt}
-use Rattle.rules.proofs.Pass.{Seeking, relation_inside, relation_within, seek_here, seek_on, seek_none}
+use Rattle.rules.proofs.Pass.{relation_inside, relation_within, seek_here, seek_on, seek_none}
 use Rattle.rules.proofs.calls.find_params.Goals as goal
 
 pub loop-at-init : goal.loop-at-init

@@ -1,11 +1,6 @@
 -- `skip_term` goes past the term at a place: from second part to second part, then past the last.
-use mathlib.Core.Path.{◌≡◌, refl, ◌∙◌}
-use Prim.Native.Nat.{◌+◌, ◌-◌}
+use mathlib.Core.Path.{refl, ◌∙◌}
 use native.Mathlib.Omega.{arith}
-use lib.ListN.{length}
-use Rattle.rules.specs.Syntax.{Term}
-use Rattle.rules.specs.Written.{term_words}
-use Rattle.rules.specs.Inner.{GoodTermAt}
 use Rattle.rules.proofs.Pass.{term_inside, skip_pair, skip_leaf}
 use Rattle.rules.proofs.calls.skip_term.Goals as goal
 

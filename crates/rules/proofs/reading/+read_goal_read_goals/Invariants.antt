@@ -1,10 +1,8 @@
 -- `read_goal` and `read_goals` read a goal and a sequence of goals, as `read_goal` and `read_goals` say. They call each other with fewer words left.
 use mathlib.Core.List.{List}
-use Prim.Native.Nat.{◌<◌, ◌≤◌, ◌+◌, ◌*◌, ◌-◌}
-use native.Mathlib.Omega.{arith}
-use borrow.Author.Rules.{rules}
+use Prim.Native.Nat.{◌≤◌, ◌+◌, ◌*◌, ◌-◌}
 use Rattle.rules.specs.Inner.{ReadOutcome}
-use Rattle.rules.proofs.Readers.{goal_missing, goal_low, goal_high, goal_overrun, goal_two, goal_one, goal_absento, goal_call, goal_nested, goal_ahead, GoalsTold, goals_stop, goals_last, goals_next}
+use Rattle.rules.proofs.Readers.{GoalsTold}
 use Prim.Native.Nat.{ℕ}
 use Rattle.rules.proofs.reading.+read_goal_read_goals.Given as goal
 

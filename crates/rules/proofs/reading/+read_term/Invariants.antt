@@ -1,10 +1,8 @@
 -- `read_term` reads a term as `read_term` says. Recursion falls by the words left, and the loop goes from second part to second part.
 use mathlib.Core.List.{List}
-use Prim.Native.Nat.{◌<◌, ◌≤◌, ◌-◌}
-use native.Mathlib.Omega.{arith}
-use borrow.Author.Rules.{rules}
+use Prim.Native.Nat.{◌≤◌, ◌-◌}
 use Rattle.rules.specs.Inner.{ReadOutcome}
-use Rattle.rules.proofs.Readers.{TermTold, term_missing, term_kind, term_leaf, term_overrun, term_first_stops, term_second}
+use Rattle.rules.proofs.Readers.{TermTold}
 use Prim.Native.Nat.{ℕ}
 use Rattle.rules.proofs.reading.+read_term.Given as goal
 

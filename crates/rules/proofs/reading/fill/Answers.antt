@@ -1,6 +1,5 @@
 -- `fill` refuses words left over, as `filled_told` says.
 use borrow.Author.Tests.{le-leb, lt-leb}
-use borrow.Author.Rules.{rules}
 use Rattle.rules.proofs.reading.fill.Goals as goal
 
 pub returns-then-next-end : goal.returns-then-next-end

@@ -1,6 +1,5 @@
 -- `read_absento` reads a tag and a term that fill their part, as `read_absento` says.
 use Rattle.rules.proofs.Readers.{absento_stops, absento_rest}
-use borrow.Author.Rules.{rules}
 use Rattle.rules.proofs.reading.read_absento.Goals as goal
 
 pub returns-in-Refused : goal.returns-in-Refused

@@ -1,6 +1,5 @@
 -- `read_body` reads a goal that fills its part, as `read_body` says.
 use Rattle.rules.proofs.Readers.{body_told}
-use borrow.Author.Rules.{rules}
 use Rattle.rules.proofs.reading.read_body.Goals as goal
 
 pub returns : goal.returns

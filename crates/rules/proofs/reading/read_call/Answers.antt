@@ -1,6 +1,5 @@
 -- `read_call` reads a relation's number and the arguments of a call, as `read_call` says.
 use Rattle.rules.proofs.Readers.{call_stops, call_rest}
-use borrow.Author.Rules.{rules}
 use Rattle.rules.proofs.reading.read_call.Goals as goal
 
 pub returns-in-Refused : goal.returns-in-Refused

@@ -1,5 +1,4 @@
 -- `read_leaf` reads a variable or an atom as `read_leaf` says.
-use borrow.Author.Rules.{rules}
 use borrow.Author.Tests.{le-ltb, lt-ltb, eq-eqb, ne_eqb}
 use Rattle.rules.proofs.Readers.{leaf_variable, leaf_empty, leaf_atom}
 use Rattle.rules.proofs.reading.read_leaf.Goals as goal

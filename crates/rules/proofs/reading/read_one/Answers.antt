@@ -1,6 +1,5 @@
 -- `read_one` reads one term that fills its part, as `read_one` says.
 use Rattle.rules.proofs.Readers.{one_told}
-use borrow.Author.Rules.{rules}
 use Rattle.rules.proofs.reading.read_one.Goals as goal
 
 pub returns : goal.returns

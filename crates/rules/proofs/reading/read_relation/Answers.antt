@@ -1,7 +1,6 @@
 -- `read_relation` reads a relation, as `read_relation` says.
 use native.Mathlib.Omega.{arith}
 use Rattle.rules.proofs.Readers.{word_read, relation_kind, relation_overrun, relation_many, relation_stops, relation_rest}
-use borrow.Author.Rules.{rules}
 use Rattle.rules.proofs.reading.read_relation.Goals as goal
 
 pub returns-then-part-ne-RELATION : goal.returns-then-part-ne-RELATION

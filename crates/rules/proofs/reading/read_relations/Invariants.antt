@@ -1,10 +1,8 @@
 -- `read_relations` reads all relations, as `read_relations` says.
 use Prim.Native.Nat.{◌-◌}
-use native.Mathlib.Omega.{arith}
-use borrow.Author.Rules.{rules}
 use lib.ListN.{length}
 use Rattle.rules.specs.Inner.{ReadOutcome}
-use Rattle.rules.proofs.Readers.{RelationsTold, relations_end, relations_stop, relations_next, relation_ahead}
+use Rattle.rules.proofs.Readers.{RelationsTold}
 use Rattle.rules.proofs.reading.read_relations.Given as goal
 
 abbrev pub invariant-loop-at : goal.invariant-loop-at

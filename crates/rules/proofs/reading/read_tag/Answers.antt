@@ -1,6 +1,5 @@
 -- `read_tag` reads a tag as `read_tag` says.
 use Rattle.rules.proofs.Readers.{tag_symbol, tag_number}
-use borrow.Author.Rules.{rules}
 use Rattle.rules.proofs.reading.read_tag.Goals as goal
 
 pub returns-in-Done : goal.returns-in-Done

@@ -1,9 +1,6 @@
 -- `read_terms` reads terms up to the end of their part, as `read_terms` says.
-use Prim.Native.Nat.{◌-◌}
 use native.Mathlib.Omega.{arith}
-use borrow.Author.Rules.{rules}
-use Rattle.rules.specs.Inner.{ReadOutcome}
-use Rattle.rules.proofs.Readers.{TermsTold, terms_end, terms_stop, terms_next, term_ahead}
+use Rattle.rules.proofs.Readers.{terms_end, terms_stop, terms_next, term_ahead}
 use Rattle.rules.proofs.reading.read_terms.Goals as goal
 
 pub loop-at-init : goal.loop-at-init

@@ -1,6 +1,5 @@
 -- `read_two` reads two terms that fill their part, as `read_two` says.
 use Rattle.rules.proofs.Readers.{two_stops, two_rest}
-use borrow.Author.Rules.{rules}
 use Rattle.rules.proofs.reading.read_two.Goals as goal
 
 pub returns-in-Refused : goal.returns-in-Refused

@@ -1,7 +1,6 @@
 -- `read_variables` reads the variables word and the goal of a relation, as `read_variables` says.
 use native.Mathlib.Omega.{arith}
 use Rattle.rules.proofs.Readers.{word_read, variables_stop, variables_many, variables_few, variables_rest}
-use borrow.Author.Rules.{rules}
 use Rattle.rules.proofs.reading.read_variables.Goals as goal
 
 pub part_at-vars-requires : goal.part_at-vars-requires

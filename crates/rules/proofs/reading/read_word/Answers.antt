@@ -1,5 +1,4 @@
 -- `read_word` reads a word of one kind as `read_word` says.
-use borrow.Author.Rules.{rules}
 use Rattle.rules.proofs.Readers.{word_missing, word_wrong, word_right}
 use Rattle.rules.proofs.reading.read_word.Goals as goal
 

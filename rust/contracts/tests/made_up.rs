@@ -5,19 +5,19 @@ use std::collections::BTreeMap;
 
 const CODE: &str = "\
 // pub fn in a comment { }
-ghost use mathlib.Core.Path.{_≡_};
-ghost use Rattle·house·specs.specs.Door.{Open, wide as broad};
-ghost use Rattle·house·specs.specs.Roof as roof;
-ghost use Rattle·house·specs.specs.Cellar.{Deep};
+ghost use Rattle.std.specs.Prelude.{◌≡◌};
+ghost use Rattle.house.specs.Door.{Open, wide as broad};
+ghost use Rattle.house.specs.Roof as roof;
+ghost use Rattle.house.specs.Cellar.{Deep};
 
 pub fn enter(door: u32) -> u32
-    ensures { λ r. ⌜ Open door (record { a = r }) × (r ≡ door) ⌝ }
+    ensures { Open door (record { a = result }) × (result ≡ door) }
 {
     door
 }
 
 pub(crate) fn dig(n: u32) -> u32
-    requires { ⌜ Deep n ⌝ }
+    requires { Deep n }
 {
     n
 }
@@ -27,8 +27,8 @@ impl House {
         self,
         n: u32,
     ) -> u32
-        requires { ⌜ broad n ⌝ }
-        ensures { λ r. ⌜ r ≡ roof.top n ⌝ }
+        requires { broad n }
+        ensures { result ≡ roof.top n }
     {
         if n == 0 { 0 } else { n }
     }
@@ -64,14 +64,14 @@ fn public_functions_are_found_with_their_imports() {
     );
     assert_eq!(
         found[0].imports,
-        ["Rattle·house·specs.specs.Door", "mathlib.Core.Path"]
+        ["Rattle.house.specs.Door", "Rattle.std.specs.Prelude"]
     );
     assert_eq!(
         found[1].imports,
         [
-            "Rattle·house·specs.specs.Door",
-            "mathlib.Core.Path",
-            "Rattle·house·specs.specs.Roof"
+            "Rattle.house.specs.Door",
+            "Rattle.std.specs.Prelude",
+            "Rattle.house.specs.Roof"
         ]
     );
     assert!(found[2].imports.is_empty());
@@ -81,47 +81,94 @@ fn public_functions_are_found_with_their_imports() {
 #[test]
 fn names_of_several_words_are_found() {
     let text = "\
-ghost use mathlib.Core.Path.{_≡_};
-ghost use Rattle·house·specs.specs.Gate.{_is_of_, _⊑_};
+ghost use Rattle.std.specs.Prelude.{◌≡◌};
+ghost use Rattle.house.specs.Gate.{◌is◌of◌, ◌⊑◌};
 
 pub fn enter(a: u32, b: u32) -> u32
-    ensures { λ r. ⌜ (a is r of b) × (r ≡ r) ⌝ }
+    ensures { (a is result of b) × (result ≡ result) }
 {
     a
 }
 
 pub fn leave(a: u32, b: u32) -> u32
-    ensures { λ r. ⌜ (_⊑_ a b) × (r ≡ r) ⌝ }
+    ensures { (◌⊑◌ a b) × (result ≡ result) }
 {
     b
 }
 ";
     for contract in contracts(text).unwrap() {
-        let gate = "Rattle·house·specs.specs.Gate".to_string();
+        let gate = "Rattle.house.specs.Gate".to_string();
         assert!(contract.imports.contains(&gate), "{contract:?}");
     }
+}
+
+/// A function may have several clauses of a kind, each with a name, and every one of them is read.
+#[test]
+fn named_clauses_are_read() {
+    let text = "\
+ghost use Rattle.std.specs.Prelude.{◌≡◌, ◌<◌};
+ghost use Rattle.house.specs.Door.{Open};
+ghost use Rattle.house.specs.Roof.{covers_all};
+ghost use Rattle.garden.specs.Gate.{Gate};
+ghost use Rattle.garden.specs.Wall as wall;
+ghost use Rattle.garden.specs.Shed;
+
+pub fn enter(doors: &[u32], n: &mut u32) -> u32
+    requires few { n.old < 9 }
+    requires open { Open doors.now }
+    ensures same { n.new ≡ n.old }
+    ensures gate { (Gate result).width ≡ (wall.of n.new).width }
+    ensures shed { Shed.each (λ x. x ≡ result) doors.now }
+{
+    if *n < 9 { 0 } else { 1 }
+}
+
+pub fn leave(
+    n: u32,
+) -> u32
+    ensures {
+        covers_all result
+    }
+{
+    n
+}
+";
+    let found = contracts(text).unwrap();
+    assert!(found[0].requires && found[0].ensures);
+    assert_eq!(
+        found[0].imports,
+        [
+            "Rattle.std.specs.Prelude",
+            "Rattle.house.specs.Door",
+            "Rattle.garden.specs.Gate",
+            "Rattle.garden.specs.Wall",
+            "Rattle.garden.specs.Shed"
+        ]
+    );
+    assert!(!found[1].requires && found[1].ensures);
+    assert_eq!(found[1].imports, ["Rattle.house.specs.Roof"]);
 }
 
 #[test]
 fn imports_of_definitions_are_read() {
     let text = "\
--- use Rattle·house·specs.specs.Comment.{x}
+-- use Rattle.house.specs.Comment.{x}
 use Prim.Native.Nat.{ℕ}
-use Rattle·house·specs.specs.Door as door
-  use Rattle·garden.specs.Gate.{Gate}
+use Rattle.house.specs.Door as door
+  use Rattle.garden.specs.Gate.{Gate}
 unfoldable pub use Inner.*
-a : Rattle·garden.proofs.Path.Walks 0
+a : Rattle.garden.proofs.Path.Walks 0
 ";
     assert_eq!(
         imports(text),
         [
             "Prim.Native.Nat",
-            "Rattle·house·specs.specs.Door",
-            "Rattle·garden.specs.Gate",
+            "Rattle.house.specs.Door",
+            "Rattle.garden.specs.Gate",
             "Inner.*",
-            "Rattle·house·specs.specs.Door",
-            "Rattle·garden.specs.Gate",
-            "Rattle·garden.proofs.Path.Walks"
+            "Rattle.house.specs.Door",
+            "Rattle.garden.specs.Gate",
+            "Rattle.garden.proofs.Path.Walks"
         ]
     );
 }
@@ -129,26 +176,35 @@ a : Rattle·garden.proofs.Path.Walks 0
 #[test]
 fn a_chain_into_proofs_is_found() {
     let texts = texts(&[
-        ("house", "Door", "use Rattle·house·specs.specs.Lock.{Lock}\nuse Rattle·garden.specs.Gate as gate\n"),
-        ("house", "Lock", "use Rattle·house·specs.specs.Door.{Door}\nuse Rattle·house·specs.specs.declared.Key.{Key}\n"),
-        ("garden", "Gate", "use lib.ListN.{length}\nuse Rattle·garden·specs.specs.Wall.{Wall}\n"),
-        ("garden", "Wall", "use Rattle·house.proofs.Laws.{Stands}\n"),
-        ("garden", "Shed", "use Rattle·garden·proofs.proofs.Laws.{Stands}\n"),
+        (
+            "house",
+            "Door",
+            "use Rattle.house.specs.Lock.{Lock}\nuse Rattle.garden.specs.Gate as gate\n",
+        ),
+        (
+            "house",
+            "Lock",
+            "use Rattle.house.specs.Door.{Door}\nuse Rattle.house.specs.declared.Key.{Key}\n",
+        ),
+        (
+            "garden",
+            "Gate",
+            "use lib.ListN.{length}\nuse Rattle.garden.specs.Wall.{Wall}\n",
+        ),
+        ("garden", "Wall", "use Rattle.house.proofs.Laws.{Stands}\n"),
+        ("garden", "Shed", "use Rattle.garden.proofs.Laws.{Stands}\n"),
     ]);
     let from = |path: &str| walk(&[path.to_string()], &texts).unwrap();
-    let house = from("Rattle·house·specs.specs.Door");
+    let house = from("Rattle.house.specs.Door");
     let chain = [
         "house/specs/Door",
         "garden/specs/Gate",
         "garden/specs/Wall",
-        "Rattle·house.proofs.Laws",
+        "Rattle.house.proofs.Laws",
     ];
     assert_eq!(house.into_proofs, [chain.map(String::from)]);
     assert_eq!(house.modules.len(), 4);
-    for path in [
-        "Rattle·garden.specs.Shed",
-        "Rattle·garden·proofs.proofs.Laws",
-    ] {
+    for path in ["Rattle.garden.specs.Shed", "Rattle.garden.proofs.Laws"] {
         assert_eq!(from(path).into_proofs.len(), 1, "{path}");
     }
 }
@@ -157,13 +213,13 @@ fn a_chain_into_proofs_is_found() {
 #[test]
 fn what_code_names_of_proofs_is_found() {
     let text = "\
-// ghost use Rattle·house.proofs.Comment.{x};
-ghost use Rattle·house.proofs.Laws.{Stands};
-ghost use Rattle·house·proofs.proofs.Laws as laws;
-ghost use Rattle·house·specs.specs.Door.{Open};
+// ghost use Rattle.house.proofs.Comment.{x};
+ghost use Rattle.house.proofs.Laws.{Stands};
+ghost use Rattle.house.proofs.Laws as laws;
+ghost use Rattle.house.specs.Door.{Open};
 
 pub(crate) fn enter(door: u32) -> u32
-    requires { ⌜ Open door × Rattle·garden.proofs.Wall.High door ⌝ }
+    requires { Open door × Rattle.garden.proofs.Wall.High door }
 {
     door
 }
@@ -175,27 +231,47 @@ pub(crate) fn enter(door: u32) -> u32
     assert_eq!(
         proofs,
         [
-            "Rattle·house.proofs.Laws",
-            "Rattle·house·proofs.proofs.Laws",
-            "Rattle·garden.proofs.Wall.High"
+            "Rattle.house.proofs.Laws",
+            "Rattle.house.proofs.Laws",
+            "Rattle.garden.proofs.Wall.High"
         ]
     );
-    for path in ["Rattle·house.specs.proofs", "mathlib.proofs.List"] {
+    for path in ["Rattle.house.specs.proofs", "mathlib.proofs.List"] {
         assert!(!of_proofs(path), "{path}");
     }
+}
+
+/// The kit's own library has paths like a crate's, and its `proofs` are none of ours.
+#[test]
+fn a_library_of_the_kit_is_no_crate() {
+    let none = |_: &Module| false;
+    for path in [
+        "Rattle.std.specs.Prelude",
+        "Rattle.std.proofs.Common",
+        "Rattle.std.proofs.lemmas.List.Edits",
+    ] {
+        assert!(!of_proofs(path), "{path}");
+        assert_eq!(resolve(path, &none), Ok(Import::Leaf), "{path}");
+    }
+    for path in ["Rattle.stdlib.proofs.Common", "Rattle.house.proofs.std"] {
+        assert!(of_proofs(path), "{path}");
+        assert_eq!(resolve(path, &none), Ok(Import::Proofs), "{path}");
+    }
+    assert!(resolve("Rattle.io.specs.Io", &none).is_err());
+    assert!(resolve("std.specs.Prelude", &none).is_err());
 }
 
 #[test]
 fn a_tree_without_such_a_chain_passes() {
     let texts = texts(&[
-        ("house", "Door", "use Rattle·house·specs.specs.Lock.{Lock}\n"),
+        ("house", "Door", "use Rattle.house.specs.Lock.{Lock}\n"),
         (
             "house",
             "Lock",
-            "use Rattle·house·specs.specs.declared.proofs.{Key}\nuse mathlib.Core.List.{List}\n-- Rattle·house.proofs.Laws\n",
+            "use Rattle.house.specs.declared.proofs.{Key}\nuse mathlib.Core.List.{List}\n-- Rattle.house.proofs.Laws\n",
         ),
     ]);
-    let house = walk(&["Rattle·house.specs.Door".to_string()], &texts).unwrap();
+    let house = walk(&["Rattle.house.specs.Door".to_string()], &texts).unwrap();
     assert_eq!(house.modules.len(), 2);
     assert!(house.into_proofs.is_empty());
 }
@@ -204,15 +280,31 @@ fn a_tree_without_such_a_chain_passes() {
 fn what_cannot_be_read_is_a_fault() {
     let all = |_: &Module| true;
     let none = |_: &Module| false;
-    assert!(resolve("Rattle·house.specs.Door", &none).is_err());
-    assert!(resolve("Rattle·house.src.Door", &all).is_err());
+    assert!(resolve("Rattle.house.specs.Door", &none).is_err());
+    assert!(resolve("Rattle.house.src.Door", &all).is_err());
     assert!(resolve("specs.Door", &all).is_err());
     assert!(resolve("Inner.*", &all).is_err());
     assert_eq!(resolve("mathlib.Core.List", &none), Ok(Import::Leaf));
-    assert!(contracts("pub fn f(x: u32) -> u32\n    ensures { ⌜ (x ⌝\n").is_err());
-    let unknown = "pub fn f(x: u32) -> u32\n    ensures { λ r. ⌜ Known x r ⌝ }\n{\n    x\n}\n";
+    assert!(contracts("pub fn f(x: u32) -> u32\n    ensures { (x\n").is_err());
+    let unknown = "pub fn f(x: u32) -> u32\n    ensures { Known x result }\n{\n    x\n}\n";
     assert_eq!(
         contracts(unknown),
         Err("f: Known is in no ghost use".to_string())
     );
+    // An older path, a crate as a whole, a part of a name, what a call returns before it is called, and clauses of other kinds.
+    assert!(resolve("Rattle·house.specs.Door", &all).is_err());
+    assert!(resolve("Rattle.house", &all).is_err());
+    let said = |used: &str, clauses: &str| {
+        let used = format!("ghost use Rattle.garden.specs.Gate.{{{used}}};");
+        let code = format!("{used}\npub fn f(x: u32) -> u32\n    {clauses}\n{{\n    x\n}}\n");
+        contracts(&code).unwrap_err()
+    };
+    for (used, clauses, fault) in [
+        ("is_wide", "ensures { wide x }", "wide is in no ghost use"),
+        ("W", "requires { W result }", "result is in no ghost use"),
+        ("W", "ensures* { W x }", "the clause ensures* is not read"),
+        ("W", "ghost y: { W x }", "the clause ghost y: is not read"),
+    ] {
+        assert_eq!(said(used, clauses), format!("f: {fault}"));
+    }
 }

@@ -1,6 +1,6 @@
 //! The public contracts of this repository's crates.
 
-use contracts::{contracts, imports, named_by, of_proofs, walk, Contract, Module};
+use contracts::{contracts, imports, named_by, of_proofs, walk, Contract, Module, KIT};
 use std::collections::BTreeMap;
 use std::fs;
 use std::path::{Path, PathBuf};
@@ -38,6 +38,8 @@ fn tree() -> (Vec<(String, Contract)>, BTreeMap<Module, String>) {
     for entry in fs::read_dir(crates()).unwrap() {
         let folder = entry.unwrap().path();
         let krate = name(&folder);
+        // A path into a library of the kit is not followed.
+        assert!(!KIT.contains(&krate.as_str()), "{krate} is the kit's");
         for file in files(&folder.join("src"), "rt") {
             let said = contracts(&fs::read_to_string(&file).unwrap());
             let said = said.unwrap_or_else(|e| panic!("{}: {e}", file.display()));

@@ -44,7 +44,7 @@ pub enum Import {
     Proofs,
 }
 
-/// The text without comments, which begin with `mark` at a line's start or after a space.
+/// The text without comments, which begin with `mark` at a line's start or after a space, and without quotes: `«Rattle».house` is `Rattle.house`.
 fn code(text: &str, mark: &str) -> String {
     let mut kept = String::new();
     for line in text.lines() {
@@ -52,7 +52,7 @@ fn code(text: &str, mark: &str) -> String {
             .match_indices(mark)
             .map(|(at, _)| at)
             .find(|&at| at == 0 || line[..at].ends_with(char::is_whitespace));
-        kept.push_str(&line[..end.unwrap_or(line.len())]);
+        kept.push_str(&line[..end.unwrap_or(line.len())].replace(['«', '»'], ""));
         kept.push('\n');
     }
     kept

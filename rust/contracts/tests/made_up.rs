@@ -173,6 +173,21 @@ a : Rattle.garden.proofs.Path.Walks 0
     );
 }
 
+/// Antt reads a name in quotes as the name.
+#[test]
+fn quoted_names_are_read() {
+    let path = "Rattle.house.proofs.Laws".to_string();
+    assert_eq!(imports("a : «Rattle».house.proofs.«Laws»\n"), [&*path]);
+    assert_eq!(
+        imports("use «Rattle».«house».proofs.Laws.{Stands}\n"),
+        [&*path, &*path]
+    );
+    assert_eq!(
+        named_by("ghost use «Rattle».house.«proofs».Laws;\n"),
+        [path]
+    );
+}
+
 #[test]
 fn a_chain_into_proofs_is_found() {
     let texts = texts(&[

@@ -126,7 +126,9 @@ pub fn contracts(text: &str) -> Result<Vec<Contract>, String> {
             return Err(format!("{} fn", before.join(" ")));
         }
         let rest = &code[at + 3..];
-        let end = rest.find('(').ok_or("a function without parameters")?;
+        let end = rest
+            .find(['<', '('])
+            .ok_or("a function without parameters")?;
         let function = rest[..end].trim();
         let mut names = parameters(&rest[end..])?;
         let mut contract = Contract {
@@ -178,14 +180,19 @@ fn head(text: &str) -> Result<Option<&str>, String> {
     }
 }
 
-/// The names of the parameters that `text` begins with, in parentheses.
+/// The names of the parameters that `text` begins with: of types, in angle brackets, where there are any, and of values, in parentheses.
 fn parameters(text: &str) -> Result<BTreeSet<String>, String> {
-    let end = text.find(')').ok_or("parameters without their end")?;
-    let list = text[1..end].split(',').map(str::trim);
+    let (types, rest) = match text.strip_prefix('<') {
+        Some(rest) => rest.split_once(">(").ok_or("types without their end")?,
+        None => ("", &text[1..]),
+    };
+    let (values, _) = rest.split_once(')').ok_or("parameters without their end")?;
+    let list = types.split(',').chain(values.split(',')).map(str::trim);
     Ok(list
         .filter(|parameter| !parameter.is_empty())
         .map(|parameter| parameter.split(':').next().unwrap_or(parameter).trim())
-        .map(|name| name.trim_start_matches("mut ").to_string())
+        .map(|name| name.trim_start_matches('&').trim_start_matches("mut "))
+        .map(|name| name.trim_start_matches("const ").to_string())
         .collect())
 }
 
@@ -195,7 +202,7 @@ const OF_THE_LANGUAGE: [&str; 12] = [
 ];
 
 /// The modules of the imported names in a clause, and those that are named in full. A word that is neither imported nor one of `names` (a parameter, or `result`), a bound
-/// name, a field or a number is a fault.
+/// name, a field or a number is a fault. Of a parameter that is a type, as `R` in `R.remaining`, a clause names what its bounds have.
 fn named(
     clause: &str,
     words: &BTreeMap<String, Vec<String>>,

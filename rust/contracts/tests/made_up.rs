@@ -132,8 +132,24 @@ pub fn leave(
 {
     n
 }
+
+pub fn mend<R: Roof + Drop, const N: usize>(roof: &mut R, tiles: &[u32; N]) -> Result<u32, Leak>
+    ensures { covers_all N (R.tiles roof.new) tiles.entry }
+{
+    roof.mend(tiles)
+}
+
+impl House {
+    pub fn open(&mut self) -> u32
+        ensures { Open self.old.doors × Open self.new.doors }
+    {
+        0
+    }
+}
 ";
     let found = contracts(text).unwrap();
+    let names: Vec<&str> = found.iter().map(|c| c.function.as_str()).collect();
+    assert_eq!(names, ["enter", "leave", "mend", "open"]);
     assert!(found[0].requires && found[0].ensures);
     assert_eq!(
         found[0].imports,
@@ -147,6 +163,8 @@ pub fn leave(
     );
     assert!(!found[1].requires && found[1].ensures);
     assert_eq!(found[1].imports, ["Rattle.house.specs.Roof"]);
+    assert_eq!(found[2].imports, ["Rattle.house.specs.Roof"]);
+    assert_eq!(found[3].imports, ["Rattle.house.specs.Door"]);
 }
 
 #[test]

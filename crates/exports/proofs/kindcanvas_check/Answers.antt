@@ -4,7 +4,6 @@ use Prim.Native.Nat.{◌+◌, ◌*◌}
 use native.Mathlib.Omega.{arith}
 use Rattle.exports.specs.Numbers.{packed}
 use Rattle.rules.proofs.Checked.{place_small}
-use borrow.Author.Rules.{rules}
 use Rattle.exports.proofs.kindcanvas_check.Goals as goal
 
 pub overflow_add-result : goal.overflow_add-result

@@ -4,7 +4,6 @@ use mathlib.Core.List.{[]}
 use native.Mathlib.Omega.{arith}
 use lib.ListN.{length-set}
 use Rattle.exports.proofs.NumberLaws.{place_fits, called_short, called_run}
-use borrow.Author.Rules.{rules}
 use Rattle.exports.proofs.kindcanvas_run.Goals as goal
 
 pub returns-then-numbers-lt8 : goal.returns-then-numbers-lt8

@@ -1,7 +1,6 @@
 -- `kindcanvas_view` says in numbers what `find` finds.
 use mathlib.Core.Path.{ap, sym}
 use Rattle.exports.specs.Numbers.{view_call}
-use borrow.Author.Rules.{rules}
 use Rattle.exports.proofs.kindcanvas_view.Goals as goal
 
 pub returns-in-Part : goal.returns-in-Part

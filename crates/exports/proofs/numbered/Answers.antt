@@ -2,7 +2,6 @@
 use mathlib.Core.Path.{refl, sym, ap}
 use mathlib.Core.List.{[], ◌∷◌}
 use Rattle.exports.proofs.NumberLaws.{in_case}
-use borrow.Author.Rules.{rules}
 use Rattle.exports.proofs.numbered.Goals as goal
 
 pub returns-in-Finished : goal.returns-in-Finished

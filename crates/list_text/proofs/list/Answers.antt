@@ -1,6 +1,5 @@
 -- What `run` promises gives the text.
 use Rattle.list_text.proofs.ListLaws.{list_text}
-use borrow.Author.Rules.{rules}
 use Rattle.list_text.proofs.list.Goals as goal
 
 pub returns : goal.returns

@@ -7,7 +7,6 @@ use lib.Seq.{length-take-le}
 use Rattle.list_text.proofs.ListLaws.{file_text}
 use Rattle.list_text.proofs.PartLaws.{zeros_lent}
 use Rattle.list_text.proofs.WordLaws.{read_program}
-use borrow.Author.Rules.{rules}
 use Rattle.rules.specs.Settings.{scratch_words}
 use Rattle.list_text.proofs.text.Goals as goal
 

@@ -1,16 +1,13 @@
 -- Answer after answer, as the walk over the page finds them.
-use Prim.Native.Nat.{ℕ, ◌+◌, ◌*◌, ◌-◌, ◌≤◌}
-use mathlib.Core.List.{List, map}
+use Prim.Native.Nat.{◌-◌}
 use mathlib.Core.Path.{◌≡◌, ◌∙◌, refl, sym}
 use native.Mathlib.Omega.{arith}
 use lib.ListN.{length, length-drop, length-take}
-use Rattle.page.specs.Page.{answer_at, answers_left, answers_on, between, part, refused}
+use Rattle.page.specs.Page.{answer_at, between, part, refused}
 use Rattle.page.proofs.AnswersLaws.{answers_step}
 use Rattle.page.proofs.WalkLaws.{Whole, whole_at}
-use Rattle.rules.specs.Lists.{joined}
 use Rattle.list_text.specs.Listing.{line}
-use Rattle.list_text.proofs.TextLaws.{Left, begin, done, step}
-use borrow.Author.Rules.{rules}
+use Rattle.list_text.proofs.TextLaws.{begin, done, step}
 use Rattle.list_text.proofs.answers.put_answers.Goals as goal
 
 pub loop-end-init : goal.loop-end-init

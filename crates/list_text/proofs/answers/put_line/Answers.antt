@@ -1,12 +1,9 @@
 -- Word after word.
-use Prim.Native.Nat.{◌+◌, ◌*◌, ◌-◌, ◌≤◌}
-use mathlib.Core.Path.{◌≡◌, ◌∙◌, refl}
+use mathlib.Core.Path.{◌∙◌, refl}
 use native.Mathlib.Omega.{arith}
-use lib.ListN.{length, drop}
-use Rattle.list_text.specs.Listing.{codes, line_behind, word_text}
+use Rattle.list_text.specs.Listing.{codes, word_text}
 use Rattle.list_text.proofs.LineLaws.{line_first, line_last, line_next}
-use Rattle.list_text.proofs.TextLaws.{Left, begin, behind, last, step}
-use borrow.Author.Rules.{rules}
+use Rattle.list_text.proofs.TextLaws.{begin, behind, last, step}
 use Rattle.list_text.proofs.answers.put_line.Goals as goal
 
 pub bounds-words-0 : goal.bounds-words-0

@@ -1,12 +1,9 @@
 -- Word after word.
 use Prim.Native.Nat.{◌+◌, ◌*◌, ◌-◌, ◌≤◌}
-use mathlib.Core.Path.{◌≡◌, ◌∙◌, refl}
-use native.Mathlib.Omega.{arith}
+use mathlib.Core.Path.{◌≡◌}
 use lib.ListN.{length, drop}
-use Rattle.list_text.specs.Listing.{codes, line_behind, word_text}
-use Rattle.list_text.proofs.LineLaws.{line_first, line_last, line_next}
-use Rattle.list_text.proofs.TextLaws.{Left, begin, behind, last, step}
-use borrow.Author.Rules.{rules}
+use Rattle.list_text.specs.Listing.{line_behind}
+use Rattle.list_text.proofs.TextLaws.{Left}
 use Rattle.list_text.proofs.answers.put_line.Given as goal
 
 abbrev pub invariant-loop-i : goal.invariant-loop-i

@@ -7,7 +7,6 @@ use Rattle.word.specs.Word.{kind, payload}
 use Rattle.list_text.specs.Listing.{decimal}
 use Rattle.list_text.proofs.DecimalLaws.{decimal_short}
 use Rattle.list_text.proofs.TextLaws.{behind}
-use borrow.Author.Rules.{rules}
 use Rattle.list_text.proofs.answers.put_word.Goals as goal
 
 pub put_number-next-requires : goal.put_number-next-requires

@@ -1,5 +1,5 @@
 -- The digits before the last, then the last.
-use Prim.Native.Nat.{ℕ, ◌+◌, ◌/◌, ◌%◌, ◌<◌}
+use Prim.Native.Nat.{◌+◌, ◌/◌, ◌%◌, ◌<◌}
 use mathlib.Core.Path.{◌∙◌}
 use mathlib.Core.List.{[], ◌∷◌}
 use native.Mathlib.Omega.{arith}
@@ -7,7 +7,6 @@ use lib.ListN.{length, length-append}
 use Rattle.list_text.specs.Listing.{decimal, digit}
 use Rattle.list_text.proofs.DecimalLaws.{one_digit, more_digits}
 use Rattle.list_text.proofs.TextLaws.{behind}
-use borrow.Author.Rules.{rules}
 use Rattle.list_text.proofs.put.+put_number.Goals as goal
 
 pub put_byte-requires : goal.put_byte-requires

@@ -2,7 +2,6 @@
 use mathlib.Core.Path.{refl}
 use lib.ListN.{length-set}
 use Rattle.list_text.proofs.TextLaws.{stored, not_stored}
-use borrow.Author.Rules.{rules}
 use Rattle.list_text.proofs.put.put_byte.Goals as goal
 use Rattle.list_text.proofs.put.put_byte.Goals.{then-at-out, else-at-out}
 

@@ -1,10 +1,8 @@
 -- Byte after byte.
-use Prim.Native.Nat.{◌≤◌, ◌-◌, ◌+◌}
-use mathlib.Core.Path.{◌≡◌, refl, ◌∙◌}
+use mathlib.Core.Path.{refl, ◌∙◌}
 use native.Mathlib.Omega.{arith}
-use lib.ListN.{length, drop, drop_of_length-le}
-use Rattle.list_text.proofs.TextLaws.{Left, begin, next_byte, done}
-use borrow.Author.Rules.{rules}
+use lib.ListN.{drop_of_length-le}
+use Rattle.list_text.proofs.TextLaws.{begin, next_byte, done}
 use Rattle.list_text.proofs.put.put_text.Goals as goal
 
 pub loop-i-init : goal.loop-i-init

@@ -1,7 +1,6 @@
 -- Each count behind the one before it, and the line's end.
 use native.Mathlib.Omega.{arith}
 use Rattle.list_text.proofs.TextLaws.{behind}
-use borrow.Author.Rules.{rules}
 use Rattle.list_text.proofs.report.put_counts.Goals as goal
 
 pub returns : goal.returns

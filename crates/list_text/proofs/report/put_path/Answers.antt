@@ -2,7 +2,6 @@
 use native.Mathlib.Omega.{arith}
 use Rattle.list_text.proofs.DecimalLaws.{short_32}
 use Rattle.list_text.proofs.TextLaws.{behind}
-use borrow.Author.Rules.{rules}
 use Rattle.list_text.proofs.report.put_path.Goals as goal
 
 pub put_number-next-requires : goal.put_number-next-requires

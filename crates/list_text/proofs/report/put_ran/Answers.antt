@@ -1,6 +1,5 @@
 -- Each text behind the one before it.
 use Rattle.list_text.proofs.TextLaws.{behind}
-use borrow.Author.Rules.{rules}
 use Rattle.list_text.proofs.report.put_ran.Goals as goal
 
 pub returns : goal.returns

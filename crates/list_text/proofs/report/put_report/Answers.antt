@@ -1,5 +1,4 @@
 -- By the end.
-use borrow.Author.Rules.{rules}
 use Rattle.list_text.proofs.report.put_report.Goals as goal
 
 pub returns-in-Finished : goal.returns-in-Finished

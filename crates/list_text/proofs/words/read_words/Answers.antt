@@ -1,11 +1,9 @@
 -- Word after word, as the definition has them.
-use Prim.Native.Nat.{◌+◌, ◌*◌, ◌-◌, ◌<◌, ◌≤◌}
+use Prim.Native.Nat.{◌+◌, ◌*◌, ◌<◌}
 use mathlib.Core.Path.{◌≡◌, refl}
 use native.Mathlib.Omega.{arith}
-use lib.ListN.{length, length-set, take}
-use Rattle.list_text.specs.Listing.{whole_words}
+use lib.ListN.{length, length-set}
 use Rattle.list_text.proofs.WordLaws.{word_more}
-use borrow.Author.Rules.{rules}
 use Rattle.list_text.proofs.words.read_words.Goals as goal
 
 pub loop-i-init : goal.loop-i-init

@@ -1,11 +1,8 @@
 -- Word after word, as the definition has them.
-use Prim.Native.Nat.{◌+◌, ◌*◌, ◌-◌, ◌<◌, ◌≤◌}
-use mathlib.Core.Path.{◌≡◌, refl}
-use native.Mathlib.Omega.{arith}
-use lib.ListN.{length, length-set, take}
+use Prim.Native.Nat.{◌-◌, ◌≤◌}
+use mathlib.Core.Path.{◌≡◌}
+use lib.ListN.{length, take}
 use Rattle.list_text.specs.Listing.{whole_words}
-use Rattle.list_text.proofs.WordLaws.{word_more}
-use borrow.Author.Rules.{rules}
 use Rattle.list_text.proofs.words.read_words.Given as goal
 
 abbrev pub invariant-loop-i : goal.invariant-loop-i

@@ -2,7 +2,6 @@
 use Prim.Native.Nat.{◌%◌}
 use native.Mathlib.Omega.{arith}
 use borrow.Author.Tests.{eq-eqb, ne_eqb}
-use borrow.Author.Rules.{rules}
 use Rattle.list_text.proofs.words.word_count.Goals as goal
 
 pub returns-then-bytes-ne0 : goal.returns-then-bytes-ne0

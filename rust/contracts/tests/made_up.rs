@@ -5,7 +5,7 @@ use std::collections::BTreeMap;
 
 const CODE: &str = "\
 // pub fn in a comment { }
-ghost use mathlib.Core.Path.{◌≡◌};
+ghost use Rattle.std.specs.Prelude.{◌≡◌};
 ghost use Rattle.house.specs.Door.{Open, wide as broad};
 ghost use Rattle.house.specs.Roof as roof;
 ghost use Rattle.house.specs.Cellar.{Deep};
@@ -64,13 +64,13 @@ fn public_functions_are_found_with_their_imports() {
     );
     assert_eq!(
         found[0].imports,
-        ["Rattle.house.specs.Door", "mathlib.Core.Path"]
+        ["Rattle.house.specs.Door", "Rattle.std.specs.Prelude"]
     );
     assert_eq!(
         found[1].imports,
         [
             "Rattle.house.specs.Door",
-            "mathlib.Core.Path",
+            "Rattle.std.specs.Prelude",
             "Rattle.house.specs.Roof"
         ]
     );
@@ -81,7 +81,7 @@ fn public_functions_are_found_with_their_imports() {
 #[test]
 fn names_of_several_words_are_found() {
     let text = "\
-ghost use mathlib.Core.Path.{◌≡◌};
+ghost use Rattle.std.specs.Prelude.{◌≡◌};
 ghost use Rattle.house.specs.Gate.{◌is◌of◌, ◌⊑◌};
 
 pub fn enter(a: u32, b: u32) -> u32
@@ -135,6 +135,53 @@ pub fn enter<D: Door>(door: &mut D) -> u32
     );
 }
 
+/// Modules under their own or another name, a clause on lines of its own, bounds with parameters, a length that is a parameter, and `self` by reference.
+#[test]
+fn clauses_of_other_forms_are_read() {
+    let text = "\
+ghost use Rattle.house.specs.Door.{Open};
+ghost use Rattle.house.specs.Roof.{covers_all};
+ghost use Rattle.garden.specs.Wall as wall;
+ghost use Rattle.garden.specs.Shed;
+
+pub fn enter(
+    n: u32,
+) -> u32
+    ensures {
+        Shed.each (wall.of n).stones result
+    }
+{
+    n
+}
+
+pub fn mend<R: Roof<Tile> + Drop, const N: usize>(roof: &mut R, tiles: &[u32; N]) -> Result<u32, Leak>
+    ensures { covers_all N (R.tiles roof.new) tiles.now }
+{
+    roof.mend(tiles)
+}
+
+impl House {
+    pub fn open(&mut self) -> u32
+        ensures { Open self.old.doors × Open self.new.doors }
+    {
+        0
+    }
+}
+";
+    let found = contracts(text).unwrap();
+    let names: Vec<&str> = found.iter().map(|c| c.function.as_str()).collect();
+    assert_eq!(names, ["enter", "mend", "open"]);
+    for contract in &found {
+        assert!(!contract.requires && contract.ensures, "{contract:?}");
+    }
+    assert_eq!(
+        found[0].imports,
+        ["Rattle.garden.specs.Shed", "Rattle.garden.specs.Wall"]
+    );
+    assert_eq!(found[1].imports, ["Rattle.house.specs.Roof"]);
+    assert_eq!(found[2].imports, ["Rattle.house.specs.Door"]);
+}
+
 #[test]
 fn imports_of_definitions_are_read() {
     let text = "\
@@ -156,6 +203,21 @@ a : Rattle.garden.proofs.Path.Walks 0
             "Rattle.garden.specs.Gate",
             "Rattle.garden.proofs.Path.Walks"
         ]
+    );
+}
+
+/// Antt reads a name in quotes as the name.
+#[test]
+fn quoted_names_are_read() {
+    let path = "Rattle.house.proofs.Laws".to_string();
+    assert_eq!(imports("a : «Rattle».house.proofs.«Laws»\n"), [&*path]);
+    assert_eq!(
+        imports("use «Rattle».«house».proofs.Laws.{Stands}\n"),
+        [&*path, &*path]
+    );
+    assert_eq!(
+        named_by("ghost use «Rattle».house.«proofs».Laws;\n"),
+        [path]
     );
 }
 
@@ -231,6 +293,26 @@ pub(crate) fn enter(door: u32) -> u32
     }
 }
 
+/// The kit's own library has paths like a crate's, and its `proofs` are none of ours.
+#[test]
+fn a_library_of_the_kit_is_no_crate() {
+    let none = |_: &Module| false;
+    for path in [
+        "Rattle.std.specs.Prelude",
+        "Rattle.std.proofs.Common",
+        "Rattle.std.proofs.lemmas.List.Edits",
+    ] {
+        assert!(!of_proofs(path), "{path}");
+        assert_eq!(resolve(path, &none), Ok(Import::Leaf), "{path}");
+    }
+    for path in ["Rattle.stdlib.proofs.Common", "Rattle.house.proofs.std"] {
+        assert!(of_proofs(path), "{path}");
+        assert_eq!(resolve(path, &none), Ok(Import::Proofs), "{path}");
+    }
+    assert!(resolve("Rattle.io.specs.Io", &none).is_err());
+    assert!(resolve("std.specs.Prelude", &none).is_err());
+}
+
 #[test]
 fn a_tree_without_such_a_chain_passes() {
     let texts = texts(&[
@@ -255,14 +337,26 @@ fn what_cannot_be_read_is_a_fault() {
     assert!(resolve("specs.Door", &all).is_err());
     assert!(resolve("Inner.*", &all).is_err());
     assert_eq!(resolve("mathlib.Core.List", &none), Ok(Import::Leaf));
-    assert_eq!(resolve("Rattle.std.proofs.Common", &none), Ok(Import::Leaf));
     assert!(contracts("pub fn f(x: u32) -> u32\n    ensures { (x\n").is_err());
-    assert!(contracts("pub fn f<T: A<B>>(x: T) -> T {\n    x\n}\n").is_err());
-    let ghost = "pub fn f(x: u32) -> u32\n    ghost top: { x }\n    ensures { x }\n{\n    x\n}\n";
-    assert!(contracts(ghost).is_err());
     let unknown = "pub fn f(x: u32) -> u32\n    ensures { Known x result }\n{\n    x\n}\n";
     assert_eq!(
         contracts(unknown),
         Err("f: Known is in no ghost use".to_string())
     );
+    // An older path, a crate as a whole, a part of a name, what a call returns before it is called, and clauses of other kinds.
+    assert!(resolve("Rattle·house.specs.Door", &all).is_err());
+    assert!(resolve("Rattle.house", &all).is_err());
+    let said = |used: &str, clauses: &str| {
+        let used = format!("ghost use Rattle.garden.specs.Gate.{{{used}}};");
+        let code = format!("{used}\npub fn f(x: u32) -> u32\n    {clauses}\n{{\n    x\n}}\n");
+        contracts(&code).unwrap_err()
+    };
+    for (used, clauses, fault) in [
+        ("is_wide", "ensures { wide x }", "wide is in no ghost use"),
+        ("W", "requires { W result }", "result is in no ghost use"),
+        ("W", "ensures* { W x }", "the clause ensures* is not read"),
+        ("W", "ghost y: { W x }", "the clause ghost y: is not read"),
+    ] {
+        assert_eq!(said(used, clauses), format!("f: {fault}"));
+    }
 }

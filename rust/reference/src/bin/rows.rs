@@ -20,9 +20,7 @@ use std::process::ExitCode;
 const ROWS: usize = 50;
 
 const HEADER: &str = "\
-use Prim.Native.Nat.{ℕ}
-use mathlib.Core.Path.{◌≡◌, refl}
-use mathlib.Core.List.{List, [], ◌∷◌}
+use Rattle.std.specs.Prelude.{[], ◌∷◌, ◌≡◌, refl}
 use Rattle.semantics.specs.Steps.{variables, goals, disjunctions, constraints, waiting}
 use Rattle.semantics.specs.Round.{finished, rounds_used, steps_used, output_full, path_limit, once}
 use Rattle.semantics.specs.Path.{as_written}
@@ -30,8 +28,7 @@ use Rattle.semantics.specs.Run.{refusal, ran, returns_by}
 ";
 
 const PAGES_HEADER: &str = "\
-use mathlib.Core.Path.{◌≡◌, refl}
-use mathlib.Core.List.{[], ◌∷◌}
+use Rattle.std.specs.Prelude.{[], ◌∷◌, ◌≡◌, refl}
 use Rattle.page.specs.Page.{find, part, refused}
 ";
 
@@ -156,7 +153,7 @@ fn row(number: usize, case: &Case, result: &Result<Outcome, Refusal>, unfolding:
         ),
     };
     format!(
-        "\nrow-{number} : returns_by (once as_written) ({}) {} {} {} {} ≡ {report}\n{unfolding}\nrow-{number} = refl\n",
+        "\nrow_{number} : returns_by (once as_written) ({}) {} {} {} {} ≡ {report}\n{unfolding}\nrow_{number} = refl\n",
         list(&case.words),
         case.rounds,
         case.steps,
@@ -171,7 +168,7 @@ fn page_row(number: usize, case: &PageCase) -> String {
         Ok(place) => format!("part {} {}", place.start, place.end),
     };
     format!(
-        "\npage-{number} : find ({}) {} ≡ {found}\npage-{number} = refl\n",
+        "\npage_{number} : find ({}) {} ≡ {found}\npage_{number} = refl\n",
         list(&case.page),
         case.answer
     )

@@ -5,8 +5,8 @@ usage: snake_case.py [--list]      at the top of the repository, once, after por
 
 A name that is declared in a crate's specs/ or proofs/ (definitions, lemmas, fields, constructors, variables, and what `as` introduces)
 has `_` in place of each dash afterwards, in specs/, in proofs/, in src/, in must-fail/ and, between backticks, in comments and pages.
-A name of a library or one that the checker makes (Rattle's names of goals and steps) stays. It is only spelling: no two names of one
-crate fall together, or the script stops. --list prints the names and writes nothing.
+A name of a library or one that the checker makes (Rattle's names of goals and steps) stays. It is only spelling: --list prints the names
+and writes nothing, and tells which would fall together with another name (none did) or are a library's too.
 """
 import glob
 import os

@@ -6,6 +6,17 @@ use lib.ListN.{length, length-set}
 use Rattle.engine.specs.Index.{Seeking}
 use Rattle.engine.proofs.IndexLaws.{Sought, sought_start, sought_next, sought_found, sought_empty, entry_before, entered_from, entered_lost}
 use Rattle.engine.proofs.repeats.index.enter.Goals as goal
+use Rattle.engine.proofs.repeats.index.enter.Goals.{At-loop-tries}
+
+-- the search under way, for the answers that the caller knows of
+seek : (c : At-loop-tries) → (let q = c.requires in let a = c.args in Seeking c.loop-tries.output a.start a.next a.table a.size q.0 q.1 × Sought c.loop-tries.output a.table a.size c.loop-tries.slot q.0 q.1)
+seek c = let q = c.requires in c.loop-tries.invariant.1 q.0 q.1 q.2
+
+slot_inside : (c : At-loop-tries) → (let i = c.args.table + c.loop-tries.slot in (i < length c.loop-tries.output) × (i < 268435456))
+slot_inside c = let h = (seek c) in let p = h.0.table_there.room in (omega (arith, h.1.low, p.inside), omega (arith, h.1.low, p.short))
+
+start_below : (c : At-loop-tries) → c.args.start < 268435456
+start_below c = let h = (seek c).0 in omega (arith, h.words.ends, h.table_there.behind, h.table_there.room.short)
 
 pub home-slot-requires : goal.home-slot-requires
 home-slot-requires c = let q = c.requires.2 in (omega (arith, q.words.ends, ap length q.whole.is), omega (arith, q.table_there.behind, q.table_there.room.inside), q.table_there.some, omega (arith, q.table_there.room.short))
@@ -15,54 +26,38 @@ loop-tries-init c = (refl, λ ws v g. (g, sought_start g (c.home-slot.ensures.1 
 
 pub overflow_add-entry : goal.overflow_add-entry
 overflow_add-entry c =
-    let seek : (let q = c.requires in let a = c.args in Seeking c.loop-tries.output a.start a.next a.table a.size q.0 q.1 × Sought c.loop-tries.output a.table a.size c.loop-tries.slot q.0 q.1) = let q = c.requires in c.loop-tries.invariant.1 q.0 q.1 q.2 in
-    let slot_inside : (let i = c.args.table + c.loop-tries.slot in (i < length c.loop-tries.output) × (i < 268435456)) = let h = seek in let p = h.0.table_there.room in (omega (arith, h.1.low, p.inside), omega (arith, h.1.low, p.short)) in
-    omega (arith, slot_inside)
+    omega (arith, (slot_inside (goal.at.overflow_add-entry c).At-loop-tries))
 
 pub offset_bounds-output-table : goal.offset_bounds-output-table
 offset_bounds-output-table c =
-    let seek : (let q = c.requires in let a = c.args in Seeking c.loop-tries.output a.start a.next a.table a.size q.0 q.1 × Sought c.loop-tries.output a.table a.size c.loop-tries.slot q.0 q.1) = let q = c.requires in c.loop-tries.invariant.1 q.0 q.1 q.2 in
-    let slot_inside : (let i = c.args.table + c.loop-tries.slot in (i < length c.loop-tries.output) × (i < 268435456)) = let h = seek in let p = h.0.table_there.room in (omega (arith, h.1.low, p.inside), omega (arith, h.1.low, p.short)) in
-    omega (arith, slot_inside)
+    omega (arith, (slot_inside (goal.at.offset_bounds-output-table c).At-loop-tries))
 
 pub bounds-output-table : goal.bounds-output-table
 bounds-output-table c =
-    let seek : (let q = c.requires in let a = c.args in Seeking c.loop-tries.output a.start a.next a.table a.size q.0 q.1 × Sought c.loop-tries.output a.table a.size c.loop-tries.slot q.0 q.1) = let q = c.requires in c.loop-tries.invariant.1 q.0 q.1 q.2 in
-    let slot_inside : (let i = c.args.table + c.loop-tries.slot in (i < length c.loop-tries.output) × (i < 268435456)) = let h = seek in let p = h.0.table_there.room in (omega (arith, h.1.low, p.inside), omega (arith, h.1.low, p.short)) in
-    slot_inside.0
+    (slot_inside (goal.at.bounds-output-table c).At-loop-tries).0
 
 pub overflow_cast-entry : goal.overflow_cast-entry
 overflow_cast-entry c = omega (arith, c.slice_known-in-loop-tries-1.given (c.args.table + c.loop-tries.slot))
 
 pub overflow_add-output : goal.overflow_add-output
 overflow_add-output c =
-    let seek : (let q = c.requires in let a = c.args in Seeking c.loop-tries.output a.start a.next a.table a.size q.0 q.1 × Sought c.loop-tries.output a.table a.size c.loop-tries.slot q.0 q.1) = let q = c.requires in c.loop-tries.invariant.1 q.0 q.1 q.2 in
-    let start_below : c.args.start < 268435456 = let h = seek.0 in omega (arith, h.words.ends, h.table_there.behind, h.table_there.room.short) in
-    omega (arith, start_below)
+    omega (arith, (start_below (goal.at.overflow_add-output c).At-loop-tries))
 
 pub overflow_cast-output : goal.overflow_cast-output
 overflow_cast-output c =
-    let seek : (let q = c.requires in let a = c.args in Seeking c.loop-tries.output a.start a.next a.table a.size q.0 q.1 × Sought c.loop-tries.output a.table a.size c.loop-tries.slot q.0 q.1) = let q = c.requires in c.loop-tries.invariant.1 q.0 q.1 q.2 in
-    let start_below : c.args.start < 268435456 = let h = seek.0 in omega (arith, h.words.ends, h.table_there.behind, h.table_there.room.short) in
-    omega (arith, start_below)
+    omega (arith, (start_below (goal.at.overflow_cast-output c).At-loop-tries))
 
 pub overflow_add-output-then-entry-eq0 : goal.overflow_add-output-then-entry-eq0
 overflow_add-output-then-entry-eq0 c =
-    let seek : (let q = c.requires in let a = c.args in Seeking c.loop-tries.output a.start a.next a.table a.size q.0 q.1 × Sought c.loop-tries.output a.table a.size c.loop-tries.slot q.0 q.1) = let q = c.requires in c.loop-tries.invariant.1 q.0 q.1 q.2 in
-    let slot_inside : (let i = c.args.table + c.loop-tries.slot in (i < length c.loop-tries.output) × (i < 268435456)) = let h = seek in let p = h.0.table_there.room in (omega (arith, h.1.low, p.inside), omega (arith, h.1.low, p.short)) in
-    omega (arith, slot_inside)
+    omega (arith, (slot_inside (goal.at.overflow_add-output-then-entry-eq0 c).At-loop-tries))
 
 pub offset_bounds-output-table-then-entry-eq0 : goal.offset_bounds-output-table-then-entry-eq0
 offset_bounds-output-table-then-entry-eq0 c =
-    let seek : (let q = c.requires in let a = c.args in Seeking c.loop-tries.output a.start a.next a.table a.size q.0 q.1 × Sought c.loop-tries.output a.table a.size c.loop-tries.slot q.0 q.1) = let q = c.requires in c.loop-tries.invariant.1 q.0 q.1 q.2 in
-    let slot_inside : (let i = c.args.table + c.loop-tries.slot in (i < length c.loop-tries.output) × (i < 268435456)) = let h = seek in let p = h.0.table_there.room in (omega (arith, h.1.low, p.inside), omega (arith, h.1.low, p.short)) in
-    omega (arith, slot_inside)
+    omega (arith, (slot_inside (goal.at.offset_bounds-output-table-then-entry-eq0 c).At-loop-tries))
 
 pub bounds-output-table-then-entry-eq0 : goal.bounds-output-table-then-entry-eq0
 bounds-output-table-then-entry-eq0 c =
-    let seek : (let q = c.requires in let a = c.args in Seeking c.loop-tries.output a.start a.next a.table a.size q.0 q.1 × Sought c.loop-tries.output a.table a.size c.loop-tries.slot q.0 q.1) = let q = c.requires in c.loop-tries.invariant.1 q.0 q.1 q.2 in
-    let slot_inside : (let i = c.args.table + c.loop-tries.slot in (i < length c.loop-tries.output) × (i < 268435456)) = let h = seek in let p = h.0.table_there.room in (omega (arith, h.1.low, p.inside), omega (arith, h.1.low, p.short)) in
-    slot_inside.0
+    (slot_inside (goal.at.bounds-output-table-then-entry-eq0 c).At-loop-tries).0
 
 pub shape_of-output-then-entry-eq0 : goal.shape_of-output-then-entry-eq0
 shape_of-output-then-entry-eq0 c = simp length-set (ap length c.loop-tries.invariant.0)
@@ -75,8 +70,7 @@ overflow_sub-entry c = omega (arith, c.if-entry-eq0.false)
 
 pub same-requires : goal.same-requires
 same-requires c =
-    let seek : (let q = c.requires in let a = c.args in Seeking c.loop-tries.output a.start a.next a.table a.size q.0 q.1 × Sought c.loop-tries.output a.table a.size c.loop-tries.slot q.0 q.1) = let q = c.requires in c.loop-tries.invariant.1 q.0 q.1 q.2 in
-    let h = seek in (entry_before h.0 h.1 c.if-entry-eq0.false, omega (arith, h.0.table_there.behind, h.0.table_there.room.inside))
+    let h = seek (goal.at.same-requires c).At-loop-tries in (entry_before h.0 h.1 c.if-entry-eq0.false, omega (arith, h.0.table_there.behind, h.0.table_there.room.inside))
 
 pub shape_of-output-then-same : goal.shape_of-output-then-same
 shape_of-output-then-same c = ap length c.loop-tries.invariant.0
@@ -86,8 +80,7 @@ returns-then-same c = λ ws v g. let l = c.loop-tries in let h = l.invariant.1 w
 
 pub next_slot-slot-requires : goal.next_slot-slot-requires
 next_slot-slot-requires c =
-    let seek : (let q = c.requires in let a = c.args in Seeking c.loop-tries.output a.start a.next a.table a.size q.0 q.1 × Sought c.loop-tries.output a.table a.size c.loop-tries.slot q.0 q.1) = let q = c.requires in c.loop-tries.invariant.1 q.0 q.1 q.2 in
-    seek.1.low
+    (seek (goal.at.next_slot-slot-requires c).At-loop-tries).1.low
 
 pub overflow_add-tries : goal.overflow_add-tries
 overflow_add-tries c = omega (arith, c.loop-tries-test.true)

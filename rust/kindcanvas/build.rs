@@ -23,8 +23,8 @@ fn main() {
         }
         None => prove().join(&file),
     };
-    // Linked from a copy: the repository's target folder is emptied by its merge gate, and a file that the build
-    // itself writes can't be watched for changes.
+    // Linked from a copy: the folder that the library is built in is emptied by the repository's merge gate, and a file
+    // that the build itself writes can't be watched for changes.
     let out = PathBuf::from(env::var_os("OUT_DIR").expect("cargo sets OUT_DIR"));
     if let Err(error) = fs::copy(&built, out.join(&file)) {
         fail(&format!("can't copy {}: {error}", built.display()));
@@ -33,36 +33,37 @@ fn main() {
     println!("cargo:rustc-link-search=native={}", out.display());
 }
 
-/// Runs `rt staticlib` at the repository's root, which proves the crates below the library only if they have changed, and
-/// says in which folder the library is.
+/// Runs `rt lib` in the library's crate, which proves the crates below only if they have changed, and says in which folder
+/// the library is.
 fn prove() -> PathBuf {
     let manifest = env::var_os("CARGO_MANIFEST_DIR").expect("cargo sets CARGO_MANIFEST_DIR");
-    let root = match Path::new(&manifest).ancestors().nth(2) {
-        Some(root) => root.to_path_buf(),
+    let crates = match Path::new(&manifest).ancestors().nth(2) {
+        Some(root) => root.join("crates"),
         None => fail("the crate must stand two folders below the repository's root"),
     };
+    // Not a crate's whole folder, since rt writes to `out` in it, nor a folder that is not there, which cargo takes for one that has changed.
     for watched in CRATES {
-        println!(
-            "cargo:rerun-if-changed={}",
-            root.join("crates").join(watched).display()
-        );
+        for part in ["src", "specs", "proofs"] {
+            let folder = crates.join(watched).join(part);
+            if folder.is_dir() {
+                println!("cargo:rerun-if-changed={}", folder.display());
+            }
+        }
     }
-    let run = Command::new("rt")
-        .args(["staticlib", LIBRARY])
-        .current_dir(&root)
-        .output();
+    let library = crates.join(LIBRARY);
+    let run = Command::new("rt").arg("lib").current_dir(&library).output();
     match run {
         Err(error) => fail(&format!(
-            "can't run `rt staticlib {LIBRARY}`: {error}. Put rt on the PATH, or set KINDCANVAS_LIB_DIR to a folder \
-             that holds the library"
+            "can't run `rt lib`: {error}. Put rt on the PATH, or set KINDCANVAS_LIB_DIR to a folder that holds the library"
         )),
         Ok(output) if !output.status.success() => fail(&format!(
-            "`rt staticlib {LIBRARY}` failed ({}):\n{}{}",
+            "`rt lib` in {} failed ({}):\n{}{}",
+            library.display(),
             output.status,
             String::from_utf8_lossy(&output.stdout),
             String::from_utf8_lossy(&output.stderr)
         )),
-        Ok(_) => root.join("target").join("staticlib"),
+        Ok(_) => library.join("out"),
     }
 }
 

@@ -1,133 +1,133 @@
 -- The answer of a path: its page's begin and end, the scratch as it was, and the words as the definition has them.
-use Prim.Native.Nat.{ℕ, zero, suc, _+_, _-_, _<_, _≤_}
-use mathlib.Core.Path.{_≡_, refl, sym, ap, ap₂, subst, _∙_}
+use Prim.Native.Nat.{ℕ, zero, suc, ◌+◌, ◌-◌, ◌<◌, ◌≤◌}
+use mathlib.Core.Path.{◌≡◌, refl, sym, ap, ap₂, subst, ◌∙◌}
 use mathlib.Core.Bool.{Bool, true, false}
-use mathlib.Core.List.{List, [], _∷_, _++_, append-nil, map}
+use mathlib.Core.List.{List, [], ◌∷◌, ◌++◌, append-nil, map}
 use native.Mathlib.Omega.{arith}
 use native.Mathlib.Nat.{zero-add, suc-add}
-use native.Mathlib.Decide.{decLt}
+use native.Mathlib.Decide.{dec_lt}
 use lib.Dec.{ltb}
 use lib.ListN.{length, take}
 use borrow.Author.Tests.{ltb-true, lt-ltb, le-ltb}
-use Rattle·rules.specs.Lists.{Each, joined}
-use Rattle·rules.specs.Reading.{choose}
-use Rattle·rules.specs.Syntax.{Term, var, Constraint, Program}
-use Rattle·rules.specs.Written.{part}
-use Rattle·rules.specs.Inner.{Spells}
-use Rattle·rules.proofs.Spelled.{stands-getD as spells-getD}
-use Rattle·semantics.specs.Substitution.{Substitution, resolve}
-use Rattle·semantics.specs.Steps.{waiting, no-steps, at-bound, Outcome, done, stop, and-then}
-use Rattle·semantics.specs.Path.{Path, ChoicePoint}
-use Rattle·semantics.specs.Run.{usable}
-use Rattle·semantics.specs.Answer.{vars-in, Line, parameters, query-terms, names-of, answer-words, look-through, all-lines, answer}
-use Rattle·semantics.specs.Invariant.{Sound}
-use Rattle·semantics.proofs.Basics.{clash, compared, same, other, by-choose}
-use Rattle·semantics.proofs.Names.{appear-all-has}
-use Rattle·engine·specs.specs.Reference.{at}
-use Rattle·engine·specs.specs.Memory.{BindingsIn, Nameless, Stored}
-use Rattle·engine·specs.specs.Walk.{Binds}
-use Rattle·engine·specs.specs.Trail.{Apart}
-use Rattle·engine·specs.specs.Review.{ConstraintsHeld}
-use Rattle·engine·specs.specs.Names.{top-from, word-from, Distinct, Names, NamesGiven, Named}
-use Rattle·engine·specs.specs.Term.{Room, Touched, Laid, Placed, all-laid, some-missing}
-use Rattle·engine·specs.specs.Lines.{add-lines, Wholes, AnswerSoFar, Writing}
-use Rattle·engine·specs.specs.Query.{Known, query-words, Query}
-use Rattle·engine·specs.specs.Look.{ThroughAs}
-use Rattle·engine·specs.specs.Constraint.{added-says, AddedAs}
-use Rattle·engine·specs.specs.Take.{PathHeld, registers}
-use Rattle·engine·specs.specs.Answer.{Answering, AnswerLeft, answer-says, AnswerStands, AnsweredAs, Ends, answer-end, EndedAs}
-use Rattle·engine·specs.specs.declared.search.state.State.{State}
-use Rattle·engine·specs.specs.declared.writer.term.Put.{Put}
-use Rattle·engine·specs.specs.declared.writer.term.Put.the-variants.{End, Missed}
-use Rattle·engine·specs.specs.declared.writer.look.LookedThrough.{LookedThrough}
-use Rattle·engine·specs.specs.declared.writer.look.LookedThrough.the-variants as looked
-use Rattle·engine·specs.specs.declared.writer.constraint.Added.{Added}
-use Rattle·engine·specs.specs.declared.writer.constraint.Added.the-variants as added
-use Rattle·engine·specs.specs.declared.writer.answer.Answered.{Answered}
-use Rattle·engine·specs.specs.declared.writer.answer.Answered.the-variants as answered
-use Rattle·engine·proofs.proofs.TrailLaws.{fresh-few}
-use Rattle·engine·proofs.proofs.FrameLaws.{bindings-same, kept-same}
-use Rattle·engine·proofs.proofs.StoredLaws.{trailed, rebound, stored-binds}
-use Rattle·engine·proofs.proofs.NameLaws.{names-apart}
-use Rattle·engine·proofs.proofs.TermLaws.{room-same, untouched, touched-wide, laid-of, missing-of}
-use Rattle·engine·proofs.proofs.AddLineLaws.{page-over, lines-listed}
-use Rattle·engine·proofs.proofs.QueryLaws.{binds-named}
+use Rattle.rules.specs.Lists.{Each, joined}
+use Rattle.rules.specs.Reading.{choose}
+use Rattle.rules.specs.Syntax.{Term, var, Constraint, Program}
+use Rattle.rules.specs.Written.{part}
+use Rattle.rules.specs.Inner.{Spells}
+use Rattle.rules.proofs.Spelled.{stands_getD as spells_getD}
+use Rattle.semantics.specs.Substitution.{Substitution, resolve}
+use Rattle.semantics.specs.Steps.{waiting, no_steps, at_bound, Outcome, done, stop, and_then}
+use Rattle.semantics.specs.Path.{Path, ChoicePoint}
+use Rattle.semantics.specs.Run.{usable}
+use Rattle.semantics.specs.Answer.{vars_in, Line, parameters, query_terms, names_of, answer_words, look_through, all_lines, answer}
+use Rattle.semantics.specs.Invariant.{Sound}
+use Rattle.semantics.proofs.Basics.{clash, compared, same, other, by_choose}
+use Rattle.semantics.proofs.Names.{appear_all_has}
+use Rattle.engine.specs.Reference.{at}
+use Rattle.engine.specs.Memory.{BindingsIn, Nameless, Stored}
+use Rattle.engine.specs.Walk.{Binds}
+use Rattle.engine.specs.Trail.{Apart}
+use Rattle.engine.specs.Review.{ConstraintsHeld}
+use Rattle.engine.specs.Names.{top_from, word_from, Distinct, Names, NamesGiven, Named}
+use Rattle.engine.specs.Term.{Room, Touched, Laid, Placed, all_laid, some_missing}
+use Rattle.engine.specs.Lines.{add_lines, Wholes, AnswerSoFar, Writing}
+use Rattle.engine.specs.Query.{Known, query_words, Query}
+use Rattle.engine.specs.Look.{ThroughAs}
+use Rattle.engine.specs.Constraint.{added_says, AddedAs}
+use Rattle.engine.specs.Take.{PathHeld, registers}
+use Rattle.engine.specs.Answer.{Answering, AnswerLeft, answer_says, AnswerStands, AnsweredAs, Ends, answer_end, EndedAs}
+use Rattle.engine.specs.declared.search.state.State.{State}
+use Rattle.engine.specs.declared.writer.term.Put.{Put}
+use Rattle.engine.specs.declared.writer.term.Put.TheVariants.{End, Missed}
+use Rattle.engine.specs.declared.writer.look.LookedThrough.{LookedThrough}
+use Rattle.engine.specs.declared.writer.look.LookedThrough.TheVariants as looked
+use Rattle.engine.specs.declared.writer.constraint.Added.{Added}
+use Rattle.engine.specs.declared.writer.constraint.Added.TheVariants as added
+use Rattle.engine.specs.declared.writer.answer.Answered.{Answered}
+use Rattle.engine.specs.declared.writer.answer.Answered.TheVariants as answered
+use Rattle.engine.proofs.TrailLaws.{fresh_few}
+use Rattle.engine.proofs.FrameLaws.{bindings_same, kept_same}
+use Rattle.engine.proofs.StoredLaws.{trailed, rebound, stored_binds}
+use Rattle.engine.proofs.NameLaws.{names_apart}
+use Rattle.engine.proofs.TermLaws.{room_same, untouched, touched_wide, laid_of, missing_of}
+use Rattle.engine.proofs.AddLineLaws.{page_over, lines_listed}
+use Rattle.engine.proofs.QueryLaws.{binds_named}
 
 -- the first words of a list, by what stands at each place
-pub take-same : (n : ℕ) (o o′ : List ℕ) → length o′ ≡ length o → ((i : ℕ) → i < n → at o′ i ≡ at o i) → take n o′ ≡ take n o
-take-same zero o o′ e f = refl
-take-same (suc n) [] [] e f = refl
-take-same (suc n) [] (y ∷ o′) e f = absurd (omega arith)
-take-same (suc n) (x ∷ o) [] e f = absurd (omega arith)
-take-same (suc n) (x ∷ o) (y ∷ o′) e f = ap₂ _∷_ (f 0 (omega arith)) (take-same n o o′ (omega arith) (λ i l. f (suc i) (omega arith)))
+pub take_same : (n : ℕ) (o o' : List ℕ) → length o' ≡ length o → ((i : ℕ) → i < n → at o' i ≡ at o i) → take n o' ≡ take n o
+take_same zero o o' e f = refl
+take_same (suc n) [] [] e f = refl
+take_same (suc n) [] (y ∷ o') e f = absurd (omega arith)
+take_same (suc n) (x ∷ o) [] e f = absurd (omega arith)
+take_same (suc n) (x ∷ o) (y ∷ o') e f = ap₂ ◌∷◌ (f 0 (omega arith)) (take_same n o o' (omega arith) (λ i l. f (suc i) (omega arith)))
 
-take-here : (o ws : List ℕ) → length ws ≤ length o → ((i : ℕ) → i < length ws → at o i ≡ at ws i) → take (length ws) o ≡ ws
-take-here o [] l f = refl
-take-here [] (w ∷ ws) l f = absurd (omega arith)
-take-here (x ∷ o) (w ∷ ws) l f = ap₂ _∷_ (f 0 (omega arith)) (take-here o ws (omega arith) (λ i k. f (suc i) (omega arith)))
+take_here : (o ws : List ℕ) → length ws ≤ length o → ((i : ℕ) → i < length ws → at o i ≡ at ws i) → take (length ws) o ≡ ws
+take_here o [] l f = refl
+take_here [] (w ∷ ws) l f = absurd (omega arith)
+take_here (x ∷ o) (w ∷ ws) l f = ap₂ ◌∷◌ (f 0 (omega arith)) (take_here o ws (omega arith) (λ i k. f (suc i) (omega arith)))
 
-take-behind : (n : ℕ) (o ws : List ℕ) → n + length ws ≤ length o → ((i : ℕ) → i < length ws → at o (n + i) ≡ at ws i) → take (n + length ws) o ≡ take n o ++ ws
-take-behind zero o ws l f = ap (λ k. take k o) (zero-add (length ws)) ∙ take-here o ws (omega arith) (λ i k. subst (λ j. at o j ≡ at ws i) (zero-add i) (f i k))
-take-behind (suc n) [] ws l f = absurd (omega arith)
-take-behind (suc n) (x ∷ o) ws l f =
-    ap (λ k. take k (x ∷ o)) (suc-add n (length ws)) ∙ ap (λ (r : List ℕ). x ∷ r) (take-behind n o ws (omega arith) (λ i k. subst (λ j. at (x ∷ o) j ≡ at ws i) (suc-add n i) (f i k)))
+take_behind : (n : ℕ) (o ws : List ℕ) → n + length ws ≤ length o → ((i : ℕ) → i < length ws → at o (n + i) ≡ at ws i) → take (n + length ws) o ≡ take n o ++ ws
+take_behind zero o ws l f = ap (λ k. take k o) (zero-add (length ws)) ∙ take_here o ws (omega arith) (λ i k. subst (λ j. at o j ≡ at ws i) (zero-add i) (f i k))
+take_behind (suc n) [] ws l f = absurd (omega arith)
+take_behind (suc n) (x ∷ o) ws l f =
+    ap (λ k. take k (x ∷ o)) (suc-add n (length ws)) ∙ ap (λ (r : List ℕ). x ∷ r) (take_behind n o ws (omega arith) (λ i k. subst (λ j. at (x ∷ o) j ≡ at ws i) (suc-add n i) (f i k)))
 
-pub take-spelled : (n : ℕ) (o ws : List ℕ) → n + length ws ≤ length o → Spells o n ws → take (n + length ws) o ≡ take n o ++ ws
-take-spelled n o ws l h = take-behind n o ws l (λ i k. spells-getD o n ws i h k)
+pub take_spelled : (n : ℕ) (o ws : List ℕ) → n + length ws ≤ length o → Spells o n ws → take (n + length ws) o ≡ take n o ++ ws
+take_spelled n o ws l h = take_behind n o ws l (λ i k. spells_getD o n ws i h k)
 
 -- the page begins
 bare : (head : List ℕ) → length (head ++ joined []) ≡ length head
 bare head = ap length (append-nil head)
 
 module _ {o : List ℕ} (start : ℕ) {end : ℕ} {head : List ℕ} where
-  pub begin-none : end ≤ start → AnswerSoFar o o (start + 1) (end + 1) end (end + 1) head []
-  begin-none l = page-over (omega arith) (omega arith) (untouched o (start + 1) end)
+  pub begin_none : end ≤ start → AnswerSoFar o o (start + 1) (end + 1) end (end + 1) head []
+  begin_none l = page_over (omega arith) (omega arith) (untouched o (start + 1) end)
 
-  module _ {o′ : List ℕ} {r : Put} (p : Placed o o′ (start + 1) end true head r) where
-    pub begin-missed : r ≡ Missed → AnswerSoFar o o′ (start + 1) (end + 1) end (end + 1) head []
-    begin-missed e = let m = missing-of p e in page-over (omega arith) (omega (arith, m .no-room refl, bare head)) (m .touched)
+  module _ {o' : List ℕ} {r : Put} (p : Placed o o' (start + 1) end true head r) where
+    pub begin_missed : r ≡ Missed → AnswerSoFar o o' (start + 1) (end + 1) end (end + 1) head []
+    begin_missed e = let m = missing_of p e in page_over (omega arith) (omega (arith, m.no_room refl, bare head)) m.touched
 
-    pub begin-put : {next : ℕ} → r ≡ End next → AnswerSoFar o o′ (start + 1) next end next head []
+    pub begin_put : {next : ℕ} → r ≡ End next → AnswerSoFar o o' (start + 1) next end next head []
     unfolding Wholes
-    begin-put {next} e =
-        let d = laid-of p e in
-        let n : next ≡ start + 1 + length head = d .is in
-        let f : next ≤ end = d .fits in
+    begin_put {next} e =
+        let d = laid_of p e in
+        let n : next ≡ start + 1 + length head = d.is in
+        let f : next ≤ end = d.fits in
         record {
-          stands = λ _. subst (λ v. Laid o o′ (start + 1) end true v next) (sym (append-nil head)) d;
+          stands = λ _. subst (λ v. Laid o o' (start + 1) end true v next) (sym (append-nil head)) d;
           whole = λ _. tt;
-          begins = λ _. d .is;
+          begins = λ _. d.is;
           over = λ q. absurd (omega arith);
-          touched = touched-wide (start + 1) end (omega arith) (omega arith) (d .touched);
+          touched = touched_wide (start + 1) end (omega arith) (omega arith) d.touched;
         }
 
 -- the page ends
 wider : {o₀ o : List ℕ} {start end : ℕ} → Touched o₀ o (start + 1) end → Touched o₀ o start end
-wider {o₀} {o} {start} {end} t = touched-wide start end (omega arith) (omega arith) t
+wider {o₀} {o} {start} {end} t = touched_wide start end (omega arith) (omega arith) t
 
 module _ (o₀ o : List ℕ) (start end : ℕ) (v : List ℕ) (r : Added) where
-  pub ended-steps : r ≡ added.StepsOut → EndedAs o₀ o o start end v r answered.StepsOut
-  ended-steps e = record { says = rw e refl; written = λ n l q. clash (cc); touched = λ t. wider t }
+  pub ended_steps : r ≡ added.StepsOut → EndedAs o₀ o o start end v r answered.StepsOut
+  ended_steps e = record { says = rw e refl; written = λ n l q. clash (cc); touched = λ t. wider t }
 
-  pub ended-path : {left : ℕ} → r ≡ added.WaitingOut left → EndedAs o₀ o o start end v r (answered.WaitingOut left)
-  ended-path e = record { says = rw e refl; written = λ n l q. clash (cc); touched = λ t. wider t }
+  pub ended_path : {left : ℕ} → r ≡ added.WaitingOut left → EndedAs o₀ o o start end v r (answered.WaitingOut left)
+  ended_path e = record { says = rw e refl; written = λ n l q. clash (cc); touched = λ t. wider t }
 
-  pub ended-full : {place left : ℕ} → r ≡ added.Done place left → end < place → EndedAs o₀ o o start end v r (answered.Full left)
-  ended-full {place} e f = record { says = rw (e, lt-ltb end place f) refl; written = λ n l q. clash (cc); touched = λ t. wider t }
+  pub ended_full : {place left : ℕ} → r ≡ added.Done place left → end < place → EndedAs o₀ o o start end v r (answered.Full left)
+  ended_full {place} e f = record { says = rw (e, lt-ltb end place f) refl; written = λ n l q. clash (cc); touched = λ t. wider t }
 
-  pub ended-written : {o′ : List ℕ} {place left : ℕ} {q : Put} → Ends o₀ o start end v r → r ≡ added.Done place left → place ≤ end → Placed o₀ o′ start end true (part 15 v) q → EndedAs o₀ o o′ start end v r (answered.Written place left)
-  ended-written {o′} {place} {left} h e f p = record {
+  pub ended_written : {o' : List ℕ} {place left : ℕ} {q : Put} → Ends o₀ o start end v r → r ≡ added.Done place left → place ≤ end → Placed o₀ o' start end true (part 15 v) q → EndedAs o₀ o o' start end v r (answered.Written place left)
+  ended_written {o'} {place} {left} h e f p = record {
     says = rw (e, le-ltb end place f) refl;
-    written = λ n l z. let k : place ≡ n = cc in subst (Laid o₀ o′ start end true (part 15 v)) k laid;
-    touched = λ _. touched-wide start end (omega arith) (omega arith) (laid .touched);
+    written = λ n l z. let k : place ≡ n = cc in subst (Laid o₀ o' start end true (part 15 v)) k laid;
+    touched = λ _. touched_wide start end (omega arith) (omega arith) laid.touched;
   }
     where
-      placed : {q : Put} → Placed o₀ o′ start end true (part 15 v) q → place ≡ start + 1 + length v → Laid o₀ o′ start end true (part 15 v) place
-      placed (all-laid {e = k} l) a = let z : k ≡ place = omega (arith, l .is) in subst (Laid o₀ o′ start end true (part 15 v)) z l
-      placed (some-missing m) a = absurd (omega (arith, m .no-room refl))
+      placed : {q : Put} → Placed o₀ o' start end true (part 15 v) q → place ≡ start + 1 + length v → Laid o₀ o' start end true (part 15 v) place
+      placed (all_laid {e = k} l) a = let z : k ≡ place = omega (arith, l.is) in subst (Laid o₀ o' start end true (part 15 v)) z l
+      placed (some_missing m) a = absurd (omega (arith, m.no_room refl))
 
-      laid : Laid o₀ o′ start end true (part 15 v) place
-      laid = placed p (h place left e f .is)
+      laid : Laid o₀ o' start end true (part 15 v) place
+      laid = placed p (h place left e f).is
 
 -- no room: the lines end behind the page's end
 record Overrun (end : ℕ) (r : Added) (left : ℕ) : Type 0 where
@@ -135,7 +135,7 @@ record Overrun (end : ℕ) (r : Added) (left : ℕ) : Type 0 where
   pub is : r ≡ added.Done place left
   pub beyond : end < place
 
-overrun : (end : ℕ) (r : Added) (l : ℕ) → answered.Full l ≡ answer-end end r → Overrun end r l
+overrun : (end : ℕ) (r : Added) (l : ℕ) → answered.Full l ≡ answer_end end r → Overrun end r l
 overrun end (added.Done place left) l e = go (ltb end place) refl e
   where
     go : (b : Bool) → ltb end place ≡ b → answered.Full l ≡ choose b (λ _. answered.Full left) (λ _. answered.Written place left) → Overrun end (added.Done place left) l
@@ -146,215 +146,215 @@ overrun end (added.WaitingOut left) l e = clash (cc)
 
 -- names: none before, none after
 pub unnamed : {s : List ℕ} → Nameless s → Names s 0 []
-unfolding top-from word-from Distinct
-unnamed h = record { top-is = refl; words = λ y l. h (4096 + y) (omega arith) (omega arith); distinct = tt }
+unfolding top_from word_from Distinct
+unnamed h = record { top_is = refl; words = λ y l. h (4096 + y) (omega arith) (omega arith); distinct = tt }
 
-pub nameless-again : {s : List ℕ} → Names s 0 [] → Nameless s
-unfolding word-from
-nameless-again {s} h = λ i lo hi. let e : 4096 + (i - 4096) ≡ i = omega arith in subst (λ j. at s j ≡ 0) e (h .words (i - 4096) (omega arith))
+pub nameless_again : {s : List ℕ} → Names s 0 [] → Nameless s
+unfolding word_from
+nameless_again {s} h = λ i lo hi. let e : 4096 + (i - 4096) ≡ i = omega arith in subst (λ j. at s j ≡ 0) e (h.words (i - 4096) (omega arith))
 
 -- the open variables of the query terms have names
-each-parameter : (Q : Term → Type 0) (i n x : ℕ) → Each Q (parameters i n) → i ≤ x → x < i + n → Q (var x)
-each-parameter Q i zero x e l m = absurd (omega arith)
-each-parameter Q i (suc n) x e l m = elim (compared i x) [
-  | same q z ↦ subst (λ j. Q (var j)) q (e .0)
-  | other d z ↦ each-parameter Q (suc i) n x (e .1) (omega arith) (omega arith)
+each_parameter : (Q : Term → Type 0) (i n x : ℕ) → Each Q (parameters i n) → i ≤ x → x < i + n → Q (var x)
+each_parameter Q i zero x e l m = absurd (omega arith)
+each_parameter Q i (suc n) x e l m = elim (compared i x) [
+  | same q z ↦ subst (λ j. Q (var j)) q e.0
+  | other d z ↦ each_parameter Q (suc i) n x e.1 (omega arith) (omega arith)
 ]
 
-each-resolved : (Q : Term → Type 0) (bs : Substitution) (ts : List Term) → Each Q (map (resolve bs) ts) → Each (λ t. Q (resolve bs t)) ts
-each-resolved Q bs [] e = tt
-each-resolved Q bs (t ∷ ts) e = (e .0, each-resolved Q bs ts (e .1))
+each_resolved : (Q : Term → Type 0) (bs : Substitution) (ts : List Term) → Each Q (map (resolve bs) ts) → Each (λ t. Q (resolve bs t)) ts
+each_resolved Q bs [] e = tt
+each_resolved Q bs (t ∷ ts) e = (e.0, each_resolved Q bs ts e.1)
 
-pub query-known : (bs : Substitution) (n : ℕ) → Known bs (names-of bs n) n
-query-known bs n = λ x l. each-parameter (λ t. vars-in (names-of bs n) (resolve bs t) ≡ true) 0 n x (each-resolved (λ t. vars-in (names-of bs n) t ≡ true) bs (parameters 0 n) (appear-all-has [] (query-terms bs 0 n))) (omega arith) (omega arith)
+pub query_known : (bs : Substitution) (n : ℕ) → Known bs (names_of bs n) n
+query_known bs n = λ x l. each_parameter (λ t. vars_in (names_of bs n) (resolve bs t) ≡ true) 0 n x (each_resolved (λ t. vars_in (names_of bs n) t ≡ true) bs (parameters 0 n) (appear_all_has [] (query_terms bs 0 n))) (omega arith) (omega arith)
 
 -- the words of an answer but its own, and with it
-abbrev pub page-words : Substitution → ℕ → List Line → List ℕ
-page-words bs n ls = query-words bs (names-of bs n) 0 n ++ joined (add-lines (names-of bs n) [] ls)
+abbrev pub page_words : Substitution → ℕ → List Line → List ℕ
+page_words bs n ls = query_words bs (names_of bs n) 0 n ++ joined (add_lines (names_of bs n) [] ls)
 
-words-are : (bs : Substitution) (n : ℕ) (ls : List Line) → part 15 (page-words bs n ls) ≡ answer-words bs n ls
-words-are bs n ls = ap (λ v. part 15 (query-words bs (names-of bs n) 0 n ++ v)) (lines-listed (names-of bs n) [] [] ls (λ v. refl))
+words_are : (bs : Substitution) (n : ℕ) (ls : List Line) → part 15 (page_words bs n ls) ≡ answer_words bs n ls
+words_are bs n ls = ap (λ v. part 15 (query_words bs (names_of bs n) 0 n ++ v)) (lines_listed (names_of bs n) [] [] ls (λ v. refl))
 
 -- the end of the lines says what the answer does
-ends-said : (bs : Substitution) (n end : ℕ) (ls : List Line) (r : Added) → and-then (added-says ls r) (λ ls k. done (answer-words bs n ls) k) ≡ answer-says (answer-words bs n ls) (answer-end end r)
-ends-said bs n end ls (added.Done place left) = by-choose (λ q. done (answer-words bs n ls) left ≡ answer-says (answer-words bs n ls) q) (ltb end place) (λ _. answered.Full left) (λ _. answered.Written place left) (λ _. refl) (λ _. refl)
-ends-said bs n end ls added.StepsOut = refl
-ends-said bs n end ls (added.WaitingOut left) = refl
+ends_said : (bs : Substitution) (n end : ℕ) (ls : List Line) (r : Added) → and_then (added_says ls r) (λ ls k. done (answer_words bs n ls) k) ≡ answer_says (answer_words bs n ls) (answer_end end r)
+ends_said bs n end ls (added.Done place left) = by_choose (λ q. done (answer_words bs n ls) left ≡ answer_says (answer_words bs n ls) q) (ltb end place) (λ _. answered.Full left) (λ _. answered.Written place left) (λ _. refl) (λ _. refl)
+ends_said bs n end ls added.StepsOut = refl
+ends_said bs n end ls (added.WaitingOut left) = refl
 
 -- Answering, in the order of the code's calls.
 module _ {P : Program} {ws s output : List ℕ} {st : State} {p : Path} {cs : List ChoicePoint} {params used : ℕ} (a : Answering P ws s output st p cs params used) where
   abbrev bs : Substitution
-  bs = p .bindings
+  bs = p.bindings
 
   abbrev names : List ℕ
-  names = names-of bs params
+  names = names_of bs params
 
-  pub answer-low : params ≤ 2048
-  answer-low = omega (arith, a .few-params, a .sound .few-made)
+  pub answer_low : params ≤ 2048
+  answer_low = omega (arith, a.few_params, a.sound.few_made)
 
-  pub answer-binds : Binds ws s bs
-  answer-binds = stored-binds (a .stored) (a .short) (a .sound .good)
+  pub answer_binds : Binds ws s bs
+  answer_binds = stored_binds a.stored a.short a.sound.good
 
-  as-before : AnswerLeft P ws s output s output st p cs used
-  as-before = record { stored = a .stored; scratch-length = refl; output-length = refl; before = refl }
+  as_before : AnswerLeft P ws s output s output st p cs used
+  as_before = record { stored = a.stored; scratch_length = refl; output_length = refl; before = refl }
 
   -- the steps of the query terms
-  module _ (r : LookedThrough) (h : ThroughAs bs (parameters 0 params) (st .steps) r) where
-    pub answer-steps : r ≡ looked.StepsOut → AnsweredAs P ws s output s output st p cs used (answer p params (st .steps)) answered.StepsOut
+  module _ (r : LookedThrough) (h : ThroughAs bs (parameters 0 params) st.steps r) where
+    pub answer_steps : r ≡ looked.StepsOut → AnsweredAs P ws s output s output st p cs used (answer p params st.steps) answered.StepsOut
     unfolding ThroughAs
-    answer-steps e =
-        let d : look-through bs (parameters 0 params) (st .steps) ≡ stop no-steps 0 = rw e at h in
-        record { leaves-lent = as-before; words = []; says = rw d refl; written = λ n l q. clash (cc); full = λ l q. clash (cc) }
+    answer_steps e =
+        let d : look_through bs (parameters 0 params) st.steps ≡ stop no_steps 0 = rw e at h in
+        record { leaves_lent = as_before; words = []; says = rw d refl; written = λ n l q. clash (cc); full = λ l q. clash (cc) }
 
-    pub answer-path : {left : ℕ} → r ≡ looked.WaitingOut left → AnsweredAs P ws s output s output st p cs used (answer p params (st .steps)) (answered.WaitingOut left)
+    pub answer_path : {left : ℕ} → r ≡ looked.WaitingOut left → AnsweredAs P ws s output s output st p cs used (answer p params st.steps) (answered.WaitingOut left)
     unfolding ThroughAs
-    answer-path {left} e =
-        let d : look-through bs (parameters 0 params) (st .steps) ≡ stop (at-bound waiting) left = rw e at h in
-        record { leaves-lent = as-before; words = []; says = rw d refl; written = λ n l q. clash (cc); full = λ l q. clash (cc) }
+    answer_path {left} e =
+        let d : look_through bs (parameters 0 params) st.steps ≡ stop (at_bound waiting) left = rw e at h in
+        record { leaves_lent = as_before; words = []; says = rw d refl; written = λ n l q. clash (cc); full = λ l q. clash (cc) }
 
-    pub answer-on : {left : ℕ} → r ≡ looked.Done left → answer p params (st .steps) ≡ and-then (all-lines bs (p .kept) left) (λ ls m. done (answer-words bs params ls) m)
+    pub answer_on : {left : ℕ} → r ≡ looked.Done left → answer p params st.steps ≡ and_then (all_lines bs p.kept left) (λ ls m. done (answer_words bs params ls) m)
     unfolding ThroughAs
-    answer-on {left} e =
-        let d : ThroughAs bs (parameters 0 params) (st .steps) (looked.Done left) = rw e at h in
-        ap (λ o. and-then o (λ _ l. and-then (all-lines bs (p .kept) l) (λ ls m. done (answer-words bs params ls) m))) d
+    answer_on {left} e =
+        let d : ThroughAs bs (parameters 0 params) st.steps (looked.Done left) = rw e at h in
+        ap (λ o. and_then o (λ _ l. and_then (all_lines bs p.kept l) (λ ls m. done (answer_words bs params ls) m))) d
 
   -- with names
   module _ {s₁ : List ℕ} {top : ℕ} (m : Named s s₁ top names) where
-    pub answer-given : NamesGiven s₁ names
-    answer-given = record { long = binds-named m answer-binds .long; top = top; named = m .given }
+    pub answer_given : NamesGiven s₁ names
+    answer_given = record { long = (binds_named m answer_binds).long; top = top; named = m.given }
 
-    pub answer-query : Query ws s₁ params bs names
-    answer-query = record { binds = binds-named m answer-binds; given = answer-given; known = query-known bs params }
+    pub answer_query : Query ws s₁ params bs names
+    answer_query = record { binds = binds_named m answer_binds; given = answer_given; known = query_known bs params }
 
-    pub answer-kept : ConstraintsHeld ws s₁ bs (p .kept) (st .trail) (st .constraints)
-    answer-kept =
-        let k : st .constraints ≡ length (p .kept) = a .stored .path-in .kept in
+    pub answer_kept : ConstraintsHeld ws s₁ bs p.kept st.trail st.constraints
+    answer_kept =
+        let k : st.constraints ≡ length p.kept = a.stored.path_in.kept in
         record {
-          held = binds-named m answer-binds;
-          kept-in = kept-same ws s s₁ 0 (p .kept) (λ i lo hi. m .above i (omega arith)) (a .stored .kept-in);
-          kept-is = k;
-          few = a .stored .roomy .kept;
-          trail-is = a .stored .path-in .trail;
+          held = binds_named m answer_binds;
+          kept_in = kept_same ws s s₁ 0 p.kept (λ i lo hi. m.above i (omega arith)) a.stored.kept_in;
+          kept_is = k;
+          few = a.stored.roomy.kept;
+          trail_is = a.stored.path_in.trail;
         }
 
     -- with the query terms put
-    module _ {out₁ : List ℕ} {end place : ℕ} (room : Room output end) (page : AnswerSoFar output out₁ (used + 1) place end place (query-words bs names 0 params) []) where
-      abbrev pub answer-writing : Writing s₁ out₁ place end place
-      answer-writing = record { before = output; begin = used + 1; head = query-words bs names 0 params; lines = []; names = names; page = page; given = answer-given; room = room-same (page .touched .long) room }
+    module _ {out₁ : List ℕ} {end place : ℕ} (room : Room output end) (page : AnswerSoFar output out₁ (used + 1) place end place (query_words bs names 0 params) []) where
+      abbrev pub answer_writing : Writing s₁ out₁ place end place
+      answer_writing = record { before = output; begin = used + 1; head = query_words bs names 0 params; lines = []; names = names; page = page; given = answer_given; room = room_same page.touched.long room }
 
       -- with the lines of the constraints
-      module _ {s₂ out₂ : List ℕ} (o : Outcome (List Line)) (r : Added) (d : AddedAs ws s₁ s₂ answer-writing out₂ bs o r) where
-        pub answer-named : Names s₂ top names
-        answer-named = names-apart (d .apart) (m .given)
+      module _ {s₂ out₂ : List ℕ} (o : Outcome (List Line)) (r : Added) (d : AddedAs ws s₁ s₂ answer_writing out₂ bs o r) where
+        pub answer_named : Names s₂ top names
+        answer_named = names_apart d.apart m.given
 
-        pub answer-ends : Ends output out₂ used end (page-words bs params (d .lines)) r
-        answer-ends next left e = d .page next left e .stands
+        pub answer_ends : Ends output out₂ used end (page_words bs params d.lines) r
+        answer_ends next left e = (d.page next left e).stands
 
         -- without names again
-        pub answer-stored : {s₃ : List ℕ} → Named s₂ s₃ 0 [] → PathHeld P ws s₃ st p cs
-        answer-stored {s₃} c =
-            let h : Stored P ws s (registers st) (st .choices) p cs = a .stored in
-            let empty : Nameless s₃ = nameless-again (c .given) in
+        pub answer_stored : {s₃ : List ℕ} → Named s₂ s₃ 0 [] → PathHeld P ws s₃ st p cs
+        answer_stored {s₃} c =
+            let h : Stored P ws s (registers st) st.choices p cs = a.stored in
+            let empty : Nameless s₃ = nameless_again c.given in
             let far : Apart s s₃ = record {
-              long = c .long ∙ d .apart .long ∙ m .long;
+              long = c.long ∙ d.apart.long ∙ m.long;
               middle = λ i lo hi. middle empty i lo hi;
-              above = λ i lo. c .above i (omega arith) ∙ d .apart .above i lo ∙ m .above i (omega arith);
+              above = λ i lo. c.above i (omega arith) ∙ d.apart.above i lo ∙ m.above i (omega arith);
             } in
-            let b : BindingsIn ws s₃ bs = bindings-same ws s₂ s₃ bs (λ i lo hi. c .below i (omega arith)) (λ i lo hi. c .below i (omega (arith, fresh-few bs (d .bindings-in .fresh)))) (d .bindings-in) in
-            subst (λ z. Stored P ws s₃ (trailed (registers st) z) (st .choices) p cs) (sym (h .path-in .trail)) (rebound [] bs refl far b h)
+            let b : BindingsIn ws s₃ bs = bindings_same ws s₂ s₃ bs (λ i lo hi. c.below i (omega arith)) (λ i lo hi. c.below i (omega (arith, fresh_few bs d.bindings_in.fresh))) d.bindings_in in
+            subst (λ z. Stored P ws s₃ (trailed (registers st) z) st.choices p cs) (sym h.path_in.trail) (rebound [] bs refl far b h)
           where
             middle : Nameless s₃ → (i : ℕ) → 4096 ≤ i → i < 10752 → at s₃ i ≡ at s i
-            middle empty i lo hi = elim (decLt i 6144) [
-              | yes q ↦ empty i lo q ∙ sym (a .stored .nameless i lo q)
-              | no q ↦ c .above i (omega arith) ∙ d .apart .middle i lo hi ∙ m .above i (omega arith)
+            middle empty i lo hi = elim (dec_lt i 6144) [
+              | yes q ↦ empty i lo q ∙ sym (a.stored.nameless i lo q)
+              | no q ↦ c.above i (omega arith) ∙ d.apart.middle i lo hi ∙ m.above i (omega arith)
             ]
 
         -- and the definition's words
-        module _ (out₃ : List ℕ) (q : Answered) (e : EndedAs output out₂ out₃ used end (page-words bs params (d .lines)) r q) (is-end : end ≡ usable (length output)) where
+        module _ (out₃ : List ℕ) (q : Answered) (e : EndedAs output out₂ out₃ used end (page_words bs params d.lines) r q) (is_end : end ≡ usable (length output)) where
           abbrev words : List ℕ
-          words = answer-words bs params (d .lines)
+          words = answer_words bs params d.lines
 
-          end-touched : Touched output out₃ used end
-          end-touched = e .touched (d .touched)
+          end_touched : Touched output out₃ used end
+          end_touched = e.touched d.touched
 
-          answer-stands : (n left : ℕ) → q ≡ answered.Written n left → AnswerStands output out₃ used words n
-          answer-stands n left z =
-              let g : Laid output out₃ used end true words n = subst (λ v. Laid output out₃ used end true v n) (words-are bs params (d .lines)) (e .written n left z) in
-              let x : n ≡ used + length words = g .is in
-              let y : n ≤ end = g .fits in
-              let u : length out₃ ≡ length output = end-touched .long in
+          answer_stands : (n left : ℕ) → q ≡ answered.Written n left → AnswerStands output out₃ used words n
+          answer_stands n left z =
+              let g : Laid output out₃ used end true words n = subst (λ v. Laid output out₃ used end true v n) (words_are bs params d.lines) (e.written n left z) in
+              let x : n ≡ used + length words = g.is in
+              let y : n ≤ end = g.fits in
+              let u : length out₃ ≡ length output = end_touched.long in
               record {
-                used-now = x;
+                used_now = x;
                 fits = omega arith;
-                stands = ap (λ j. take j out₃) x ∙ take-spelled used out₃ words (omega arith) (g .words) ∙ ap (λ v. v ++ words) (take-same used output out₃ u (end-touched .below));
-                whole = record { kind = 15; rest = page-words bs params (d .lines); is = sym (words-are bs params (d .lines)); short = omega (arith, ap length (words-are bs params (d .lines)), room .short) };
-                behind = g .touched .above;
+                stands = ap (λ j. take j out₃) x ∙ take_spelled used out₃ words (omega arith) g.words ∙ ap (λ v. v ++ words) (take_same used output out₃ u end_touched.below);
+                whole = record { kind = 15; rest = page_words bs params d.lines; is = sym (words_are bs params d.lines); short = omega (arith, ap length (words_are bs params d.lines), room.short) };
+                behind = g.touched.above;
               }
 
-          answer-full : (left : ℕ) → q ≡ answered.Full left → usable (length output) < used + length words
-          answer-full left z =
-              let v = overrun end r left (sym z ∙ e .says) in
-              let x : length (part 15 (page-words bs params (d .lines))) ≡ length words = ap length (words-are bs params (d .lines)) in
-              omega (arith, d .page (v .place) left (v .is) .over (v .beyond))
+          answer_full : (left : ℕ) → q ≡ answered.Full left → usable (length output) < used + length words
+          answer_full left z =
+              let v = overrun end r left (sym z ∙ e.says) in
+              let x : length (part 15 (page_words bs params d.lines)) ≡ length words = ap length (words_are bs params d.lines) in
+              omega (arith, (d.page v.place left v.is).over v.beyond)
 
-          pub answer-done : {s₃ : List ℕ} → Named s₂ s₃ 0 [] → answer p params (st .steps) ≡ and-then o (λ ls k. done (answer-words bs params ls) k)
-              → AnsweredAs P ws s output s₃ out₃ st p cs used (answer p params (st .steps)) q
-          answer-done {s₃} c f = record {
-            leaves-lent = record {
-              stored = answer-stored c;
-              scratch-length = c .long ∙ d .apart .long ∙ m .long;
-              output-length = end-touched .long;
-              before = take-same used output out₃ (end-touched .long) (end-touched .below);
+          pub answer_done : {s₃ : List ℕ} → Named s₂ s₃ 0 [] → answer p params st.steps ≡ and_then o (λ ls k. done (answer_words bs params ls) k)
+              → AnsweredAs P ws s output s₃ out₃ st p cs used (answer p params st.steps) q
+          answer_done {s₃} c f = record {
+            leaves_lent = record {
+              stored = answer_stored c;
+              scratch_length = c.long ∙ d.apart.long ∙ m.long;
+              output_length = end_touched.long;
+              before = take_same used output out₃ end_touched.long end_touched.below;
             };
             words = words;
-            says = f ∙ ap (λ o. and-then o (λ ls k. done (answer-words bs params ls) k)) (d .says) ∙ ends-said bs params end (d .lines) r ∙ ap (answer-says words) (sym (e .says));
-            written = answer-stands;
-            full = answer-full;
+            says = f ∙ ap (λ o. and_then o (λ ls k. done (answer_words bs params ls) k)) d.says ∙ ends_said bs params end d.lines r ∙ ap (answer_says words) (sym e.says);
+            written = answer_stands;
+            full = answer_full;
           }
 
 -- The same from what the calls promise, one after the other.
 module _ {P : Program} {ws s output : List ℕ} {st : State} {p : Path} {cs : List ChoicePoint} {params used : ℕ} (a : Answering P ws s output st p cs params used) where
-  module _ (r : LookedThrough) (look : (bs : Substitution) → Binds ws s bs → ThroughAs bs (parameters 0 params) (st .steps) r) where
-    pub steps-out-now : r ≡ looked.StepsOut → AnsweredAs P ws s output s output st p cs used (answer p params (st .steps)) answered.StepsOut
-    steps-out-now e = answer-steps a r (look (p .bindings) (answer-binds a)) e
+  module _ (r : LookedThrough) (look : (bs : Substitution) → Binds ws s bs → ThroughAs bs (parameters 0 params) st.steps r) where
+    pub steps_out_now : r ≡ looked.StepsOut → AnsweredAs P ws s output s output st p cs used (answer p params st.steps) answered.StepsOut
+    steps_out_now e = answer_steps a r (look p.bindings (answer_binds a)) e
 
-    pub path-out-now : {left : ℕ} → r ≡ looked.WaitingOut left → AnsweredAs P ws s output s output st p cs used (answer p params (st .steps)) (answered.WaitingOut left)
-    path-out-now e = answer-path a r (look (p .bindings) (answer-binds a)) e
+    pub path_out_now : {left : ℕ} → r ≡ looked.WaitingOut left → AnsweredAs P ws s output s output st p cs used (answer p params st.steps) (answered.WaitingOut left)
+    path_out_now e = answer_path a r (look p.bindings (answer_binds a)) e
 
-  module _ {s₁ : List ℕ} {top : ℕ} (name : (bs : Substitution) → Binds ws s bs → Names s 0 [] → Named s s₁ top (names-of bs params)) where
-    pub named-now : Named s s₁ top (names-of (p .bindings) params)
-    named-now = name (p .bindings) (answer-binds a) (unnamed (a .stored .nameless))
+  module _ {s₁ : List ℕ} {top : ℕ} (name : (bs : Substitution) → Binds ws s bs → Names s 0 [] → Named s s₁ top (names_of bs params)) where
+    pub named_now : Named s s₁ top (names_of p.bindings params)
+    named_now = name p.bindings (answer_binds a) (unnamed a.stored.nameless)
 
-    pub query-now : Query ws s₁ params (p .bindings) (names-of (p .bindings) params)
-    query-now = answer-query a named-now
+    pub query_now : Query ws s₁ params p.bindings (names_of p.bindings params)
+    query_now = answer_query a named_now
 
-    module _ {out₁ : List ℕ} {end place : ℕ} (room : Room output end) (begin : (bs : Substitution) (names : List ℕ) → Query ws s₁ params bs names → AnswerSoFar output out₁ (used + 1) place end place (query-words bs names 0 params) []) where
-      pub page-now : AnswerSoFar output out₁ (used + 1) place end place (query-words (p .bindings) (names-of (p .bindings) params) 0 params) []
-      page-now = begin (p .bindings) (names-of (p .bindings) params) query-now
+    module _ {out₁ : List ℕ} {end place : ℕ} (room : Room output end) (begin : (bs : Substitution) (names : List ℕ) → Query ws s₁ params bs names → AnswerSoFar output out₁ (used + 1) place end place (query_words bs names 0 params) []) where
+      pub page_now : AnswerSoFar output out₁ (used + 1) place end place (query_words p.bindings (names_of p.bindings params) 0 params) []
+      page_now = begin p.bindings (names_of p.bindings params) query_now
 
-      abbrev pub writing-now : Writing s₁ out₁ place end place
-      writing-now = answer-writing a named-now room page-now
+      abbrev pub writing_now : Writing s₁ out₁ place end place
+      writing_now = answer_writing a named_now room page_now
 
       module _ {s₂ out₂ : List ℕ} {left : ℕ} (d : Added)
-          (add : (g : Writing s₁ out₁ place end place) (bs : Substitution) (ks : List Constraint) (made : ℕ) → ConstraintsHeld ws s₁ bs ks (st .trail) (st .constraints) → Sound bs ks made → AddedAs ws s₁ s₂ g out₂ bs (all-lines bs ks left) d) where
-        pub added-now : AddedAs ws s₁ s₂ writing-now out₂ (p .bindings) (all-lines (p .bindings) (p .kept) left) d
-        added-now = add writing-now (p .bindings) (p .kept) (p .made) (answer-kept a named-now) (a .sound)
+          (add : (g : Writing s₁ out₁ place end place) (bs : Substitution) (ks : List Constraint) (made : ℕ) → ConstraintsHeld ws s₁ bs ks st.trail st.constraints → Sound bs ks made → AddedAs ws s₁ s₂ g out₂ bs (all_lines bs ks left) d) where
+        pub added_now : AddedAs ws s₁ s₂ writing_now out₂ p.bindings (all_lines p.bindings p.kept left) d
+        added_now = add writing_now p.bindings p.kept p.made (answer_kept a named_now) a.sound
 
-        pub apart-now : Apart s₁ s₂
-        apart-now = added-now .apart
+        pub apart_now : Apart s₁ s₂
+        apart_now = added_now.apart
 
-        pub touched-now : Touched output out₂ (used + 1) end
-        touched-now = added-now .touched
+        pub touched_now : Touched output out₂ (used + 1) end
+        touched_now = added_now.touched
 
-        pub names-now : Names s₂ top (names-of (p .bindings) params)
-        names-now = answer-named a named-now room page-now _ d added-now
+        pub names_now : Names s₂ top (names_of p.bindings params)
+        names_now = answer_named a named_now room page_now _ d added_now
 
-        pub ends-now : Ends output out₂ used end (page-words (p .bindings) params (added-now .lines)) d
-        ends-now = answer-ends a named-now room page-now _ d added-now
+        pub ends_now : Ends output out₂ used end (page_words p.bindings params added_now.lines) d
+        ends_now = answer_ends a named_now room page_now _ d added_now
 
-        pub answered-now : (r : LookedThrough) → ((bs : Substitution) → Binds ws s bs → ThroughAs bs (parameters 0 params) (st .steps) r) → r ≡ looked.Done left
+        pub answered_now : (r : LookedThrough) → ((bs : Substitution) → Binds ws s bs → ThroughAs bs (parameters 0 params) st.steps r) → r ≡ looked.Done left
             → {s₃ : List ℕ} (out₃ : List ℕ) (q : Answered) → end ≡ usable (length output) → ((names : List ℕ) → Names s₂ top names → Named s₂ s₃ 0 [])
             → ((o : List ℕ) (v : List ℕ) → Ends o out₂ used end v d → EndedAs o out₂ out₃ used end v d q)
-            → AnsweredAs P ws s output s₃ out₃ st p cs used (answer p params (st .steps)) q
-        answered-now r look e out₃ q is-end clear finish =
-            answer-done a named-now room page-now _ d added-now out₃ q (finish output _ ends-now) is-end (clear _ names-now) (answer-on a r (look (p .bindings) (answer-binds a)) e)
+            → AnsweredAs P ws s output s₃ out₃ st p cs used (answer p params st.steps) q
+        answered_now r look e out₃ q is_end clear finish =
+            answer_done a named_now room page_now _ d added_now out₃ q (finish output _ ends_now) is_end (clear _ names_now) (answer_on a r (look p.bindings (answer_binds a)) e)

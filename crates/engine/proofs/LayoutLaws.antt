@@ -1,14 +1,14 @@
 -- The layout: from word 0 on, each area begins where the one before it ends, and is as long as the bound on what it holds asks for. The last ends within the words that a run uses.
-use Prim.Native.Nat.{_+_, _*_, _≤_}
-use mathlib.Core.Path.{_≡_, refl}
-use mathlib.Core.List.{[], _∷_}
+use Prim.Native.Nat.{◌+◌, ◌*◌, ◌≤◌}
+use mathlib.Core.Path.{◌≡◌, refl}
+use mathlib.Core.List.{[], ◌∷◌}
 use native.Mathlib.Omega.{arith}
-use Rattle·rules.specs.Settings.{most-relations, scratch-words}
-use Rattle·engine·specs.specs.Layout.{most-variables, most-goals, most-disjunctions, most-constraints, most-pairs, trail-area, names-area, cells-area, points-area, constraints-area, pairs-area, relations-area, free-area}
+use Rattle.rules.specs.Settings.{most_relations, scratch_words}
+use Rattle.engine.specs.Layout.{most_variables, most_goals, most_disjunctions, most_constraints, most_pairs, trail_area, names_area, cells_area, points_area, constraints_area, pairs_area, relations_area, free_area}
 
-pub areas-meet : trail-area ∷ names-area ∷ cells-area ∷ points-area ∷ constraints-area ∷ pairs-area ∷ relations-area ∷ free-area ∷ []
-    ≡ most-variables ∷ (trail-area + most-variables) ∷ (names-area + most-variables) ∷ (cells-area + 2 * most-goals) ∷ (points-area + 8 * most-disjunctions) ∷ (constraints-area + most-constraints) ∷ (pairs-area + 2 * most-pairs) ∷ (relations-area + most-relations) ∷ []
-areas-meet = refl
+pub areas_meet : trail_area ∷ names_area ∷ cells_area ∷ points_area ∷ constraints_area ∷ pairs_area ∷ relations_area ∷ free_area ∷ []
+    ≡ most_variables ∷ (trail_area + most_variables) ∷ (names_area + most_variables) ∷ (cells_area + 2 * most_goals) ∷ (points_area + 8 * most_disjunctions) ∷ (constraints_area + most_constraints) ∷ (pairs_area + 2 * most_pairs) ∷ (relations_area + most_relations) ∷ []
+areas_meet = refl
 
-pub areas-fit : free-area ≤ scratch-words
-areas-fit = omega arith
+pub areas_fit : free_area ≤ scratch_words
+areas_fit = omega arith

@@ -1,324 +1,324 @@
 -- One round, from answer to answer: what the loop of `round` keeps, and one law for each way in which it returns or goes on.
-use Prim.Native.Nat.{ℕ, suc, _+_, _≤_, _<_}
-use mathlib.Core.Path.{_≡_, refl, sym, ap, subst, _∙_}
-use mathlib.Core.List.{List, [], _∷_}
+use Prim.Native.Nat.{ℕ, suc, ◌+◌, ◌≤◌, ◌<◌}
+use mathlib.Core.Path.{◌≡◌, refl, sym, ap, subst, ◌∙◌}
+use mathlib.Core.List.{List, [], ◌∷◌}
 use native.Mathlib.Omega.{arith}
 use lib.ListN.{length, take, length-append}
 use borrow.Author.Tests.{le-leb, lt-leb}
-use Rattle·rules.specs.Syntax.{Program, Relation}
-use Rattle·rules.proofs.Accepted.{read-is-written}
-use Rattle·semantics.specs.Steps as steps
-use Rattle·semantics.specs.Steps.{Outcome, stop}
-use Rattle·semantics.specs.Path.{Path, ChoicePoint}
-use Rattle·semantics.specs.Answer.{answer}
-use Rattle·semantics.specs.Run.{usable, page}
-use Rattle·semantics.specs.Substitution.{argument}
-use Rattle·semantics.specs.Round as round
-use Rattle·semantics.specs.Round.{Next, Rounded, Tally, backtrack, broken, completed, end-of, give, list-answer, once, one-round, onward, output-full, over, repeats, search, spend, start}
-use Rattle·semantics.specs.Invariant.{ProgramIn, StateFine}
-use Rattle·semantics.proofs.Basics.{by-choose, clash}
-use Rattle·semantics.proofs.StepLaws.{Spent}
-use Rattle·semantics.proofs.Counts.{answer-spent}
-use Rattle·semantics.proofs.Programs.{program-in}
-use Rattle·semantics.proofs.Fair.{RoundedFair, search-fair}
-use Rattle·semantics.proofs.Whole.{start-fine}
-use Rattle·engine·specs.specs.Layout.{positions}
-use Rattle·engine·specs.specs.Reference.{pos-of}
-use Rattle·engine·specs.specs.Memory.{Registers, Stored}
-use Rattle·engine·specs.specs.Trail.{Undone}
-use Rattle·engine·specs.specs.Report.{ran, end-says}
-use Rattle·engine·specs.specs.Take.{PathHeld, RelationIs, OverAs, ResumedAs, BacktrackAs, with-counts, stop-of}
-use Rattle·engine·specs.specs.Search.{Searching, counted-to, Answers, SearchedAs}
-use Rattle·engine·specs.specs.Answer.{answer-says, AnswerStands, AnsweredAs}
-use Rattle·engine·specs.specs.Rounds.{Clean, FilledAs, IndexAs, TallyAs, Starting, RoundedAs, Listing, Giving, GoesAs, AnswerGivenAs}
-use Rattle·engine·specs.specs.declared.report.End.{End}
-use Rattle·engine·specs.specs.declared.report.End.the-variants as ends
-use Rattle·engine·specs.specs.declared.report.Bound.the-variants.{Waiting}
-use Rattle·engine·specs.specs.declared.search.state.State.{State}
-use Rattle·engine·specs.specs.declared.search.state.Stop.{Stop}
-use Rattle·engine·specs.specs.declared.search.state.Searched.{Searched}
-use Rattle·engine·specs.specs.declared.search.state.Searched.the-variants.{Answer, Over, Stops}
-use Rattle·engine·specs.specs.declared.search.state.Resumed.{Resumed}
-use Rattle·engine·specs.specs.declared.search.state.Resumed.the-variants as resumed
-use Rattle·engine·specs.specs.declared.round.AnswerGiven.{AnswerGiven}
-use Rattle·engine·specs.specs.declared.round.AnswerGiven.the-variants.{Ends, Goes}
-use Rattle·engine·specs.specs.declared.writer.answer.Answered.{Answered}
-use Rattle·engine·specs.specs.declared.writer.answer.Answered.the-variants.{Written, Full, StepsOut, WaitingOut}
-use Rattle·engine·specs.specs.declared.round.Filled.{Filled}
-use Rattle·engine·specs.specs.declared.round.Tally as code
-use Rattle·engine·specs.specs.declared.round.Rounded as code-rounded
-use Rattle·engine·specs.specs.declared.round.Rounded.the-variants.{Completed, Broken}
-use Rattle·engine·proofs.proofs.FrameLaws.{table-same, names-same}
-use Rattle·engine·proofs.proofs.StartLaws.{first-registers, start-stored}
+use Rattle.rules.specs.Syntax.{Program, Relation}
+use Rattle.rules.proofs.Accepted.{read_is_written}
+use Rattle.semantics.specs.Steps as steps
+use Rattle.semantics.specs.Steps.{Outcome, stop}
+use Rattle.semantics.specs.Path.{Path, ChoicePoint}
+use Rattle.semantics.specs.Answer.{answer}
+use Rattle.semantics.specs.Run.{usable, page}
+use Rattle.semantics.specs.Substitution.{argument}
+use Rattle.semantics.specs.Round as round
+use Rattle.semantics.specs.Round.{Next, Rounded, Tally, backtrack, broken, completed, end_of, give, list_answer, once, one_round, onward, output_full, over, repeats, search, spend, start}
+use Rattle.semantics.specs.Invariant.{ProgramIn, StateFine}
+use Rattle.semantics.proofs.Basics.{by_choose, clash}
+use Rattle.semantics.proofs.StepLaws.{Spent}
+use Rattle.semantics.proofs.Counts.{answer_spent}
+use Rattle.semantics.proofs.Programs.{program_in}
+use Rattle.semantics.proofs.Fair.{RoundedFair, search_fair}
+use Rattle.semantics.proofs.Whole.{start_fine}
+use Rattle.engine.specs.Layout.{positions}
+use Rattle.engine.specs.Reference.{pos_of}
+use Rattle.engine.specs.Memory.{Registers, Stored}
+use Rattle.engine.specs.Trail.{Undone}
+use Rattle.engine.specs.Report.{ran, end_says}
+use Rattle.engine.specs.Take.{PathHeld, RelationIs, OverAs, ResumedAs, BacktrackAs, with_counts, stop_of}
+use Rattle.engine.specs.Search.{Searching, counted_to, Answers, SearchedAs}
+use Rattle.engine.specs.Answer.{answer_says, AnswerStands, AnsweredAs}
+use Rattle.engine.specs.Rounds.{Clean, FilledAs, IndexAs, TallyAs, Starting, RoundedAs, Listing, Giving, GoesAs, AnswerGivenAs}
+use Rattle.engine.specs.declared.report.End.{End}
+use Rattle.engine.specs.declared.report.End.TheVariants as ends
+use Rattle.engine.specs.declared.report.Bound.TheVariants.{Waiting}
+use Rattle.engine.specs.declared.search.state.State.{State}
+use Rattle.engine.specs.declared.search.state.Stop.{Stop}
+use Rattle.engine.specs.declared.search.state.Searched.{Searched}
+use Rattle.engine.specs.declared.search.state.Searched.TheVariants.{Answer, Over, Stops}
+use Rattle.engine.specs.declared.search.state.Resumed.{Resumed}
+use Rattle.engine.specs.declared.search.state.Resumed.TheVariants as resumed
+use Rattle.engine.specs.declared.round.AnswerGiven.{AnswerGiven}
+use Rattle.engine.specs.declared.round.AnswerGiven.TheVariants.{Ends, Goes}
+use Rattle.engine.specs.declared.writer.answer.Answered.{Answered}
+use Rattle.engine.specs.declared.writer.answer.Answered.TheVariants.{Written, Full, StepsOut, WaitingOut}
+use Rattle.engine.specs.declared.round.Filled.{Filled}
+use Rattle.engine.specs.declared.round.Tally as code
+use Rattle.engine.specs.declared.round.Rounded as code_rounded
+use Rattle.engine.specs.declared.round.Rounded.TheVariants.{Completed, Broken}
+use Rattle.engine.proofs.FrameLaws.{table_same, names_same}
+use Rattle.engine.proofs.StartLaws.{first_registers, start_stored}
 
 -- all that is bound is undone
-pub undone-clean : {P : Program} {ws s s′ : List ℕ} {r : Registers} {n : ℕ} {p : Path} {cs : List ChoicePoint} → Stored P ws s r n p cs → Undone ws s s′ [] → Clean ws s′ P
-undone-clean {P} {ws} {s} {s′} h u = record {
-  long = omega (arith, h .roomy .long, u .long);
-  table = table-same P ws s s′ (λ i lo hi. u .above i (omega arith)) (h .table);
-  open-all = u .bindings-in .words;
-  nameless = names-same s s′ (λ i lo hi. u .above i (omega arith)) (h .nameless);
+pub undone_clean : {P : Program} {ws s s' : List ℕ} {r : Registers} {n : ℕ} {p : Path} {cs : List ChoicePoint} → Stored P ws s r n p cs → Undone ws s s' [] → Clean ws s' P
+undone_clean {P} {ws} {s} {s'} h u = record {
+  long = omega (arith, h.roomy.long, u.long);
+  table = table_same P ws s s' (λ i lo hi. u.above i (omega arith)) h.table;
+  open_all = u.bindings_in.words;
+  nameless = names_same s s' (λ i lo hi. u.above i (omega arith)) h.nameless;
 }
 
 -- the output is filled with the answers, whatever else the tally has
-same-filled : {output : List ℕ} {f : Filled} {t : Tally} {left cuts : ℕ} → FilledAs output f t → FilledAs output f (record { left = left; room = t .room; cuts = cuts; written = t .written })
-same-filled h = record { used = h .used; room = h .room; answers = h .answers; page-is = h .page-is }
+same_filled : {output : List ℕ} {f : Filled} {t : Tally} {left cuts : ℕ} → FilledAs output f t → FilledAs output f (record { left = left; room = t.room; cuts = cuts; written = t.written })
+same_filled h = record { used = h.used; room = h.room; answers = h.answers; page_is = h.page_is }
 
 -- and so is its index
-same-index : {output : List ℕ} {f : Filled} {t : Tally} {left room cuts : ℕ} → IndexAs output f t → IndexAs output f (record { left = left; room = room; cuts = cuts; written = t .written })
-same-index h = record { whole = h .whole; fits = h .fits; indexed = h .indexed }
+same_index : {output : List ℕ} {f : Filled} {t : Tally} {left room cuts : ℕ} → IndexAs output f t → IndexAs output f (record { left = left; room = room; cuts = cuts; written = t.written })
+same_index h = record { whole = h.whole; fits = h.fits; indexed = h.indexed }
 
 -- Under way: a search from the state reached ends as the round does.
 pub record Rounding (ws : List ℕ) (P : Program) (R : Relation) (k n : ℕ) (a : Tally) (s output : List ℕ) (st : State) (goal : ℕ) (f : Filled) (cuts : ℕ) : Type 0 where
-  pub well-formed : ProgramIn P
+  pub well_formed : ProgramIn P
   pub state : round.State
   pub fuel : ℕ
-  pub under : Searching P well-formed n k ws s st goal cuts state
-  pub enough : state .tally .left < fuel
-  pub same : one-round P R k (a .room) (a .left) (a .written) ≡ search P n k fuel state
-  pub tally : TallyAs output (record { left = st .steps; filled = f }) (state .tally)
-  pub index : IndexAs output f (state .tally)
+  pub under : Searching P well_formed n k ws s st goal cuts state
+  pub enough : state.tally.left < fuel
+  pub same : one_round P R k a.room a.left a.written ≡ search P n k fuel state
+  pub tally : TallyAs output (record { left = st.steps; filled = f }) state.tally
+  pub index : IndexAs output f state.tally
 
 -- The start.
 
-pub round-starts : {ws s output : List ℕ} {P : Program} {query : ℕ} {R : Relation} {k : ℕ} {t : code.Tally} {a : Tally} {n vars body : ℕ} → Starting ws s output P query R k t a → RelationIs ws n vars body R
-    → Rounding ws P R k n a s output (record { head = 0; trail = 0; variables = vars; goals = 1; constraints = 0; calls = 0; choices = 0; steps = t .left }) body (t .filled) 0
-round-starts {ws} {s} {output} {P} {query} {R} {k} {t} {a} {n} {vars} {body} h r =
-    let w = read-is-written ws P (h .ready .is-read) in
-    let wf : ProgramIn P = program-in P (w .well-formed) in
-    let first : Tally = record { left = a .left; room = a .room; cuts = 0; written = a .written } in
-    let small : a .room < 268435456 = omega (arith, h .tally .filled .room) in
-    let few : R .vars ≤ 2048 = omega (arith, wf query R (h .ready .query-is) .few-vars) in
-    let below : body < positions = omega (arith, r .small) in
-    let e : pos-of body ≡ body = omega (arith, below) in
+pub round_starts : {ws s output : List ℕ} {P : Program} {query : ℕ} {R : Relation} {k : ℕ} {t : code.Tally} {a : Tally} {n vars body : ℕ} → Starting ws s output P query R k t a → RelationIs ws n vars body R
+    → Rounding ws P R k n a s output (record { head = 0; trail = 0; variables = vars; goals = 1; constraints = 0; calls = 0; choices = 0; steps = t.left }) body t.filled 0
+round_starts {ws} {s} {output} {P} {query} {R} {k} {t} {a} {n} {vars} {body} h r =
+    let w = read_is_written ws P h.ready.is_read in
+    let wf : ProgramIn P = program_in P w.well_formed in
+    let first : Tally = record { left = a.left; room = a.room; cuts = 0; written = a.written } in
+    let small : a.room < 268435456 = omega (arith, h.tally.filled.room) in
+    let few : R.vars ≤ 2048 = omega (arith, (wf query R h.ready.query_is).few_vars) in
+    let below : body < positions = omega (arith, r.small) in
+    let e : pos_of body ≡ body = omega (arith, below) in
     record {
-      well-formed = wf;
+      well_formed = wf;
       state = start R first;
-      fuel = suc (a .left);
+      fuel = suc a.left;
       under = record {
-        held = subst (λ v. Stored P ws s (first-registers v) 0 (start R first .path) []) (sym (r .vars-is)) (start-stored P ws s R first (h .ready .clean .long) (h .ready .clean .table) (h .ready .clean .open-all) (h .ready .clean .nameless) few);
-        task-at = record { base = omega (arith, below); goal = rw e (r .body-at); inside = rw e (r .inside); small = rw e (r .small); below = omega (arith, below) };
-        short = w .few-words;
-        left-is = sym (h .tally .left);
-        cuts-are = refl;
-        fits = omega (arith, h .tally .counted);
-        fine = subst (λ m. StateFine P wf m k (start R first)) (sym (r .params-is)) (start-fine wf (wf query R (h .ready .query-is)) k first small);
+        held = subst (λ v. Stored P ws s (first_registers v) 0 (start R first).path []) (sym r.vars_is) (start_stored P ws s R first h.ready.clean.long h.ready.clean.table h.ready.clean.open_all h.ready.clean.nameless few);
+        task_at = record { base = omega (arith, below); goal = rw e r.body_at; inside = rw e r.inside; small = rw e r.small; below = omega (arith, below) };
+        short = w.few_words;
+        left_is = sym h.tally.left;
+        cuts_are = refl;
+        fits = omega (arith, h.tally.counted);
+        fine = subst (λ m. StateFine P wf m k (start R first)) (sym r.params_is) (start_fine wf (wf query R h.ready.query_is) k first small);
       };
       enough = omega arith;
-      same = ap (λ m. search P m k (suc (a .left)) (start R first)) (sym (r .params-is));
-      tally = record { left = h .tally .left; filled = same-filled (h .tally .filled); counted = h .tally .counted };
-      index = same-index (h .index);
+      same = ap (λ m. search P m k (suc a.left) (start R first)) (sym r.params_is);
+      tally = record { left = h.tally.left; filled = same_filled h.tally.filled; counted = h.tally.counted };
+      index = same_index h.index;
     }
 
 -- a search leaves no more steps than it was given
-fair-left : (m total : ℕ) (x : Rounded) (t : Tally) → RoundedFair m total x → ((x ≡ completed t) → t .left ≤ m) × ((e : round.End) → x ≡ broken e t → t .left ≤ m)
-fair-left m total (completed u) t f = (λ e. let q : u ≡ t = cc in omega (arith, f .0, ap (λ v. v .left) q), λ d e. clash (cc))
-fair-left m total (broken d u) t f = (λ e. clash (cc), λ c e. let q : u ≡ t = cc in omega (arith, f .0, ap (λ v. v .left) q))
+fair_left : (m total : ℕ) (x : Rounded) (t : Tally) → RoundedFair m total x → ((x ≡ completed t) → t.left ≤ m) × ((e : round.End) → x ≡ broken e t → t.left ≤ m)
+fair_left m total (completed u) t f = (λ e. let q : u ≡ t = cc in omega (arith, f.0, ap (λ v. v.left) q), λ d e. clash (cc))
+fair_left m total (broken d u) t f = (λ e. clash (cc), λ c e. let q : u ≡ t = cc in omega (arith, f.0, ap (λ v. v.left) q))
 
 -- the tally with fewer steps left, and another count of cuts
-fewer-left : {output output′ : List ℕ} {l m : ℕ} {f : Filled} {t : Tally} (c : ℕ) → TallyAs output (record { left = l; filled = f }) t → m ≤ l → length output′ ≡ length output → take (f .used) output′ ≡ take (f .used) output
-    → TallyAs output′ (record { left = m; filled = f }) (counted-to t m c)
-fewer-left c h le e same = record {
+fewer_left : {output output' : List ℕ} {l m : ℕ} {f : Filled} {t : Tally} (c : ℕ) → TallyAs output (record { left = l; filled = f }) t → m ≤ l → length output' ≡ length output → take f.used output' ≡ take f.used output
+    → TallyAs output' (record { left = m; filled = f }) (counted_to t m c)
+fewer_left c h le e same = record {
   left = refl;
-  filled = record { used = h .filled .used; room = h .filled .room ∙ ap usable (sym e); answers = h .filled .answers; page-is = same ∙ h .filled .page-is };
-  counted = omega (arith, h .counted);
+  filled = record { used = h.filled.used; room = h.filled.room ∙ ap usable (sym e); answers = h.filled.answers; page_is = same ∙ h.filled.page_is };
+  counted = omega (arith, h.counted);
 }
 
 -- a round of relation R, with this tally at its start
-abbrev pub RoundAs : List ℕ → Program → Relation → ℕ → Tally → List ℕ → List ℕ → code-rounded.Rounded → Type 0
-RoundAs ws P R k a s output r = RoundedAs ws s output P (one-round P R k (a .room) (a .left) (a .written)) r
+abbrev pub RoundAs : List ℕ → Program → Relation → ℕ → Tally → List ℕ → List ℕ → code_rounded.Rounded → Type 0
+RoundAs ws P R k a s output r = RoundedAs ws s output P (one_round P R k a.room a.left a.written) r
 
--- The search has stopped, in s′.
+-- The search has stopped, in s'.
 module _ {ws : List ℕ} {P : Program} {R : Relation} {k n : ℕ} {a : Tally} {s output : List ℕ} {st : State} {goal : ℕ} {f : Filled} {cuts : ℕ} (h : Rounding ws P R k n a s output st goal f cuts)
-    (s′ : List ℕ) (r : Searched) (told : SearchedAs P (h .well-formed) n k ws s′ (h .state) (h .fuel) r) where
-  fair : RoundedFair (h .state .tally .left) (h .state .tally .room + length (page (h .state .tally .written))) (search P n k (h .fuel) (h .state))
-  fair = search-fair argument P n k _ (h .fuel) (h .state) (h .enough) refl
+    (s' : List ℕ) (r : Searched) (told : SearchedAs P h.well_formed n k ws s' h.state h.fuel r) where
+  fair : RoundedFair h.state.tally.left (h.state.tally.room + length (page h.state.tally.written)) (search P n k h.fuel h.state)
+  fair = search_fair argument P n k _ h.fuel h.state h.enough refl
 
-  pub round-stops : {why : Stop} {l : ℕ} (d : End) → r ≡ Stops why l → end-says d ≡ ran (end-of (stop-of why)) → RoundAs ws P R k a s′ output (Broken d (record { left = l; filled = f }))
+  pub round_stops : {why : Stop} {l : ℕ} (d : End) → r ≡ Stops why l → end_says d ≡ ran (end_of (stop_of why)) → RoundAs ws P R k a s' output (Broken d (record { left = l; filled = f }))
   unfolding SearchedAs RoundedAs
-  round-stops {why} {l} d e is =
-      let q : (c : ℕ) × (search P n k (h .fuel) (h .state) ≡ broken (end-of (stop-of why)) (counted-to (h .state .tally) l c)) = rw e at told in
-      let few : l ≤ h .state .tally .left = fair-left _ _ _ _ fair .1 _ (q .1) in
-      record { end = end-of (stop-of why); last = counted-to (h .state .tally) l (q .0); is-round = h .same ∙ q .1; tally = fewer-left (q .0) (h .tally) (omega (arith, few, h .tally .left)) refl refl; is-end = is }
+  round_stops {why} {l} d e is =
+      let q : (c : ℕ) × (search P n k h.fuel h.state ≡ broken (end_of (stop_of why)) (counted_to h.state.tally l c)) = rw e at told in
+      let few : l ≤ h.state.tally.left = (fair_left _ _ _ _ fair).1 _ q.1 in
+      record { end = end_of (stop_of why); last = counted_to h.state.tally l q.0; is_round = h.same ∙ q.1; tally = fewer_left q.0 h.tally (omega (arith, few, h.tally.left)) refl refl; is_end = is }
 
-  pub over-held : {last : State} {c : ℕ} → r ≡ Over last c → (p : Path) × PathHeld P ws s′ last p []
+  pub over_held : {last : State} {c : ℕ} → r ≡ Over last c → (p : Path) × PathHeld P ws s' last p []
   unfolding SearchedAs
-  over-held {last} {c} e = let q : (search P n k (h .fuel) (h .state) ≡ completed (counted-to (h .state .tally) (last .steps) c)) × ((p : Path) × PathHeld P ws s′ last p []) = rw e at told in q .1
+  over_held {last} {c} e = let q : (search P n k h.fuel h.state ≡ completed (counted_to h.state.tally last.steps c)) × ((p : Path) × PathHeld P ws s' last p []) = rw e at told in q.1
 
-  pub round-over : {last : State} {c : ℕ} {s″ : List ℕ} → r ≡ Over last c → Clean ws s″ P → RoundAs ws P R k a s″ output (Completed (record { left = last .steps; filled = f }) c)
+  pub round_over : {last : State} {c : ℕ} {s'' : List ℕ} → r ≡ Over last c → Clean ws s'' P → RoundAs ws P R k a s'' output (Completed (record { left = last.steps; filled = f }) c)
   unfolding SearchedAs RoundedAs
-  round-over {last} {c} {s″} e clean =
-      let q : (search P n k (h .fuel) (h .state) ≡ completed (counted-to (h .state .tally) (last .steps) c)) × ((p : Path) × PathHeld P ws s′ last p []) = rw e at told in
-      let few : last .steps ≤ h .state .tally .left = fair-left _ _ _ _ fair .0 (q .0) in
-      record { last = counted-to (h .state .tally) (last .steps) c; is-round = h .same ∙ q .0; clean = clean; tally = fewer-left c (h .tally) (omega (arith, few, h .tally .left)) refl refl; index = same-index (h .index); cuts-are = refl }
+  round_over {last} {c} {s''} e clean =
+      let q : (search P n k h.fuel h.state ≡ completed (counted_to h.state.tally last.steps c)) × ((p : Path) × PathHeld P ws s' last p []) = rw e at told in
+      let few : last.steps ≤ h.state.tally.left = (fair_left _ _ _ _ fair).0 q.0 in
+      record { last = counted_to h.state.tally last.steps c; is_round = h.same ∙ q.0; clean = clean; tally = fewer_left c h.tally (omega (arith, few, h.tally.left)) refl refl; index = same_index h.index; cuts_are = refl }
 
-  pub round-answers : {last : State} {c : ℕ} → r ≡ Answer last c → Answers P (h .well-formed) n k ws s′ last c (h .state) (h .fuel)
+  pub round_answers : {last : State} {c : ℕ} → r ≡ Answer last c → Answers P h.well_formed n k ws s' last c h.state h.fuel
   unfolding SearchedAs
-  round-answers e = rw e at told
+  round_answers e = rw e at told
 
 -- A path gives an answer, and the round goes on with what comes of it.
 module _ {ws : List ℕ} {P : Program} {R : Relation} {k n : ℕ} {a : Tally} {s output : List ℕ} {st : State} {goal : ℕ} {f : Filled} {cuts : ℕ} (h : Rounding ws P R k n a s output st goal f cuts)
-    {s′ : List ℕ} {last : State} {c : ℕ} (x : Answers P (h .well-formed) n k ws s′ last c (h .state) (h .fuel)) where
-  abbrev pub tally-then : Tally
-  tally-then = counted-to (h .state .tally) (last .steps) c
+    {s' : List ℕ} {last : State} {c : ℕ} (x : Answers P h.well_formed n k ws s' last c h.state h.fuel) where
+  abbrev pub tally_then : Tally
+  tally_then = counted_to h.state.tally last.steps c
 
-  abbrev pub given-then : Next
-  given-then = give (once argument) n k (x .choices) tally-then (answer (x .path) n (last .steps))
+  abbrev pub given_then : Next
+  given_then = give (once argument) n k x.choices tally_then (answer x.path n last.steps)
 
-  pub round-gives : Giving P ws s′ output last (x .path) (x .choices) n f c tally-then
-  round-gives = record {
-    answering = record { stored = x .held; short = h .under .short; sound = x .fine .sound; few-params = x .fine .query-made; used-fits = omega (arith, h .tally .filled .room) };
-    tally = fewer-left c (h .tally) (omega (arith, x .fewer, h .tally .left)) refl refl;
-    index = same-index (h .index);
-    cuts-are = refl;
-    fits = omega (arith, x .fewer, h .tally .left, h .tally .counted);
+  pub round_gives : Giving P ws s' output last x.path x.choices n f c tally_then
+  round_gives = record {
+    answering = record { stored = x.held; short = h.under.short; sound = x.fine.sound; few_params = x.fine.query_made; used_fits = omega (arith, h.tally.filled.room) };
+    tally = fewer_left c h.tally (omega (arith, x.fewer, h.tally.left)) refl refl;
+    index = same_index h.index;
+    cuts_are = refl;
+    fits = omega (arith, x.fewer, h.tally.left, h.tally.counted);
   }
 
-  goes-on : {y : Next} → given-then ≡ y → one-round P R k (a .room) (a .left) (a .written) ≡ onward y (λ next. search P n k (x .rest) next)
-  goes-on e = h .same ∙ x .same ∙ ap (λ y. onward y (λ next. search P n k (x .rest) next)) e
+  goes_on : {y : Next} → given_then ≡ y → one_round P R k a.room a.left a.written ≡ onward y (λ next. search P n k x.rest next)
+  goes_on e = h.same ∙ x.same ∙ ap (λ y. onward y (λ next. search P n k x.rest next)) e
 
-  module _ (s″ output′ : List ℕ) (g : AnswerGiven) (told : AnswerGivenAs P ws s″ output′ last c given-then g) where
-    pub round-ends : {r : code-rounded.Rounded} → g ≡ Ends r → RoundAs ws P R k a s″ output′ r
+  module _ (s'' output' : List ℕ) (g : AnswerGiven) (told : AnswerGivenAs P ws s'' output' last c given_then g) where
+    pub round_ends : {r : code_rounded.Rounded} → g ≡ Ends r → RoundAs ws P R k a s'' output' r
     unfolding AnswerGivenAs
-    round-ends {r} e =
-        let q : (y : Rounded) × (given-then ≡ over y) × RoundedAs ws s″ output′ P y r = rw e at told in
-        subst (λ y. RoundedAs ws s″ output′ P y r) (sym (goes-on (q .1))) (q .2)
+    round_ends {r} e =
+        let q : (y : Rounded) × (given_then ≡ over y) × RoundedAs ws s'' output' P y r = rw e at told in
+        subst (λ y. RoundedAs ws s'' output' P y r) (sym (goes_on q.1)) q.2
 
-    pub round-goes : {next : State} {v : ℕ} {listed : Filled} → g ≡ Goes next v listed → Rounding ws P R k n a s″ output′ next v listed c × (next .steps < st .steps)
+    pub round_goes : {next : State} {v : ℕ} {listed : Filled} → g ≡ Goes next v listed → Rounding ws P R k n a s'' output' next v listed c × (next.steps < st.steps)
     unfolding AnswerGivenAs
-    round-goes {next} {v} {listed} e =
-        let q : GoesAs P ws s″ output′ last c given-then next v listed = rw e at told in
-        let left-is : q .state .tally .left ≡ next .steps = sym (q .tally .left) in (
+    round_goes {next} {v} {listed} e =
+        let q : GoesAs P ws s'' output' last c given_then next v listed = rw e at told in
+        let left_is : q.state.tally.left ≡ next.steps = sym q.tally.left in (
           record {
-            well-formed = h .well-formed;
-            state = q .state;
-            fuel = x .rest;
+            well_formed = h.well_formed;
+            state = q.state;
+            fuel = x.rest;
             under = record {
-              held = q .held;
-              task-at = q .task-at;
-              short = h .under .short;
-              left-is = left-is;
-              cuts-are = q .cuts-are;
-              fits = omega (arith, q .fewer, x .fits);
-              fine = x .next-fine (q .state) (q .is-next);
+              held = q.held;
+              task_at = q.task_at;
+              short = h.under.short;
+              left_is = left_is;
+              cuts_are = q.cuts_are;
+              fits = omega (arith, q.fewer, x.fits);
+              fine = x.next_fine q.state q.is_next;
             };
-            enough = omega (arith, left-is, q .fewer, x .enough);
-            same = goes-on (q .is-next);
-            tally = q .tally;
-            index = q .index;
+            enough = omega (arith, left_is, q.fewer, x.enough);
+            same = goes_on q.is_next;
+            tally = q.tally;
+            index = q.index;
           },
-          omega (arith, q .fewer, x .fewer, h .tally .left),
+          omega (arith, q.fewer, x.fewer, h.tally.left),
         )
 
 -- What comes of an answer: the writer has written it, or not.
 
 -- a stop leaves no more steps than there were
-stop-left : (m : ℕ) (why : steps.Stop) (l : ℕ) → Spent {A = List ℕ} m m (stop why l) → l ≤ m
-stop-left m steps.no-steps l h = omega arith
-stop-left m (steps.at-bound b) l h = h .1
+stop_left : (m : ℕ) (why : steps.Stop) (l : ℕ) → Spent {A = List ℕ} m m (stop why l) → l ≤ m
+stop_left m steps.no_steps l h = omega arith
+stop_left m (steps.at_bound b) l h = h.1
 
 module _ {P : Program} {ws s output : List ℕ} {st : State} {p : Path} {cs : List ChoicePoint} {n : ℕ} {f : Filled} {cuts : ℕ} {a : Tally} (g : Giving P ws s output st p cs n f cuts a) (k : ℕ)
-    {s′ output′ : List ℕ} {w : Answered} (same : length output′ ≡ length output) (said : AnsweredAs P ws s output s′ output′ st p cs (f .used) (answer p n (st .steps)) w) where
+    {s' output' : List ℕ} {w : Answered} (same : length output' ≡ length output) (said : AnsweredAs P ws s output s' output' st p cs f.used (answer p n st.steps) w) where
   -- what the definition says of the answer, by the writer's case
-  answered : {x : Answered} → w ≡ x → answer p n (st .steps) ≡ answer-says (said .words) x
-  answered e = said .says ∙ ap (answer-says (said .words)) e
+  answered : {x : Answered} → w ≡ x → answer p n st.steps ≡ answer_says said.words x
+  answered e = said.says ∙ ap (answer_says said.words) e
 
   abbrev given : Next
-  given = give (once argument) n k cs a (answer p n (st .steps))
+  given = give (once argument) n k cs a (answer p n st.steps)
 
   abbrev pub Gave : List ℕ → List ℕ → AnswerGiven → Type 0
-  Gave s″ out x = AnswerGivenAs P ws s″ out st cuts given x
+  Gave s'' out x = AnswerGivenAs P ws s'' out st cuts given x
 
-  spent : {o : Outcome (List ℕ)} → answer p n (st .steps) ≡ o → Spent (st .steps) (st .steps) o
-  spent e = subst (Spent (st .steps) (st .steps)) e (answer-spent p n (st .steps))
+  spent : {o : Outcome (List ℕ)} → answer p n st.steps ≡ o → Spent st.steps st.steps o
+  spent e = subst (Spent st.steps st.steps) e (answer_spent p n st.steps)
 
-  given-as : {o : Outcome (List ℕ)} → answer p n (st .steps) ≡ o → given ≡ give (once argument) n k cs a o
-  given-as e = ap (give (once argument) n k cs a) e
+  given_as : {o : Outcome (List ℕ)} → answer p n st.steps ≡ o → given ≡ give (once argument) n k cs a o
+  given_as e = ap (give (once argument) n k cs a) e
 
   -- the round is broken off
-  breaks : (e : round.End) (d : End) (l : ℕ) → l ≤ st .steps → given ≡ over (broken e (spend a l)) → end-says d ≡ ran e → Gave s′ output′ (Ends (Broken d (record { left = l; filled = f })))
+  breaks : (e : round.End) (d : End) (l : ℕ) → l ≤ st.steps → given ≡ over (broken e (spend a l)) → end_says d ≡ ran e → Gave s' output' (Ends (Broken d (record { left = l; filled = f })))
   unfolding AnswerGivenAs RoundedAs
-  breaks e d l few q is = (broken e (spend a l), q, record { end = e; last = spend a l; is-round = refl; tally = fewer-left (a .cuts) (g .tally) few same (said .leaves-lent .before); is-end = is })
+  breaks e d l few q is = (broken e (spend a l), q, record { end = e; last = spend a l; is_round = refl; tally = fewer_left a.cuts g.tally few same said.leaves_lent.before; is_end = is })
 
-  pub gives-full : {l : ℕ} → w ≡ Full l → Gave s′ output′ (Ends (Broken ends.Output (record { left = l; filled = f })))
-  gives-full {l} e =
-      let long : a .room < length (said .words) = omega (arith, said .full l e, g .tally .filled .room) in
-      breaks output-full ends.Output l (spent (answered e)) (given-as (answered e) ∙ rw (lt-leb (length (said .words)) (a .room) long) refl) refl
+  pub gives_full : {l : ℕ} → w ≡ Full l → Gave s' output' (Ends (Broken ends.Output (record { left = l; filled = f })))
+  gives_full {l} e =
+      let long : a.room < length said.words = omega (arith, said.full l e, g.tally.filled.room) in
+      breaks output_full ends.Output l (spent (answered e)) (given_as (answered e) ∙ rw (lt-leb (length said.words) a.room long) refl) refl
 
-  stops : {why : steps.Stop} {l : ℕ} (d : End) → answer p n (st .steps) ≡ stop why l → end-says d ≡ ran (end-of why) → Gave s′ output′ (Ends (Broken d (record { left = l; filled = f })))
-  stops {why} {l} d q is = breaks (end-of why) d l (stop-left (st .steps) why l (spent q)) (given-as q) is
+  stops : {why : steps.Stop} {l : ℕ} (d : End) → answer p n st.steps ≡ stop why l → end_says d ≡ ran (end_of why) → Gave s' output' (Ends (Broken d (record { left = l; filled = f })))
+  stops {why} {l} d q is = breaks (end_of why) d l (stop_left st.steps why l (spent q)) (given_as q) is
 
-  pub gives-steps-out : w ≡ StepsOut → Gave s′ output′ (Ends (Broken ends.Steps (record { left = 0; filled = f })))
-  gives-steps-out e = stops ends.Steps (answered e) refl
+  pub gives_steps_out : w ≡ StepsOut → Gave s' output' (Ends (Broken ends.Steps (record { left = 0; filled = f })))
+  gives_steps_out e = stops ends.Steps (answered e) refl
 
-  pub gives-path-out : {l : ℕ} → w ≡ WaitingOut l → Gave s′ output′ (Ends (Broken (ends.Path Waiting) (record { left = l; filled = f })))
-  gives-path-out e = stops (ends.Path Waiting) (answered e) refl
+  pub gives_path_out : {l : ℕ} → w ≡ WaitingOut l → Gave s' output' (Ends (Broken (ends.Path Waiting) (record { left = l; filled = f })))
+  gives_path_out e = stops (ends.Path Waiting) (answered e) refl
 
   -- It is written up to `next`, to be listed.
-  pub wrote : {next l : ℕ} → w ≡ Written next l → Listing output output′ f next a (said .words)
-  wrote {next} {l} e = record { before = g .tally .filled; index = g .index; same-length = same; kept = said .leaves-lent .before; stands = said .written next l e; few = omega (arith, g .fits) }
+  pub wrote : {next l : ℕ} → w ≡ Written next l → Listing output output' f next a said.words
+  wrote {next} {l} e = record { before = g.tally.filled; index = g.index; same_length = same; kept = said.leaves_lent.before; stands = said.written next l e; few = omega (arith, g.fits) }
 
   -- It is listed or left out: the path is left with the tally that follows.
-  pub record AfterListing (output″ : List ℕ) (listed : Filled) (l : ℕ) : Type 0 where
+  pub record AfterListing (output'' : List ℕ) (listed : Filled) (l : ℕ) : Type 0 where
     pub tally : Tally
-    pub is-back : given ≡ backtrack cs tally
-    pub tally-as : TallyAs output″ (record { left = l; filled = listed }) tally
-    pub index : IndexAs output″ listed tally
-    pub fewer : l ≤ st .steps
-    pub cuts-are : tally .cuts ≡ cuts
+    pub is_back : given ≡ backtrack cs tally
+    pub tally_as : TallyAs output'' (record { left = l; filled = listed }) tally
+    pub index : IndexAs output'' listed tally
+    pub fewer : l ≤ st.steps
+    pub cuts_are : tally.cuts ≡ cuts
 
-  pub after-listing : {next l : ℕ} {output″ : List ℕ} {listed : Filled} → w ≡ Written next l → FilledAs output″ listed (list-answer (once argument) a k l (said .words)) × IndexAs output″ listed (list-answer (once argument) a k l (said .words)) → AfterListing output″ listed l
-  after-listing {next} {l} {output″} {listed} e (filled, index) =
-      let q : AnswerStands output output′ (f .used) (said .words) next = said .written next l e in
-      let fits : length (said .words) ≤ a .room = omega (arith, q .used-now, q .fits, g .tally .filled .room) in
-      let few : l ≤ st .steps = spent (answered e) in
+  pub after_listing : {next l : ℕ} {output'' : List ℕ} {listed : Filled} → w ≡ Written next l → FilledAs output'' listed (list_answer (once argument) a k l said.words) × IndexAs output'' listed (list_answer (once argument) a k l said.words) → AfterListing output'' listed l
+  after_listing {next} {l} {output''} {listed} e (filled, index) =
+      let q : AnswerStands output output' f.used said.words next = said.written next l e in
+      let fits : length said.words ≤ a.room = omega (arith, q.used_now, q.fits, g.tally.filled.room) in
+      let few : l ≤ st.steps = spent (answered e) in
       let t = tallied in
       record {
-        tally = list-answer (once argument) a k l (said .words);
-        is-back = given-as (answered e) ∙ rw (le-leb (length (said .words)) (a .room) fits) refl;
-        tally-as = record { left = sym (t .0); filled = filled; counted = omega (arith, few, g .fits, g .tally .filled .answers, filled .answers, t .2) };
+        tally = list_answer (once argument) a k l said.words;
+        is_back = given_as (answered e) ∙ rw (le-leb (length said.words) a.room fits) refl;
+        tally_as = record { left = sym t.0; filled = filled; counted = omega (arith, few, g.fits, g.tally.filled.answers, filled.answers, t.2) };
         index = index;
         fewer = few;
-        cuts-are = t .1 ∙ g .cuts-are;
+        cuts_are = t.1 ∙ g.cuts_are;
       }
     where
-      tallied : (list-answer (once argument) a k l (said .words) .left ≡ l) × (list-answer (once argument) a k l (said .words) .cuts ≡ a .cuts) × (length (list-answer (once argument) a k l (said .words) .written) ≤ length (a .written) + 1)
-      tallied = by-choose (λ (u : Tally). (u .left ≡ l) × (u .cuts ≡ a .cuts) × (length (u .written) ≤ length (a .written) + 1)) (repeats (said .words) (a .written)) _ _
-          (λ r. (refl, refl, omega arith)) (λ r. (refl, refl, omega (arith, length-append (a .written) ((k, said .words) ∷ []))))
+      tallied : ((list_answer (once argument) a k l said.words).left ≡ l) × ((list_answer (once argument) a k l said.words).cuts ≡ a.cuts) × (length (list_answer (once argument) a k l said.words).written ≤ length a.written + 1)
+      tallied = by_choose (λ (u : Tally). (u.left ≡ l) × (u.cuts ≡ a.cuts) × (length u.written ≤ length a.written + 1)) (repeats said.words a.written) _ _
+          (λ r. (refl, refl, omega arith)) (λ r. (refl, refl, omega (arith, length-append a.written ((k, said.words) ∷ []))))
 
   -- Back from there; `after` is the state with the steps that the writer left.
-  module _ {output″ : List ℕ} {listed : Filled} {l : ℕ} (y : AfterListing output″ listed l) (after : State) (is : after ≡ with-counts st (st .trail) (st .constraints) l) where
-    pub listed-held : PathHeld P ws s′ after p cs
-    listed-held = subst (λ z. PathHeld P ws s′ z p cs) (sym is) (said .leaves-lent .stored)
+  module _ {output'' : List ℕ} {listed : Filled} {l : ℕ} (y : AfterListing output'' listed l) (after : State) (is : after ≡ with_counts st st.trail st.constraints l) where
+    pub listed_held : PathHeld P ws s' after p cs
+    listed_held = subst (λ z. PathHeld P ws s' z p cs) (sym is) said.leaves_lent.stored
 
-    left-is : after .steps ≡ l
-    left-is = ap (λ z. z .steps) is
+    left_is : after.steps ≡ l
+    left_is = ap (λ z. z.steps) is
 
     -- the tally, with the steps left as the code has them
-    tally-of : {m : ℕ} → m ≡ l → TallyAs output″ (record { left = m; filled = listed }) (y .tally)
-    tally-of e = subst (λ z. TallyAs output″ (record { left = z; filled = listed }) (y .tally)) (sym e) (y .tally-as)
+    tally_of : {m : ℕ} → m ≡ l → TallyAs output'' (record { left = m; filled = listed }) y.tally
+    tally_of e = subst (λ z. TallyAs output'' (record { left = z; filled = listed }) y.tally) (sym e) y.tally_as
 
-    module _ (s″ : List ℕ) (r : Resumed) (told : BacktrackAs P ws s″ after (y .tally) (backtrack cs (y .tally)) r) where
-      pub none-left : r ≡ resumed.Over → OverAs P ws s″ after (y .tally) (backtrack cs (y .tally))
+    module _ (s'' : List ℕ) (r : Resumed) (told : BacktrackAs P ws s'' after y.tally (backtrack cs y.tally) r) where
+      pub none_left : r ≡ resumed.Over → OverAs P ws s'' after y.tally (backtrack cs y.tally)
       unfolding BacktrackAs
-      none-left e = rw e at told
+      none_left e = rw e at told
 
-      pub gives-last : {s‴ : List ℕ} → r ≡ resumed.Over → Clean ws s‴ P → Gave s‴ output″ (Ends (Completed (record { left = after .steps; filled = listed }) cuts))
+      pub gives_last : {s''' : List ℕ} → r ≡ resumed.Over → Clean ws s''' P → Gave s''' output'' (Ends (Completed (record { left = after.steps; filled = listed }) cuts))
       unfolding AnswerGivenAs RoundedAs
-      gives-last e clean = (completed (y .tally), y .is-back ∙ none-left e .says, record { last = y .tally; is-round = refl; clean = clean; tally = tally-of left-is; index = y .index; cuts-are = sym (y .cuts-are) })
+      gives_last e clean = (completed y.tally, y.is_back ∙ (none_left e).says, record { last = y.tally; is_round = refl; clean = clean; tally = tally_of left_is; index = y.index; cuts_are = sym y.cuts_are })
 
-      pub gives-next : {next : State} {v : ℕ} → r ≡ resumed.Goal next v → Gave s″ output″ (Goes next v listed)
+      pub gives_next : {next : State} {v : ℕ} → r ≡ resumed.Goal next v → Gave s'' output'' (Goes next v listed)
       unfolding BacktrackAs AnswerGivenAs
-      gives-next {next} {v} e =
-          let b : ResumedAs P ws s″ after (y .tally) (backtrack cs (y .tally)) next v = rw e at told in
-          let same-left : next .steps ≡ l = b .left-is ∙ left-is in
+      gives_next {next} {v} e =
+          let b : ResumedAs P ws s'' after y.tally (backtrack cs y.tally) next v = rw e at told in
+          let same_left : next.steps ≡ l = b.left_is ∙ left_is in
           record {
-            state = record { task = b .task; path = b .path; choices = b .choices; tally = y .tally };
-            is-next = y .is-back ∙ b .says;
-            held = b .held;
-            task-at = b .task-at;
-            tally = tally-of same-left;
-            index = y .index;
-            cuts-are = y .cuts-are;
-            fewer = omega (arith, same-left, y .fewer);
+            state = record { task = b.task; path = b.path; choices = b.choices; tally = y.tally };
+            is_next = y.is_back ∙ b.says;
+            held = b.held;
+            task_at = b.task_at;
+            tally = tally_of same_left;
+            index = y.index;
+            cuts_are = y.cuts_are;
+            fewer = omega (arith, same_left, y.fewer);
           }

@@ -1,148 +1,148 @@
 -- A run as a whole: refusals, and what the rounds and the clearing come to.
-use Prim.Native.Nat.{ℕ, _-_, _<_, _≤_}
-use mathlib.Core.Path.{_≡_, refl, sym, ap, _∙_, subst}
+use Prim.Native.Nat.{ℕ, ◌-◌, ◌<◌, ◌≤◌}
+use mathlib.Core.Path.{◌≡◌, refl, sym, ap, ◌∙◌, subst}
 use mathlib.Core.Option.{some}
 use mathlib.Core.Bool.{true, false}
-use mathlib.Core.List.{List, [], _++_}
+use mathlib.Core.List.{List, [], ◌++◌}
 use native.Mathlib.Omega.{arith}
-use lib.ListN.{length, take, drop, replicate, getElem?, length-replicate, getD-replicate}
+use lib.ListN.{length, take, drop, replicate, get_elem?, length-replicate, get_or-replicate}
 use lib.Seq.{length-take-le}
-use Rattle·rules.specs.Syntax.{Program, Relation}
-use Rattle·rules.specs.Accept.{Accept, accepted, refused, read}
-use Rattle·rules.specs.Verdict.{yes-said, no-said, said}
-use Rattle·rules.specs.Inner.{RelationsAt}
-use Rattle·rules.proofs.Spelled.{stands-self}
-use Rattle·rules.proofs.Checked.{refused-said}
-use Rattle·rules.proofs.Accepted.{read-is-written, accepted-query}
-use Rattle·rules.proofs.SettingsLaws.{settings-within, within-good}
-use Rattle·semantics.specs.Round.{Result, rounds}
-use Rattle·semantics.specs.Run.{Report, refusal, ran, returns, report-program, leave, run, run-as-written, usable, page, zeroed}
-use Rattle·semantics.proofs.SameRuns.{run-same}
-use Rattle·semantics.proofs.Words.{demands-run}
-use Rattle·semantics.proofs.ZeroedLaws.{zeroed-all}
-use Rattle·semantics.proofs.Lighter.{first-words-used}
-use Rattle·engine·specs.specs.declared.report.Report as code
-use Rattle·engine·specs.specs.Report.{end-says, RunPromise, RunAs}
-use Rattle·engine·specs.specs.Run.{cleared, RefusalReport, Admitted}
-use Rattle·engine·specs.specs.Rounds.{RunReady, ResultAs}
-use Rattle·engine·specs.specs.Reference.{at}
-use Rattle·engine·specs.specs.Memory.{TableIn}
-use Rattle·engine·specs.specs.Trail.{Same}
-use Rattle·rules.specs.Settings.{scratch-words, settings-good}
-use Rattle·engine·proofs.proofs.ClearLaws.{cleared-rest, cleared-all}
+use Rattle.rules.specs.Syntax.{Program, Relation}
+use Rattle.rules.specs.Accept.{Accept, accepted, refused, read}
+use Rattle.rules.specs.Verdict.{yes_said, no_said, said}
+use Rattle.rules.specs.Inner.{RelationsAt}
+use Rattle.rules.proofs.Spelled.{stands_self}
+use Rattle.rules.proofs.Checked.{refused_said}
+use Rattle.rules.proofs.Accepted.{read_is_written, accepted_query}
+use Rattle.rules.proofs.SettingsLaws.{settings_within, within_good}
+use Rattle.semantics.specs.Round.{Result, rounds}
+use Rattle.semantics.specs.Run.{Report, refusal, ran, returns, report_program, leave, run, run_as_written, usable, page, zeroed}
+use Rattle.semantics.proofs.SameRuns.{run_same}
+use Rattle.semantics.proofs.Words.{demands_run}
+use Rattle.semantics.proofs.ZeroedLaws.{zeroed_all}
+use Rattle.semantics.proofs.Lighter.{first_words_used}
+use Rattle.engine.specs.declared.report.Report as code
+use Rattle.engine.specs.Report.{end_says, RunPromise, RunAs}
+use Rattle.engine.specs.Run.{cleared, RefusalReport, Admitted}
+use Rattle.engine.specs.Rounds.{RunReady, ResultAs}
+use Rattle.engine.specs.Reference.{at}
+use Rattle.engine.specs.Memory.{TableIn}
+use Rattle.engine.specs.Trail.{Same}
+use Rattle.rules.specs.Settings.{scratch_words, settings_good}
+use Rattle.engine.proofs.ClearLaws.{cleared_rest, cleared_all}
 
 -- what was said, back to the reading
-pub accepted-said : (r : Accept) → yes-said ≡ said r → (P : Program) × (r ≡ accepted P)
-accepted-said (accepted P) e = (P, refl)
-accepted-said (refused d q) e = absurd (let z : _≡_ {A = ℕ} 0 1 = cc in omega arith)
+pub accepted_said : (r : Accept) → yes_said ≡ said r → (P : Program) × (r ≡ accepted P)
+accepted_said (accepted P) e = (P, refl)
+accepted_said (refused d q) e = absurd (let z : ◌≡◌ {A = ℕ} 0 1 = cc in omega arith)
 
 -- the relations of an accepted program stand in its words
-relations-there : (words : List ℕ) (P : Program) → read words ≡ accepted P → RelationsAt words 0 P × (length P ≤ 256)
-relations-there words P e =
-    let w = read-is-written words P e in
-    (record { stands = rw (sym (w .is-written)) (stands-self words); to = omega (arith, ap length (w .is-written)); good = w .well-formed .relations; short = w .few-words }, w .well-formed .few)
+relations_there : (words : List ℕ) (P : Program) → read words ≡ accepted P → RelationsAt words 0 P × (length P ≤ 256)
+relations_there words P e =
+    let w = read_is_written words P e in
+    (record { stands = rw (sym w.is_written) (stands_self words); to = omega (arith, ap length w.is_written); good = w.well_formed.relations; short = w.few_words }, w.well_formed.few)
 
-module _ (words : List ℕ) (round-limit step-limit : ℕ) (output scratch : List ℕ) where
-  comes-to : Report
-  comes-to = returns words round-limit step-limit (length output) (length scratch)
+module _ (words : List ℕ) (round_limit step_limit : ℕ) (output scratch : List ℕ) where
+  comes_to : Report
+  comes_to = returns words round_limit step_limit (length output) (length scratch)
 
   -- the demands hold of what says document 01's run
-  kept-written : (r : code.Report) (output′ scratch′ : List ℕ) → RunAs (run-as-written words round-limit step-limit output scratch) r output′ scratch′ → RunPromise words round-limit step-limit output scratch r output′ scratch′
-  kept-written r output′ scratch′ t = record { says = t; demands = rw (t .is-output, t .is-scratch) (demands-run words round-limit step-limit output scratch) }
+  kept_written : (r : code.Report) (output' scratch' : List ℕ) → RunAs (run_as_written words round_limit step_limit output scratch) r output' scratch' → RunPromise words round_limit step_limit output scratch r output' scratch'
+  kept_written r output' scratch' t = record { says = t; demands = rw (t.is_output, t.is_scratch) (demands_run words round_limit step_limit output scratch) }
 
   -- and what says the run by the code's passing of arguments says that run
-  kept-said : (r : code.Report) (output′ scratch′ : List ℕ) → RunAs (run words round-limit step-limit output scratch) r output′ scratch′ → RunPromise words round-limit step-limit output scratch r output′ scratch′
-  kept-said r output′ scratch′ s = kept-written r output′ scratch′ (rw (run-same words round-limit step-limit output scratch) at s)
+  kept_said : (r : code.Report) (output' scratch' : List ℕ) → RunAs (run words round_limit step_limit output scratch) r output' scratch' → RunPromise words round_limit step_limit output scratch r output' scratch'
+  kept_said r output' scratch' s = kept_written r output' scratch' (rw (run_same words round_limit step_limit output scratch) at s)
 
-  kept-refusal : (c p : ℕ) (r : code.Report) → RefusalReport c p r → comes-to ≡ refusal c p → RunPromise words round-limit step-limit output scratch r output scratch
-  unfolding comes-to
-  kept-refusal c p r t e =
-      let z : run words round-limit step-limit output scratch ≡ leave (refusal c p) output scratch = ap (λ x. leave x output scratch) e in
-      kept-said r output scratch (rw z (record { is-end = ap end-says (t .is-end); is-round = t .is-round; is-steps = t .is-steps; is-answers = t .is-answers; is-words = t .is-words; is-cut = t .is-cut; is-output = refl; is-scratch = refl }))
+  kept_refusal : (c p : ℕ) (r : code.Report) → RefusalReport c p r → comes_to ≡ refusal c p → RunPromise words round_limit step_limit output scratch r output scratch
+  unfolding comes_to
+  kept_refusal c p r t e =
+      let z : run words round_limit step_limit output scratch ≡ leave (refusal c p) output scratch = ap (λ x. leave x output scratch) e in
+      kept_said r output scratch (rw z (record { is_end = ap end_says t.is_end; is_round = t.is_round; is_steps = t.is_steps; is_answers = t.is_answers; is_words = t.is_words; is_cut = t.is_cut; is_output = refl; is_scratch = refl }))
 
-  pub settings-refused : (r : code.Report) → RefusalReport 9 0 r → settings-good round-limit (length scratch) ≡ false → RunPromise words round-limit step-limit output scratch r output scratch
-  unfolding comes-to
-  settings-refused r t h = kept-refusal 9 0 r t (rw h)
+  pub settings_refused : (r : code.Report) → RefusalReport 9 0 r → settings_good round_limit (length scratch) ≡ false → RunPromise words round_limit step_limit output scratch r output scratch
+  unfolding comes_to
+  settings_refused r t h = kept_refusal 9 0 r t (rw h)
 
-  pub program-refused : (c p : ℕ) (r : code.Report) → RefusalReport c p r → settings-good round-limit (length scratch) ≡ true → no-said c p ≡ said (read words) → RunPromise words round-limit step-limit output scratch r output scratch
-  unfolding comes-to
-  program-refused c p r t h e = kept-refusal c p r t (rw (h, refused-said (read words) c p e))
+  pub program_refused : (c p : ℕ) (r : code.Report) → RefusalReport c p r → settings_good round_limit (length scratch) ≡ true → no_said c p ≡ said (read words) → RunPromise words round_limit step_limit output scratch r output scratch
+  unfolding comes_to
+  program_refused c p r t h e = kept_refusal c p r t (rw (h, refused_said (read words) c p e))
 
-  pub admitted : settings-good round-limit (length scratch) ≡ true → yes-said ≡ said (read words) → Admitted words round-limit (take scratch-words scratch)
+  pub admitted : settings_good round_limit (length scratch) ≡ true → yes_said ≡ said (read words) → Admitted words round_limit (take scratch_words scratch)
   admitted h e =
-      let q = accepted-said (read words) e in
-      let (i, j) = settings-within round-limit (length scratch) h in
-      record { program = q .0; is-read = q .1; few-rounds = i; length-is = length-take-le scratch-words scratch j }
+      let q = accepted_said (read words) e in
+      let (i, j) = settings_within round_limit (length scratch) h in
+      record { program = q.0; is_read = q.1; few_rounds = i; length_is = length-take-le scratch_words scratch j }
 
   -- the run with the scratch's first words is that with the whole of it, where those beyond are as lent
-  pub kept-whole : (r : code.Report) (output′ part : List ℕ) → settings-good round-limit (length scratch) ≡ true → RunPromise words round-limit step-limit output (take scratch-words scratch) r output′ part
-      → RunPromise words round-limit step-limit output scratch r output′ (part ++ drop scratch-words scratch)
-  kept-whole r output′ part h k =
-      let t = k .says in
-      kept-written r output′ (part ++ drop scratch-words scratch) (rw (first-words-used words round-limit step-limit output scratch (settings-within round-limit (length scratch) h .1)) (record {
-        is-end = t .is-end;
-        is-round = t .is-round;
-        is-steps = t .is-steps;
-        is-answers = t .is-answers;
-        is-words = t .is-words;
-        is-cut = t .is-cut;
-        is-output = t .is-output;
-        is-scratch = ap (λ s. s ++ drop scratch-words scratch) (t .is-scratch);
+  pub kept_whole : (r : code.Report) (output' part : List ℕ) → settings_good round_limit (length scratch) ≡ true → RunPromise words round_limit step_limit output (take scratch_words scratch) r output' part
+      → RunPromise words round_limit step_limit output scratch r output' (part ++ drop scratch_words scratch)
+  kept_whole r output' part h k =
+      let t = k.says in
+      kept_written r output' (part ++ drop scratch_words scratch) (rw (first_words_used words round_limit step_limit output scratch (settings_within round_limit (length scratch) h).1) (record {
+        is_end = t.is_end;
+        is_round = t.is_round;
+        is_steps = t.is_steps;
+        is_answers = t.is_answers;
+        is_words = t.is_words;
+        is_cut = t.is_cut;
+        is_output = t.is_output;
+        is_scratch = ap (λ s. s ++ drop scratch_words scratch) t.is_scratch;
       }))
 
   -- the result of an accepted program
-  module _ (a : Admitted words round-limit scratch) where
-    abbrev pub query-of : Relation
-    query-of = accepted-query words (a .program) (a .is-read) .0
+  module _ (a : Admitted words round_limit scratch) where
+    abbrev pub query_of : Relation
+    query_of = (accepted_query words a.program a.is_read).0
 
-    is-query : getElem? (a .program) 0 ≡ some query-of
-    is-query = ap (λ (P : Program). getElem? P 0) (accepted-query words (a .program) (a .is-read) .2)
+    is_query : get_elem? a.program 0 ≡ some query_of
+    is_query = ap (λ (P : Program). get_elem? P 0) (accepted_query words a.program a.is_read).2
 
-    comes-to-run : comes-to ≡ ran (rounds step-limit (a .program) query-of round-limit 0 (usable (length output)) step-limit 0 [])
-    unfolding comes-to
-    comes-to-run =
-        let q = accepted-query words (a .program) (a .is-read) in
-        rw (within-good round-limit (length scratch) (a .few-rounds) (omega (arith, a .length-is)), a .is-read)
-        (subst (λ (P : Program). report-program P round-limit step-limit (length output) ≡ ran (rounds step-limit P (q .0) round-limit 0 (usable (length output)) step-limit 0 [])) (sym (q .2)) refl)
+    comes_to_run : comes_to ≡ ran (rounds step_limit a.program query_of round_limit 0 (usable (length output)) step_limit 0 [])
+    unfolding comes_to
+    comes_to_run =
+        let q = accepted_query words a.program a.is_read in
+        rw (within_good round_limit (length scratch) a.few_rounds (omega (arith, a.length_is)), a.is_read)
+        (subst (λ (P : Program). report_program P round_limit step_limit (length output) ≡ ran (rounds step_limit P q.0 round_limit 0 (usable (length output)) step_limit 0 [])) (sym q.2) refl)
 
-    pub filling : (s : List ℕ) → s ≡ cleared scratch 0 (length scratch) → (P : Program) × RelationsAt words 0 P × (length P ≤ 256) × (scratch-words ≤ length s)
+    pub filling : (s : List ℕ) → s ≡ cleared scratch 0 (length scratch) → (P : Program) × RelationsAt words 0 P × (length P ≤ 256) × (scratch_words ≤ length s)
     filling s e =
-        let n : length s ≡ length scratch = ap length (e ∙ cleared-all scratch) ∙ length-replicate (length scratch) 0 in
-        let r = relations-there words (a .program) (a .is-read) in
-        (a .program, r .0, r .1, omega (arith, a .length-is))
+        let n : length s ≡ length scratch = ap length (e ∙ cleared_all scratch) ∙ length-replicate (length scratch) 0 in
+        let r = relations_there words a.program a.is_read in
+        (a.program, r.0, r.1, omega (arith, a.length_is))
 
     -- the table filled, in a scratch that was all 0
-    pub ready : (s s′ : List ℕ) → s ≡ cleared scratch 0 (length scratch) → length s′ ≡ length s → ((P : Program) → RelationsAt words 0 P → length P ≤ 256 → TableIn words s′ P) → Same s s′ 0 11776
-        → RunReady words s′ (a .program) 0 query-of round-limit
-    ready s s′ e l table low =
-        let n : length s ≡ length scratch = ap length (e ∙ cleared-all scratch) ∙ length-replicate (length scratch) 0 in
-        let r = relations-there words (a .program) (a .is-read) in
-        let zeros : (i : ℕ) → i < 11776 → at s′ i ≡ 0 = λ i h. low i (omega arith) h ∙ ap (λ (ws : List ℕ). at ws i) (e ∙ cleared-all scratch) ∙ getD-replicate (length scratch) i 0 0 (omega (arith, a .length-is)) in
+    pub ready : (s s' : List ℕ) → s ≡ cleared scratch 0 (length scratch) → length s' ≡ length s → ((P : Program) → RelationsAt words 0 P → length P ≤ 256 → TableIn words s' P) → Same s s' 0 11776
+        → RunReady words s' a.program 0 query_of round_limit
+    ready s s' e l table low =
+        let n : length s ≡ length scratch = ap length (e ∙ cleared_all scratch) ∙ length-replicate (length scratch) 0 in
+        let r = relations_there words a.program a.is_read in
+        let zeros : (i : ℕ) → i < 11776 → at s' i ≡ 0 = λ i h. low i (omega arith) h ∙ ap (λ (ws : List ℕ). at ws i) (e ∙ cleared_all scratch) ∙ get_or-replicate (length scratch) i 0 0 (omega (arith, a.length_is)) in
         record {
-          is-read = a .is-read;
-          query-is = is-query;
-          clean = record { long = omega (arith, a .length-is); table = table (a .program) (r .0) (r .1); open-all = λ x h. zeros x (omega arith); nameless = λ i h k. zeros i (omega arith) };
-          few-rounds = a .few-rounds;
+          is_read = a.is_read;
+          query_is = is_query;
+          clean = record { long = omega (arith, a.length_is); table = table a.program r.0 r.1; open_all = λ x h. zeros x (omega arith); nameless = λ i h k. zeros i (omega arith) };
+          few_rounds = a.few_rounds;
         }
 
-    pub kept-run : (s′ output′ : List ℕ) (r : code.Report) → length s′ ≡ length scratch → length output′ ≡ length output
-        → ResultAs output′ (rounds step-limit (a .program) query-of round-limit 0 (usable (length output)) step-limit 0 []) r
-        → RunPromise words round-limit step-limit output scratch r (cleared output′ (r .words) (length output′)) (cleared s′ 0 (length scratch))
-    unfolding comes-to
-    kept-run s′ output′ r f g h =
-        let x : Result = rounds step-limit (a .program) query-of round-limit 0 (usable (length output)) step-limit 0 [] in
-        let z : run words round-limit step-limit output scratch ≡ leave (ran x) output scratch = ap (λ y. leave y output scratch) comes-to-run in
-        let o : cleared output′ (r .words) (length output′) ≡ page (x .answers) ++ replicate (length output - length (page (x .answers))) 0 =
-        cleared-rest output′ (r .words) ∙ ap (λ p. p ++ replicate (length output′ - r .words) 0) (h .page-is) ∙ ap (λ m. page (x .answers) ++ replicate m 0) (ap (λ m. m - r .words) g ∙ ap (λ m. length output - m) (h .is-words)) in
-        let y : cleared s′ 0 (length scratch) ≡ zeroed scratch-words scratch =
-        ap (cleared s′ 0) (sym f) ∙ cleared-all s′ ∙ ap (λ n. replicate n 0) f ∙ sym (zeroed-all scratch) ∙ ap (λ n. zeroed n scratch) (a .length-is) in
-        kept-said r (cleared output′ (r .words) (length output′)) (cleared s′ 0 (length scratch)) (rw z (record {
-          is-end = h .is-end;
-          is-round = h .is-round;
-          is-steps = h .is-steps;
-          is-answers = h .is-answers;
-          is-words = h .is-words;
-          is-cut = h .is-cut;
-          is-output = o;
-          is-scratch = y;
+    pub kept_run : (s' output' : List ℕ) (r : code.Report) → length s' ≡ length scratch → length output' ≡ length output
+        → ResultAs output' (rounds step_limit a.program query_of round_limit 0 (usable (length output)) step_limit 0 []) r
+        → RunPromise words round_limit step_limit output scratch r (cleared output' r.words (length output')) (cleared s' 0 (length scratch))
+    unfolding comes_to
+    kept_run s' output' r f g h =
+        let x : Result = rounds step_limit a.program query_of round_limit 0 (usable (length output)) step_limit 0 [] in
+        let z : run words round_limit step_limit output scratch ≡ leave (ran x) output scratch = ap (λ y. leave y output scratch) comes_to_run in
+        let o : cleared output' r.words (length output') ≡ page x.answers ++ replicate (length output - length (page x.answers)) 0 =
+        cleared_rest output' r.words ∙ ap (λ p. p ++ replicate (length output' - r.words) 0) h.page_is ∙ ap (λ m. page x.answers ++ replicate m 0) (ap (λ m. m - r.words) g ∙ ap (λ m. length output - m) h.is_words) in
+        let y : cleared s' 0 (length scratch) ≡ zeroed scratch_words scratch =
+        ap (cleared s' 0) (sym f) ∙ cleared_all s' ∙ ap (λ n. replicate n 0) f ∙ sym (zeroed_all scratch) ∙ ap (λ n. zeroed n scratch) a.length_is in
+        kept_said r (cleared output' r.words (length output')) (cleared s' 0 (length scratch)) (rw z (record {
+          is_end = h.is_end;
+          is_round = h.is_round;
+          is_steps = h.is_steps;
+          is_answers = h.is_answers;
+          is_words = h.is_words;
+          is_cut = h.is_cut;
+          is_output = o;
+          is_scratch = y;
         }))

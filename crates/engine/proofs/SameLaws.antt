@@ -1,23 +1,23 @@
 -- Answers on the output, compared word by word.
-use Prim.Native.Nat.{ℕ, suc, _+_, _<_, _≤_}
-use mathlib.Core.Path.{_≡_, refl, sym, ap, subst, _∙_}
-use mathlib.Core.Bool.{Bool, true, false, _||_, true≢false, false≢true}
-use mathlib.Core.List.{List, [], _∷_, _++_}
-use mathlib.Core.Logic.{_⊎_, inl, inr, ⊎-elim}
+use Prim.Native.Nat.{ℕ, suc, ◌+◌, ◌<◌, ◌≤◌}
+use mathlib.Core.Path.{◌≡◌, refl, sym, ap, subst, ◌∙◌}
+use mathlib.Core.Bool.{Bool, true, false, ◌||◌, true≢false, false≢true}
+use mathlib.Core.List.{List, [], ◌∷◌, ◌++◌}
+use mathlib.Core.Logic.{◌⊎◌, inl, inr, ⊎_elim}
 use native.Mathlib.Omega.{arith}
 use lib.ListN.{length, length-append}
-use Rattle·word.specs.Word.{payload, payload-word}
-use Rattle·rules.specs.Lists.{joined}
-use Rattle·rules.specs.Written.{part}
-use Rattle·rules.specs.Inner.{Spells}
-use Rattle·semantics.specs.Answer.{same-words, any-same}
-use Rattle·semantics.proofs.Basics.{one-of, or-right}
-use Rattle·engine·specs.specs.Reference.{at}
-use Rattle·engine·specs.specs.Lines.{Whole, Stretch, Rows}
-use Rattle·engine·specs.specs.Index.{AnswerAt, Standing}
-use Rattle·semantics.proofs.Repeats.{same-refl, same-true}
-use Rattle·engine·proofs.proofs.RowLaws.{spells-one, rows-cons, Row, RowNext, row-next, row-found, row-on}
-use Rattle·engine·proofs.proofs.HashLaws.{stretch-next, stretch-end}
+use Rattle.word.specs.Word.{payload, payload_word}
+use Rattle.rules.specs.Lists.{joined}
+use Rattle.rules.specs.Written.{part}
+use Rattle.rules.specs.Inner.{Spells}
+use Rattle.semantics.specs.Answer.{same_words, any_same}
+use Rattle.semantics.proofs.Basics.{one_of, or_right}
+use Rattle.engine.specs.Reference.{at}
+use Rattle.engine.specs.Lines.{Whole, Stretch, Rows}
+use Rattle.engine.specs.Index.{AnswerAt, Standing}
+use Rattle.semantics.proofs.Repeats.{same_refl, same_true}
+use Rattle.engine.proofs.RowLaws.{spells_one, rows_cons, Row, RowNext, row_next, row_found, row_on}
+use Rattle.engine.proofs.HashLaws.{stretch_next, stretch_end}
 
 -- Words compared with those at another place: what is left of them stands there just if all of them do.
 pub record Matching (o : List ℕ) (earlier next to place : ℕ) (v : List ℕ) : Type 0 where
@@ -26,60 +26,60 @@ pub record Matching (o : List ℕ) (earlier next to place : ℕ) (v : List ℕ) 
   pub all : Spells o earlier rest → Spells o place v
   pub left : Spells o place v → Spells o earlier rest
 
-pub matching-start : {o : List ℕ} {next to place : ℕ} (v : List ℕ) → Stretch o next to v → Matching o place next to place v
-matching-start v h = record { rest = v; here = h; all = λ s. s; left = λ s. s }
+pub matching_start : {o : List ℕ} {next to place : ℕ} (v : List ℕ) → Stretch o next to v → Matching o place next to place v
+matching_start v h = record { rest = v; here = h; all = λ s. s; left = λ s. s }
 
 module _ {o : List ℕ} {earlier next to place : ℕ} {v : List ℕ} (g : Matching o earlier next to place v) where
-  pub matching-next : next < to → at o earlier ≡ at o next → Matching o (earlier + 1) (next + 1) to place v
+  pub matching_next : next < to → at o earlier ≡ at o next → Matching o (earlier + 1) (next + 1) to place v
   unfolding Spells
-  matching-next l e =
-      let n = stretch-next (g .rest) (g .here) l in
+  matching_next l e =
+      let n = stretch_next g.rest g.here l in
       record {
-        rest = n .rest;
-        here = n .later;
-        all = λ s. g .all (subst (Spells o earlier) (sym (n .is)) (e, s));
-        left = λ s. subst (Spells o earlier) (n .is) (g .left s) .1;
+        rest = n.rest;
+        here = n.later;
+        all = λ s. g.all (subst (Spells o earlier) (sym n.is) (e, s));
+        left = λ s. (subst (Spells o earlier) n.is (g.left s)).1;
       }
 
-  pub matching-differs : next < to → ¬ (at o earlier ≡ at o next) → Standing o place v false
+  pub matching_differs : next < to → ¬ (at o earlier ≡ at o next) → Standing o place v false
   unfolding Spells
-  matching-differs l d = let n = stretch-next (g .rest) (g .here) l in record { yes = λ q. absurd (false≢true q); no = λ _ s. d (subst (Spells o earlier) (n .is) (g .left s) .0) }
+  matching_differs l d = let n = stretch_next g.rest g.here l in record { yes = λ q. absurd (false≢true q); no = λ _ s. d (subst (Spells o earlier) n.is (g.left s)).0 }
 
-  pub matching-end : to ≤ next → Standing o place v true
+  pub matching_end : to ≤ next → Standing o place v true
   unfolding Spells
-  matching-end l = record { yes = λ _. g .all (subst (Spells o earlier) (sym (stretch-end (g .rest) (g .here) l)) tt); no = λ q. absurd (true≢false q) }
+  matching_end l = record { yes = λ _. g.all (subst (Spells o earlier) (sym (stretch_end g.rest g.here l)) tt); no = λ q. absurd (true≢false q) }
 
 -- of two answers at one place the header counts the same words
-pub whole-one : (o : List ℕ) (place : ℕ) {v w : List ℕ} → Whole v → Whole w → Spells o place v → Spells o place w → v ≡ w
+pub whole_one : (o : List ℕ) (place : ℕ) {v w : List ℕ} → Whole v → Whole w → Spells o place v → Spells o place w → v ≡ w
 unfolding Spells
-whole-one o place {v} {w} k m h i =
-    let f : Spells o place (part (k .kind) (k .rest)) = subst (Spells o place) (k .is) h in
-    let g : Spells o place (part (m .kind) (m .rest)) = subst (Spells o place) (m .is) i in
-    let a : length (k .rest) ≡ length (m .rest) = sym (payload-word (k .kind) (length (k .rest)) (k .short)) ∙ ap payload (sym (f .0) ∙ g .0) ∙ payload-word (m .kind) (length (m .rest)) (m .short) in
-    spells-one o place v w h i (ap length (k .is) ∙ ap suc a ∙ ap length (sym (m .is)))
+whole_one o place {v} {w} k m h i =
+    let f : Spells o place (part k.kind k.rest) = subst (Spells o place) k.is h in
+    let g : Spells o place (part m.kind m.rest) = subst (Spells o place) m.is i in
+    let a : length k.rest ≡ length m.rest = sym (payload_word k.kind (length k.rest) k.short) ∙ ap payload (sym f.0 ∙ g.0) ∙ payload_word m.kind (length m.rest) m.short in
+    spells_one o place v w h i (ap length k.is ∙ ap suc a ∙ ap length (sym m.is))
 
 -- the answer at a place has the words v, or not
-standing-same : {o : List ℕ} {place to : ℕ} {v w : List ℕ} (r : Bool) → Whole v → Whole w → Stretch o place to w → Standing o place v r → r ≡ same-words v w
-standing-same {o} {place} {to} {v} {w} true k m h s = let e : v ≡ w = whole-one o place k m (s .yes refl) (h .words) in subst (λ x. true ≡ same-words x w) (sym e) (sym (same-refl w))
-standing-same {o} {place} {to} {v} {w} false k m h s = go (same-words v w) refl
+standing_same : {o : List ℕ} {place to : ℕ} {v w : List ℕ} (r : Bool) → Whole v → Whole w → Stretch o place to w → Standing o place v r → r ≡ same_words v w
+standing_same {o} {place} {to} {v} {w} true k m h s = let e : v ≡ w = whole_one o place k m (s.yes refl) h.words in subst (λ x. true ≡ same_words x w) (sym e) (sym (same_refl w))
+standing_same {o} {place} {to} {v} {w} false k m h s = go (same_words v w) refl
   where
-    go : (b : Bool) → same-words v w ≡ b → false ≡ same-words v w
+    go : (b : Bool) → same_words v w ≡ b → false ≡ same_words v w
     go false q = sym q
-    go true q = absurd (s .no refl (subst (Spells o place) (sym (same-true v w q)) (h .words)))
+    go true q = absurd (s.no refl (subst (Spells o place) (sym (same_true v w q)) h.words))
 
 -- an answer compared with earlier ones, one after the other
 module _ {o : List ℕ} {place to : ℕ} {v : List ℕ} {goal r : Bool} (g : Row o place to v goal) (l : place < to) (k : Whole v) (s : Standing o place v r) where
   first : RowNext o place to (payload (at o place)) v goal
-  first = row-next g l refl refl
+  first = row_next g l refl refl
 
-  is-first : r ≡ same-words v (first .one)
-  is-first = standing-same r k (first .whole) (first .here) s
+  is_first : r ≡ same_words v first.one
+  is_first = standing_same r k first.whole first.here s
 
-  pub among-found : r ≡ true → true ≡ goal
-  among-found e = row-found first is-first e
+  pub among_found : r ≡ true → true ≡ goal
+  among_found e = row_found first is_first e
 
-  pub among-next : r ≡ false → {next : ℕ} → next ≡ place + (1 + payload (at o place)) → Row o next to v goal
-  among-next e {next} is = subst (λ p. Row o p to v goal) (omega (arith, is)) (row-on first is-first e)
+  pub among_next : r ≡ false → {next : ℕ} → next ≡ place + (1 + payload (at o place)) → Row o next to v goal
+  among_next e {next} is = subst (λ p. Row o p to v goal) (omega (arith, is)) (row_on first is_first e)
 
 -- an answer at a place
 pub record EarlierAnswer (o : List ℕ) (to place : ℕ) (w : List ℕ) : Type 0 where
@@ -87,46 +87,46 @@ pub record EarlierAnswer (o : List ℕ) (to place : ℕ) (w : List ℕ) : Type 0
   pub whole : Whole w
   pub inside : place < to
 
-pub answer-stands : {o : List ℕ} {first to place : ℕ} {w : List ℕ} (ws : List (List ℕ)) → Rows o first to ws → AnswerAt first ws place w → EarlierAnswer o to place w
-unfolding AnswerAt rows-cons
-answer-stands [] h a = absurd a
-answer-stands {o} {first} {to} {place} {w} (x ∷ xs) h a =
-    let n = rows-cons x xs h in
-    let long : length x ≡ suc (length (n .whole .rest)) = ap length (n .whole .is) in
-    let ends : to ≡ first + length x + length (joined xs) = n .later .stretch .ends in
-    ⊎-elim
-    (λ e. record { words = subst (λ p. Spells o p w) (sym (e .0)) (subst (Spells o first) (sym (e .1)) (n .here .words)); whole = subst Whole (sym (e .1)) (n .whole); inside = omega (arith, e .0) })
-    (answer-stands xs (n .later))
+pub answer_stands : {o : List ℕ} {first to place : ℕ} {w : List ℕ} (ws : List (List ℕ)) → Rows o first to ws → AnswerAt first ws place w → EarlierAnswer o to place w
+unfolding AnswerAt rows_cons
+answer_stands [] h a = absurd a
+answer_stands {o} {first} {to} {place} {w} (x ∷ xs) h a =
+    let n = rows_cons x xs h in
+    let long : length x ≡ suc (length n.whole.rest) = ap length n.whole.is in
+    let ends : to ≡ first + length x + length (joined xs) = n.later.stretch.ends in
+    ⊎_elim
+    (λ e. record { words = subst (λ p. Spells o p w) (sym e.0) (subst (Spells o first) (sym e.1) n.here.words); whole = subst Whole (sym e.1) n.whole; inside = omega (arith, e.0) })
+    (answer_stands {o = o} {first = first + length x} {to = to} {place = place} {w = w} xs n.later)
     a
 
 -- an answer is among others just if it stands there
-pub same-at : (v : List ℕ) (ws : List (List ℕ)) (first : ℕ) → any-same v ws ≡ true → (place : ℕ) × AnswerAt first ws place v
+pub same_at : (v : List ℕ) (ws : List (List ℕ)) (first : ℕ) → any_same v ws ≡ true → (place : ℕ) × AnswerAt first ws place v
 unfolding AnswerAt
-same-at v [] first e = absurd (false≢true e)
-same-at v (w ∷ ws) first e =
-    ⊎-elim (λ q. (first, inl (refl, same-true v w q))) (λ q. let r = same-at v ws (first + length w) q in (r .0, inr (r .1))) (one-of (same-words v w) (any-same v ws) e)
+same_at v [] first e = absurd (false≢true e)
+same_at v (w ∷ ws) first e =
+    ⊎_elim (λ q. (first, inl (refl, same_true v w q))) (λ q. let r = same_at v ws (first + length w) q in (r.0, inr r.1)) (one_of (same_words v w) (any_same v ws) e)
 
-pub at-same : (v : List ℕ) (ws : List (List ℕ)) (first place : ℕ) → AnswerAt first ws place v → any-same v ws ≡ true
+pub at_same : (v : List ℕ) (ws : List (List ℕ)) (first place : ℕ) → AnswerAt first ws place v → any_same v ws ≡ true
 unfolding AnswerAt
-at-same v [] first place a = absurd a
-at-same v (w ∷ ws) first place a =
-    ⊎-elim (λ e. ap (λ b. b || any-same v ws) (subst (λ x. same-words v x ≡ true) (e .1) (same-refl v)))
-    (λ b. ap (λ x. same-words v w || x) (at-same v ws (first + length w) place b) ∙ or-right (same-words v w)) a
+at_same v [] first place a = absurd a
+at_same v (w ∷ ws) first place a =
+    ⊎_elim (λ e. ap (λ b. b || any_same v ws) (subst (λ x. same_words v x ≡ true) e.1 (same_refl v)))
+    (λ b. ap (λ x. same_words v w || x) (at_same v ws (first + length w) place b) ∙ or_right (same_words v w)) a
 
 -- answers with one more behind them
-pub at-more : (ws : List (List ℕ)) (v : List ℕ) (first place : ℕ) (w : List ℕ) → AnswerAt first ws place w → AnswerAt first (ws ++ (v ∷ [])) place w
+pub at_more : (ws : List (List ℕ)) (v : List ℕ) (first place : ℕ) (w : List ℕ) → AnswerAt first ws place w → AnswerAt first (ws ++ (v ∷ [])) place w
 unfolding AnswerAt
-at-more [] v first place w a = absurd a
-at-more (x ∷ ws) v first place w a = ⊎-elim inl (λ b. inr (at-more ws v (first + length x) place w b)) a
+at_more [] v first place w a = absurd a
+at_more (x ∷ ws) v first place w a = ⊎_elim inl (λ b. inr (at_more ws v (first + length x) place w b)) a
 
-pub at-last : (ws : List (List ℕ)) (v : List ℕ) (first place : ℕ) → place ≡ first + length (joined ws) → AnswerAt first (ws ++ (v ∷ [])) place v
+pub at_last : (ws : List (List ℕ)) (v : List ℕ) (first place : ℕ) → place ≡ first + length (joined ws) → AnswerAt first (ws ++ (v ∷ [])) place v
 unfolding AnswerAt
-at-last [] v first place e = inl (omega arith, refl)
-at-last (x ∷ ws) v first place e = inr (at-last ws v (first + length x) place (omega (arith, length-append x (joined ws))))
+at_last [] v first place e = inl (omega arith, refl)
+at_last (x ∷ ws) v first place e = inr (at_last ws v (first + length x) place (omega (arith, length-append x (joined ws))))
 
-pub at-one-more : (ws : List (List ℕ)) (v : List ℕ) (first place : ℕ) (w : List ℕ) → AnswerAt first (ws ++ (v ∷ [])) place w → AnswerAt first ws place w ⊎ ((place ≡ first + length (joined ws)) × (w ≡ v))
+pub at_one_more : (ws : List (List ℕ)) (v : List ℕ) (first place : ℕ) (w : List ℕ) → AnswerAt first (ws ++ (v ∷ [])) place w → AnswerAt first ws place w ⊎ ((place ≡ first + length (joined ws)) × (w ≡ v))
 unfolding AnswerAt
-at-one-more [] v first place w a = ⊎-elim (λ e. inr (omega (arith, e .0), e .1)) (λ b. absurd b) a
-at-one-more (x ∷ ws) v first place w a =
-    ⊎-elim (λ e. inl (inl e))
-    (λ b. ⊎-elim (λ d. inl (inr d)) (λ e. inr (omega (arith, e .0, length-append x (joined ws)), e .1)) (at-one-more ws v (first + length x) place w b)) a
+at_one_more [] v first place w a = ⊎_elim (λ e. inr (omega (arith, e.0), e.1)) (λ b. absurd b) a
+at_one_more (x ∷ ws) v first place w a =
+    ⊎_elim (λ e. inl (inl e))
+    (λ b. ⊎_elim (λ d. inl (inr d)) (λ e. inr (omega (arith, e.0, length-append x (joined ws)), e.1)) (at_one_more ws v (first + length x) place w b)) a

@@ -1,78 +1,73 @@
 -- What writing an answer promises.
-use Prim.Native.Nat.{ℕ, _+_, _≤_, _<_}
-use mathlib.Core.Path.{_≡_}
-use mathlib.Core.Bool.{true}
-use mathlib.Core.List.{List, _++_}
-use lib.Dec.{ltb}
-use lib.ListN.{length, take}
-use Rattle·rules.specs.Reading.{choose}
-use Rattle·rules.specs.Written.{part}
-use Rattle·rules.specs.Syntax.{Program}
-use Rattle·semantics.specs.Steps.{waiting, no-steps, at-bound, Outcome, done, stop}
-use Rattle·semantics.specs.Path.{Path, ChoicePoint}
-use Rattle·semantics.specs.Run.{usable}
-use Rattle·semantics.specs.Invariant.{Sound}
-use Rattle·engine·specs.specs.Take.{PathHeld}
-use Rattle·engine·specs.specs.Reference.{at}
-use Rattle·engine·specs.specs.Term.{Touched, Laid}
-use Rattle·engine·specs.specs.Lines.{Whole}
-use Rattle·rules.specs.Settings.{most-words}
-use Rattle·engine·specs.specs.declared.search.state.State.{State}
-use Rattle·engine·specs.specs.declared.writer.constraint.Added.{Added}
-use Rattle·engine·specs.specs.declared.writer.constraint.Added.the-variants as added
-use Rattle·engine·specs.specs.declared.writer.answer.Answered.{Answered}
-use Rattle·engine·specs.specs.declared.writer.answer.Answered.the-variants.{Written, Full, StepsOut, WaitingOut}
+use Rattle.std.specs.Prelude.{ℕ, ◌+◌, ◌≤◌, ◌<◌, ◌≡◌, true, List, ◌++◌, ltb, length, take}
+use Rattle.rules.specs.Reading.{choose}
+use Rattle.rules.specs.Written.{part}
+use Rattle.rules.specs.Syntax.{Program}
+use Rattle.semantics.specs.Steps.{waiting, no_steps, at_bound, Outcome, done, stop}
+use Rattle.semantics.specs.Path.{Path, ChoicePoint}
+use Rattle.semantics.specs.Run.{usable}
+use Rattle.semantics.specs.Invariant.{Sound}
+use Rattle.engine.specs.Take.{PathHeld}
+use Rattle.engine.specs.Reference.{at}
+use Rattle.engine.specs.Term.{Touched, Laid}
+use Rattle.engine.specs.Lines.{Whole}
+use Rattle.rules.specs.Settings.{most_words}
+use Rattle.engine.specs.declared.search.state.State.{State}
+use Rattle.engine.specs.declared.writer.constraint.Added.{Added}
+use Rattle.engine.specs.declared.writer.constraint.Added.TheVariants as added
+use Rattle.engine.specs.declared.writer.answer.Answered.{Answered}
+use Rattle.engine.specs.declared.writer.answer.Answered.TheVariants.{Written, Full, StepsOut, WaitingOut}
 
 -- the words of an answer but its own, from the word after `start` on, if they fit
 abbrev pub Ends : List ℕ → List ℕ → ℕ → ℕ → List ℕ → Added → Type 0
 Ends o₀ o start end v r = (place left : ℕ) → r ≡ added.Done place left → place ≤ end → Laid o₀ o (start + 1) end true v place
 
 -- what becomes of the end of the lines
-abbrev pub answer-end : ℕ → Added → Answered
-answer-end end (added.Done place left) = choose (ltb end place) (λ _. Full left) (λ _. Written place left)
-answer-end end added.StepsOut = StepsOut
-answer-end end (added.WaitingOut left) = WaitingOut left
+abbrev pub answer_end : ℕ → Added → Answered
+answer_end end (added.Done place left) = choose (ltb end place) (λ _. Full left) (λ _. Written place left)
+answer_end end added.StepsOut = StepsOut
+answer_end end (added.WaitingOut left) = WaitingOut left
 
 -- with its own word, where all of it fits
-pub record EndedAs (o₀ o o′ : List ℕ) (start end : ℕ) (v : List ℕ) (r : Added) (q : Answered) : Type 0 where
-  pub says : q ≡ answer-end end r
-  pub written : (n left : ℕ) → q ≡ Written n left → Laid o₀ o′ start end true (part 15 v) n
-  pub touched : Touched o₀ o (start + 1) end → Touched o₀ o′ start end
+pub record EndedAs (o₀ o o' : List ℕ) (start end : ℕ) (v : List ℕ) (r : Added) (q : Answered) : Type 0 where
+  pub says : q ≡ answer_end end r
+  pub written : (n left : ℕ) → q ≡ Written n left → Laid o₀ o' start end true (part 15 v) n
+  pub touched : Touched o₀ o (start + 1) end → Touched o₀ o' start end
 
 -- a path at its end, whose answer is to be written behind the `used` words of the output
 pub record Answering (P : Program) (ws s output : List ℕ) (st : State) (p : Path) (cs : List ChoicePoint) (params used : ℕ) : Type 0 where
   pub stored : PathHeld P ws s st p cs
-  pub short : length ws ≤ most-words
-  pub sound : Sound (p .bindings) (p .kept) (p .made)
-  pub few-params : params ≤ p .made
-  pub used-fits : used ≤ usable (length output)
+  pub short : length ws ≤ most_words
+  pub sound : Sound p.bindings p.kept p.made
+  pub few_params : params ≤ p.made
+  pub used_fits : used ≤ usable (length output)
 
 -- how an answer leaves what is lent: the path is held as before, and the words before `used` stay
-pub record AnswerLeft (P : Program) (ws s output s′ output′ : List ℕ) (st : State) (p : Path) (cs : List ChoicePoint) (used : ℕ) : Type 0 where
-  pub stored : PathHeld P ws s′ st p cs
-  pub scratch-length : length s′ ≡ length s
-  pub output-length : length output′ ≡ length output
-  pub before : take used output′ ≡ take used output
+pub record AnswerLeft (P : Program) (ws s output s' output' : List ℕ) (st : State) (p : Path) (cs : List ChoicePoint) (used : ℕ) : Type 0 where
+  pub stored : PathHeld P ws s' st p cs
+  pub scratch_length : length s' ≡ length s
+  pub output_length : length output' ≡ length output
+  pub before : take used output' ≡ take used output
 
 -- what each case says of the answer's words
-abbrev pub answer-says : List ℕ → Answered → Outcome (List ℕ)
-answer-says ws (Written n left) = done ws left
-answer-says ws (Full left) = done ws left
-answer-says ws StepsOut = stop no-steps 0
-answer-says ws (WaitingOut left) = stop (at-bound waiting) left
+abbrev pub answer_says : List ℕ → Answered → Outcome (List ℕ)
+answer_says ws (Written n left) = done ws left
+answer_says ws (Full left) = done ws left
+answer_says ws StepsOut = stop no_steps 0
+answer_says ws (WaitingOut left) = stop (at_bound waiting) left
 
 -- the words stand behind those used, n are used now, and what is behind them is as it was
-pub record AnswerStands (output output′ : List ℕ) (used : ℕ) (ws : List ℕ) (n : ℕ) : Type 0 where
-  pub used-now : n ≡ used + length ws
+pub record AnswerStands (output output' : List ℕ) (used : ℕ) (ws : List ℕ) (n : ℕ) : Type 0 where
+  pub used_now : n ≡ used + length ws
   pub fits : n ≤ usable (length output)
-  pub stands : take n output′ ≡ take used output ++ ws
+  pub stands : take n output' ≡ take used output ++ ws
   pub whole : Whole ws
-  pub behind : (i : ℕ) → n ≤ i → at output′ i ≡ at output i
+  pub behind : (i : ℕ) → n ≤ i → at output' i ≡ at output i
 
 -- as the definition says, and written where there is room
-pub record AnsweredAs (P : Program) (ws s output s′ output′ : List ℕ) (st : State) (p : Path) (cs : List ChoicePoint) (used : ℕ) (o : Outcome (List ℕ)) (r : Answered) : Type 0 where
-  pub leaves-lent : AnswerLeft P ws s output s′ output′ st p cs used
+pub record AnsweredAs (P : Program) (ws s output s' output' : List ℕ) (st : State) (p : Path) (cs : List ChoicePoint) (used : ℕ) (o : Outcome (List ℕ)) (r : Answered) : Type 0 where
+  pub leaves_lent : AnswerLeft P ws s output s' output' st p cs used
   pub words : List ℕ
-  pub says : o ≡ answer-says words r
-  pub written : (n left : ℕ) → r ≡ Written n left → AnswerStands output output′ used words n
+  pub says : o ≡ answer_says words r
+  pub written : (n left : ℕ) → r ≡ Written n left → AnswerStands output output' used words n
   pub full : (left : ℕ) → r ≡ Full left → usable (length output) < used + length words

@@ -1,44 +1,38 @@
 -- The index of the answers on the output: a hash table in the last words of it that can be used. An entry is 0, or the place of an answer plus 1. An answer is entered
 -- at the first empty entry from its home slot on, and behind the last slot comes the first.
-use Prim.Native.Nat.{ℕ, _+_, _*_, _-_, _/_, _%_, _≤_, _<_}
-use mathlib.Core.Path.{_≡_}
-use mathlib.Core.Bool.{Bool, true, false}
-use mathlib.Core.List.{List, [], _∷_, _++_}
-use mathlib.Core.Logic.{_⊎_}
-use lib.Dec.{eqb}
-use lib.ListN.{drop, length}
-use Rattle·rules.specs.Inner.{Spells}
-use Rattle·rules.specs.Reading.{choose}
-use Rattle·semantics.specs.Answer.{any-same}
-use Rattle·engine·specs.specs.Reference.{at}
-use Rattle·engine·specs.specs.Term.{Room, Touched}
-use Rattle·engine·specs.specs.Lines.{Whole, Stretch, Rows}
-use Rattle·engine·specs.specs.declared.repeats.index.Entered.{Entered}
-use Rattle·engine·specs.specs.declared.repeats.index.Entered.the-variants as entered
-use Rattle·engine·specs.specs.declared.repeats.repeated.Compared.{Compared}
-use Rattle·engine·specs.specs.declared.repeats.repeated.Compared.the-variants.{Repeated, New}
+use Rattle.std.specs.Prelude.{ℕ, ◌+◌, ◌*◌, ◌-◌, ◌/◌, ◌%◌, ◌≤◌, ◌<◌, ◌≡◌, Bool, true, false, List, [], ◌∷◌, ◌++◌, ◌⊎◌, eqb, drop, length}
+use Rattle.rules.specs.Inner.{Spells}
+use Rattle.rules.specs.Reading.{choose}
+use Rattle.semantics.specs.Answer.{any_same}
+use Rattle.engine.specs.Reference.{at}
+use Rattle.engine.specs.Term.{Room, Touched}
+use Rattle.engine.specs.Lines.{Whole, Stretch, Rows}
+use Rattle.engine.specs.declared.repeats.index.Entered.{Entered}
+use Rattle.engine.specs.declared.repeats.index.Entered.TheVariants as entered
+use Rattle.engine.specs.declared.repeats.repeated.Compared.{Compared}
+use Rattle.engine.specs.declared.repeats.repeated.Compared.TheVariants.{Repeated, New}
 
 -- a product's upper half added to its lower
-abbrev pub fold-halves : ℕ → ℕ
-fold-halves x = x / 4294967296 + x % 4294967296
+abbrev pub fold_halves : ℕ → ℕ
+fold_halves x = x / 4294967296 + x % 4294967296
 
 -- the hash of words, after that of the words before them
-unfoldable pub hash-from : ℕ → List ℕ → ℕ
-hash-from h [] = h
-hash-from h (w ∷ ws) = hash-from (fold-halves ((h + w) * 708568507)) ws
+unfoldable pub hash_from : ℕ → List ℕ → ℕ
+hash_from h [] = h
+hash_from h (w ∷ ws) = hash_from (fold_halves ((h + w) * 708568507)) ws
 
 -- the slot where the search for an answer begins: its header says no more than how many words follow
 abbrev pub home : ℕ → List ℕ → ℕ
-home size w = hash-from 0 (drop 1 w) % 4294967296 * size / 4294967296
+home size w = hash_from 0 (drop 1 w) % 4294967296 * size / 4294967296
 
 -- the slot behind another
-abbrev pub next-slot : ℕ → ℕ → ℕ
-next-slot size slot = choose (eqb (slot + 1) size) (λ _. 0) (λ _. slot + 1)
+abbrev pub next_slot : ℕ → ℕ → ℕ
+next_slot size slot = choose (eqb (slot + 1) size) (λ _. 0) (λ _. slot + 1)
 
 -- the entry of a place is in this slot, or in a later one with no empty one before it
 pub data Leads (o : List ℕ) (table size : ℕ) : ℕ → ℕ → Type 0 where
   here : {slot place : ℕ} → at o (table + slot) ≡ place + 1 → Leads o table size slot place
-  further : {slot place : ℕ} → 0 < at o (table + slot) → Leads o table size (next-slot size slot) place → Leads o table size slot place
+  further : {slot place : ℕ} → 0 < at o (table + slot) → Leads o table size (next_slot size slot) place → Leads o table size slot place
 
 -- of answers that follow one another from `first` on, w stands at `place`
 unfoldable pub AnswerAt : ℕ → List (List ℕ) → ℕ → List ℕ → Type 0
@@ -64,16 +58,16 @@ pub record Comparing (o : List ℕ) (used next end index : ℕ) (ws : List (List
   pub indexed : next + index ≤ end → Indexed o end index ws
 
 -- does it have the same words as an earlier one?
-abbrev pub is-repeated : Compared → Bool
-is-repeated (Repeated index) = true
-is-repeated (New index) = false
+abbrev pub is_repeated : Compared → Bool
+is_repeated (Repeated index) = true
+is_repeated (New index) = false
 
 -- what is told, and the index afterwards: of the earlier answers, or of v too
-pub record ComparedAs (o o′ : List ℕ) (used next end : ℕ) (ws : List (List ℕ)) (v : List ℕ) (r : Compared) : Type 0 where
-  pub says : is-repeated r ≡ any-same v ws
-  pub repeated : (index : ℕ) → r ≡ Repeated index → (used + index ≤ end) × Indexed o′ end index ws
-  pub new : (index : ℕ) → r ≡ New index → (next + index ≤ end) × Indexed o′ end index (ws ++ (v ∷ []))
-  pub touched : Touched o o′ next end
+pub record ComparedAs (o o' : List ℕ) (used next end : ℕ) (ws : List (List ℕ)) (v : List ℕ) (r : Compared) : Type 0 where
+  pub says : is_repeated r ≡ any_same v ws
+  pub repeated : (index : ℕ) → r ≡ Repeated index → (used + index ≤ end) × Indexed o' end index ws
+  pub new : (index : ℕ) → r ≡ New index → (next + index ≤ end) × Indexed o' end index (ws ++ (v ∷ []))
+  pub touched : Touched o o' next end
 
 -- What the private functions promise one another.
 
@@ -93,19 +87,19 @@ pub record Seeking (o : List ℕ) (start next table size : ℕ) (ws : List (List
   pub earlier : Rows o 0 start ws
   pub words : Stretch o start next v
   pub whole : Whole v
-  pub table-there : Table o next table size
+  pub table_there : Table o next table size
   pub index : Index o table size ws
 
 -- it is there, or it is entered now, or there is no room for it
-pub record EnteredAs (o o′ : List ℕ) (table size : ℕ) (ws : List (List ℕ)) (v : List ℕ) (r : Entered) : Type 0 where
-  pub repeated : r ≡ entered.Repeated → (any-same v ws ≡ true) × (o′ ≡ o)
-  pub new : r ≡ entered.New → (any-same v ws ≡ false) × Index o′ table size (ws ++ (v ∷ []))
-  pub touched : Touched o o′ table (table + size)
+pub record EnteredAs (o o' : List ℕ) (table size : ℕ) (ws : List (List ℕ)) (v : List ℕ) (r : Entered) : Type 0 where
+  pub repeated : r ≡ entered.Repeated → (any_same v ws ≡ true) × (o' ≡ o)
+  pub new : r ≡ entered.New → (any_same v ws ≡ false) × Index o' table size (ws ++ (v ∷ []))
+  pub touched : Touched o o' table (table + size)
 
 -- an index of all answers is to be made, and was made if that is told
-pub record BuiltAs (o o′ : List ℕ) (table size : ℕ) (ws : List (List ℕ)) (r : Bool) : Type 0 where
-  pub yes : r ≡ true → Index o′ table size ws
-  pub touched : Touched o o′ table (table + size)
+pub record BuiltAs (o o' : List ℕ) (table size : ℕ) (ws : List (List ℕ)) (r : Bool) : Type 0 where
+  pub yes : r ≡ true → Index o' table size ws
+  pub touched : Touched o o' table (table + size)
 
 -- answers with their index, which may be made longer
 pub record Fitting (o : List ℕ) (used end index : ℕ) (ws : List (List ℕ)) : Type 0 where
@@ -115,7 +109,7 @@ pub record Fitting (o : List ℕ) (used end index : ℕ) (ws : List (List ℕ)) 
   pub indexed : Indexed o end index ws
 
 -- the index of the same answers, with another length
-pub record FittedAs (o o′ : List ℕ) (used end : ℕ) (ws : List (List ℕ)) (index : ℕ) : Type 0 where
+pub record FittedAs (o o' : List ℕ) (used end : ℕ) (ws : List (List ℕ)) (index : ℕ) : Type 0 where
   pub fits : used + index ≤ end
-  pub indexed : Indexed o′ end index ws
-  pub touched : Touched o o′ used end
+  pub indexed : Indexed o' end index ws
+  pub touched : Touched o o' used end

@@ -1,27 +1,23 @@
 -- The lines of an answer under way: which of them stay, and where they stand in the output.
-use Prim.Native.Nat.{ℕ, _+_, _≤_, _<_}
-use mathlib.Core.Path.{_≡_}
-use mathlib.Core.Bool.{true}
-use mathlib.Core.List.{List, [], _∷_, _++_}
-use lib.ListN.{length}
-use Rattle·rules.specs.Lists.{joined}
-use Rattle·rules.specs.Reading.{choose}
-use Rattle·rules.specs.Syntax.{Atom, Term, var, atom, pair, Sort}
-use Rattle·rules.specs.Written.{part, atom-word, sort-kind}
-use Rattle·rules.specs.Inner.{Spells}
-use Rattle·semantics.specs.Answer.{Line, line-words, stays}
-use Rattle·engine·specs.specs.Walk.{Resolves}
-use Rattle·engine·specs.specs.Names.{NamesGiven}
-use Rattle·engine·specs.specs.Term.{Room, Touched, Laid}
+use Rattle.std.specs.Prelude.{ℕ, ◌+◌, ◌≤◌, ◌<◌, ◌≡◌, true, List, [], ◌∷◌, ◌++◌, length}
+use Rattle.rules.specs.Lists.{joined}
+use Rattle.rules.specs.Reading.{choose}
+use Rattle.rules.specs.Syntax.{Atom, Term, var, atom, pair, Sort}
+use Rattle.rules.specs.Written.{part, atom_word, sort_kind}
+use Rattle.rules.specs.Inner.{Spells}
+use Rattle.semantics.specs.Answer.{Line, line_words, stays}
+use Rattle.engine.specs.Walk.{Resolves}
+use Rattle.engine.specs.Names.{NamesGiven}
+use Rattle.engine.specs.Term.{Room, Touched, Laid}
 
 -- the words of the lines that stay, after one line more
-unfoldable pub add-line : List ℕ → List (List ℕ) → Line → List (List ℕ)
-add-line names done l = choose (stays names done l) (λ _. done ++ (line-words names l ∷ [])) (λ _. done)
+unfoldable pub add_line : List ℕ → List (List ℕ) → Line → List (List ℕ)
+add_line names done l = choose (stays names done l) (λ _. done ++ (line_words names l ∷ [])) (λ _. done)
 
 -- and after several
-unfoldable pub add-lines : List ℕ → List (List ℕ) → List Line → List (List ℕ)
-add-lines names done [] = done
-add-lines names done (l ∷ ls) = add-lines names (add-line names done l) ls
+unfoldable pub add_lines : List ℕ → List (List ℕ) → List Line → List (List ℕ)
+add_lines names done [] = done
+add_lines names done (l ∷ ls) = add_lines names (add_line names done l) ls
 
 -- a line's or an answer's first word counts the rest
 pub record Whole (w : List ℕ) : Type 0 where
@@ -65,7 +61,7 @@ pub record Writing (s out : List ℕ) (first end place : ℕ) : Type 0 where
 
 -- and with these lines more
 abbrev pub Extended : {s out : List ℕ} {first end place : ℕ} → Writing s out first end place → List ℕ → ℕ → List Line → Type 0
-Extended {first = first} {end = end} g out′ place′ ls = AnswerSoFar (g .before) out′ (g .begin) first end place′ (g .head) (add-lines (g .names) (g .lines) ls)
+Extended {first = first} {end = end} g out' place' ls = AnswerSoFar g.before out' g.begin first end place' g.head (add_lines g.names g.lines ls)
 
 -- the variables of a term where they stand, also those that stand there again
 unfoldable pub occurrences : Term → List ℕ
@@ -76,14 +72,14 @@ occurrences (pair s t) = occurrences s ++ occurrences t
 -- an absence or a type whose lines are to be added
 pub record AddsAbsent (ws s out : List ℕ) (tag w first end place : ℕ) : Type 0 where
   pub writing : Writing s out first end place
-  pub tag-of : Atom
-  pub is-tag : tag ≡ atom-word tag-of
+  pub tag_of : Atom
+  pub is_tag : tag ≡ atom_word tag_of
   pub term : Term
   pub here : Resolves ws s w term
 
 pub record AddsTyped (ws s out : List ℕ) (kind w first end place : ℕ) : Type 0 where
   pub writing : Writing s out first end place
   pub sort : Sort
-  pub is-kind : kind ≡ sort-kind sort
+  pub is_kind : kind ≡ sort_kind sort
   pub term : Term
   pub here : Resolves ws s w term

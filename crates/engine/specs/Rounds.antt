@@ -1,139 +1,137 @@
 -- What `round` and `rounds` promise.
-use Prim.Native.Nat.{ℕ, _+_, _-_, _≤_, _<_}
-use mathlib.Core.Path.{_≡_}
-use mathlib.Core.Option.{some}
-use mathlib.Core.List.{List}
-use lib.ListN.{length, take, getElem?}
-use Rattle·rules.specs.Syntax.{Program, Relation}
-use Rattle·rules.specs.Accept.{read, accepted}
-use Rattle·rules.specs.Settings.{scratch-words}
-use Rattle·semantics.specs.Path.{Path, ChoicePoint}
-use Rattle·semantics.specs.Round as definition
-use Rattle·semantics.specs.Run.{usable, page}
-use Rattle·engine·specs.specs.Layout.{most-variables}
-use Rattle·engine·specs.specs.Reference.{at, TaskAt}
-use Rattle·engine·specs.specs.Memory.{TableIn, Nameless}
-use Rattle·engine·specs.specs.Report.{ran, end-says}
-use Rattle·engine·specs.specs.Take.{PathHeld}
-use Rattle·engine·specs.specs.Answer.{Answering, AnswerStands}
-use Rattle·engine·specs.specs.Lines.{Wholes}
-use Rattle·engine·specs.specs.Index.{Indexed}
-use Rattle·engine·specs.specs.declared.report.End.{End}
-use Rattle·engine·specs.specs.declared.report.Report.{Report}
-use Rattle·engine·specs.specs.declared.search.state.State.{State}
-use Rattle·engine·specs.specs.declared.round.AnswerGiven.{AnswerGiven}
-use Rattle·engine·specs.specs.declared.round.AnswerGiven.the-variants.{Ends, Goes}
-use Rattle·engine·specs.specs.declared.round.Filled.{Filled}
-use Rattle·engine·specs.specs.declared.round.Tally.{Tally}
-use Rattle·engine·specs.specs.declared.round.Rounded.{Rounded}
-use Rattle·engine·specs.specs.declared.round.Rounded.the-variants.{Completed, Broken}
+use Rattle.std.specs.Prelude.{ℕ, ◌+◌, ◌-◌, ◌≤◌, ◌<◌, ◌≡◌, List, length, take}
+use Rattle.std.proofs.Math.Option.{some}
+use Rattle.std.proofs.Math.ListN.{get_elem?}
+use Rattle.rules.specs.Syntax.{Program, Relation}
+use Rattle.rules.specs.Accept.{read, accepted}
+use Rattle.rules.specs.Settings.{scratch_words}
+use Rattle.semantics.specs.Path.{Path, ChoicePoint}
+use Rattle.semantics.specs.Round as definition
+use Rattle.semantics.specs.Run.{usable, page}
+use Rattle.engine.specs.Layout.{most_variables}
+use Rattle.engine.specs.Reference.{at, TaskAt}
+use Rattle.engine.specs.Memory.{TableIn, Nameless}
+use Rattle.engine.specs.Report.{ran, end_says}
+use Rattle.engine.specs.Take.{PathHeld}
+use Rattle.engine.specs.Answer.{Answering, AnswerStands}
+use Rattle.engine.specs.Lines.{Wholes}
+use Rattle.engine.specs.Index.{Indexed}
+use Rattle.engine.specs.declared.report.End.{End}
+use Rattle.engine.specs.declared.report.Report.{Report}
+use Rattle.engine.specs.declared.search.state.State.{State}
+use Rattle.engine.specs.declared.round.AnswerGiven.{AnswerGiven}
+use Rattle.engine.specs.declared.round.AnswerGiven.TheVariants.{Ends, Goes}
+use Rattle.engine.specs.declared.round.Filled.{Filled}
+use Rattle.engine.specs.declared.round.Tally.{Tally}
+use Rattle.engine.specs.declared.round.Rounded.{Rounded}
+use Rattle.engine.specs.declared.round.Rounded.TheVariants.{Completed, Broken}
 
 -- The scratch as a round finds and leaves it: the table of relations filled, no variable bound or named.
 pub record Clean (ws s : List ℕ) (P : Program) : Type 0 where
-  pub long : scratch-words ≤ length s
+  pub long : scratch_words ≤ length s
   pub table : TableIn ws s P
-  pub open-all : (x : ℕ) → x < most-variables → at s x ≡ 0
+  pub open_all : (x : ℕ) → x < most_variables → at s x ≡ 0
   pub nameless : Nameless s
 
 -- an accepted program with its query relation, its scratch clean, and a round limit in its bounds
 pub record RunReady (ws s : List ℕ) (P : Program) (query : ℕ) (R : Relation) (limit : ℕ) : Type 0 where
-  pub is-read : read ws ≡ accepted P
-  pub query-is : getElem? P query ≡ some R
+  pub is_read : read ws ≡ accepted P
+  pub query_is : get_elem? P query ≡ some R
   pub clean : Clean ws s P
-  pub few-rounds : limit ≤ 255
+  pub few_rounds : limit ≤ 255
 
 -- the output begins with the answers so far
 pub record FilledAs (output : List ℕ) (f : Filled) (a : definition.Tally) : Type 0 where
-  pub used : f .used ≡ length (page (a .written))
-  pub room : f .used + a .room ≡ usable (length output)
-  pub answers : f .answers ≡ length (a .written)
-  pub page-is : take (f .used) output ≡ page (a .written)
+  pub used : f.used ≡ length (page a.written)
+  pub room : f.used + a.room ≡ usable (length output)
+  pub answers : f.answers ≡ length a.written
+  pub page_is : take f.used output ≡ page a.written
 
 -- and their index is at the end of what can be used of it. A round that is broken off has no more need of it.
 pub record IndexAs (output : List ℕ) (f : Filled) (a : definition.Tally) : Type 0 where
-  pub whole : Wholes (definition.words-of (a .written))
-  pub fits : f .used + f .index ≤ usable (length output)
-  pub indexed : Indexed output (usable (length output)) (f .index) (definition.words-of (a .written))
+  pub whole : Wholes (definition.words_of a.written)
+  pub fits : f.used + f.index ≤ usable (length output)
+  pub indexed : Indexed output (usable (length output)) f.index (definition.words_of a.written)
 
 -- the numbers of a tally are those of the definition's
 pub record TallyAs (output : List ℕ) (t : Tally) (a : definition.Tally) : Type 0 where
-  pub left : t .left ≡ a .left
-  pub filled : FilledAs output (t .filled) a
+  pub left : t.left ≡ a.left
+  pub filled : FilledAs output t.filled a
   -- each answer has taken a step, so that they are few
-  pub counted : t .filled .answers + t .left ≤ 4294967295
+  pub counted : t.filled.answers + t.left ≤ 4294967295
 
 pub record Starting (ws s output : List ℕ) (P : Program) (query : ℕ) (R : Relation) (k : ℕ) (t : Tally) (a : definition.Tally) : Type 0 where
   pub ready : RunReady ws s P query R k
   pub tally : TallyAs output t a
-  pub index : IndexAs output (t .filled) a
+  pub index : IndexAs output t.filled a
 
 -- How a round is completed, and how it is broken off, where the definition's comes to x.
-pub record CompletedAs (ws s′ output′ : List ℕ) (P : Program) (x : definition.Rounded) (t : Tally) (cuts : ℕ) : Type 0 where
+pub record CompletedAs (ws s' output' : List ℕ) (P : Program) (x : definition.Rounded) (t : Tally) (cuts : ℕ) : Type 0 where
   pub last : definition.Tally
-  pub is-round : x ≡ definition.completed last
-  pub clean : Clean ws s′ P
-  pub tally : TallyAs output′ t last
-  pub index : IndexAs output′ (t .filled) last
-  pub cuts-are : cuts ≡ last .cuts
+  pub is_round : x ≡ definition.completed last
+  pub clean : Clean ws s' P
+  pub tally : TallyAs output' t last
+  pub index : IndexAs output' t.filled last
+  pub cuts_are : cuts ≡ last.cuts
 
-pub record BrokenAs (output′ : List ℕ) (x : definition.Rounded) (d : End) (t : Tally) : Type 0 where
+pub record BrokenAs (output' : List ℕ) (x : definition.Rounded) (d : End) (t : Tally) : Type 0 where
   pub end : definition.End
   pub last : definition.Tally
-  pub is-round : x ≡ definition.broken end last
-  pub tally : TallyAs output′ t last
-  pub is-end : end-says d ≡ ran end
+  pub is_round : x ≡ definition.broken end last
+  pub tally : TallyAs output' t last
+  pub is_end : end_says d ≡ ran end
 
 unfoldable pub RoundedAs : List ℕ → List ℕ → List ℕ → Program → definition.Rounded → Rounded → Type 0
-RoundedAs ws s′ output′ P x (Completed t cuts) = CompletedAs ws s′ output′ P x t cuts
-RoundedAs ws s′ output′ P x (Broken d t) = BrokenAs output′ x d t
+RoundedAs ws s' output' P x (Completed t cuts) = CompletedAs ws s' output' P x t cuts
+RoundedAs ws s' output' P x (Broken d t) = BrokenAs output' x d t
 
 -- An answer of these words was written up to `next`, where the output was o before. One answer more is a number.
 pub record Listing (o output : List ℕ) (f : Filled) (next : ℕ) (a : definition.Tally) (ws : List ℕ) : Type 0 where
   pub before : FilledAs o f a
   pub index : IndexAs o f a
-  pub same-length : length output ≡ length o
-  pub kept : take (f .used) output ≡ take (f .used) o
-  pub stands : AnswerStands o output (f .used) ws next
-  pub few : f .answers < 4294967295
+  pub same_length : length output ≡ length o
+  pub kept : take f.used output ≡ take f.used o
+  pub stands : AnswerStands o output f.used ws next
+  pub few : f.answers < 4294967295
 
 -- A path at its end gives its answer. So many branches were cut, and one answer more is a number.
 pub record Giving (P : Program) (ws s output : List ℕ) (st : State) (p : Path) (cs : List ChoicePoint) (params : ℕ) (f : Filled) (cuts : ℕ) (a : definition.Tally) : Type 0 where
-  pub answering : Answering P ws s output st p cs params (f .used)
-  pub tally : TallyAs output (record { left = st .steps; filled = f }) a
+  pub answering : Answering P ws s output st p cs params f.used
+  pub tally : TallyAs output (record { left = st.steps; filled = f }) a
   pub index : IndexAs output f a
-  pub cuts-are : a .cuts ≡ cuts
-  pub fits : f .answers + st .steps < 4294967295
+  pub cuts_are : a.cuts ≡ cuts
+  pub fits : f.answers + st.steps < 4294967295
 
 -- it is listed, or left out as a repeat, and the next goal is to be taken where the newest choice point leads
-pub record GoesAs (P : Program) (ws s′ output′ : List ℕ) (st : State) (cuts : ℕ) (x : definition.Next) (next : State) (goal : ℕ) (f : Filled) : Type 0 where
+pub record GoesAs (P : Program) (ws s' output' : List ℕ) (st : State) (cuts : ℕ) (x : definition.Next) (next : State) (goal : ℕ) (f : Filled) : Type 0 where
   pub state : definition.State
-  pub is-next : x ≡ definition.going state
-  pub held : PathHeld P ws s′ next (state .path) (state .choices)
-  pub task-at : TaskAt ws goal (state .task)
-  pub tally : TallyAs output′ (record { left = next .steps; filled = f }) (state .tally)
-  pub index : IndexAs output′ f (state .tally)
-  pub cuts-are : state .tally .cuts ≡ cuts
-  pub fewer : next .steps ≤ st .steps
+  pub is_next : x ≡ definition.going state
+  pub held : PathHeld P ws s' next state.path state.choices
+  pub task_at : TaskAt ws goal state.task
+  pub tally : TallyAs output' (record { left = next.steps; filled = f }) state.tally
+  pub index : IndexAs output' f state.tally
+  pub cuts_are : state.tally.cuts ≡ cuts
+  pub fewer : next.steps ≤ st.steps
 
 unfoldable pub AnswerGivenAs : Program → List ℕ → List ℕ → List ℕ → State → ℕ → definition.Next → AnswerGiven → Type 0
-AnswerGivenAs P ws s′ output′ st cuts x (Ends r) = (y : definition.Rounded) × (x ≡ definition.over y) × RoundedAs ws s′ output′ P y r
-AnswerGivenAs P ws s′ output′ st cuts x (Goes next goal f) = GoesAs P ws s′ output′ st cuts x next goal f
+AnswerGivenAs P ws s' output' st cuts x (Ends r) = (y : definition.Rounded) × (x ≡ definition.over y) × RoundedAs ws s' output' P y r
+AnswerGivenAs P ws s' output' st cuts x (Goes next goal f) = GoesAs P ws s' output' st cuts x next goal f
 
 -- a report is that of a result, and the output begins with its answers
-pub record ResultAs (output′ : List ℕ) (x : definition.Result) (r : Report) : Type 0 where
-  pub is-end : end-says (r .end) ≡ ran (x .end)
-  pub is-round : r .round ≡ x .round
-  pub is-steps : r .steps ≡ x .steps
-  pub is-answers : r .answers ≡ length (x .answers)
-  pub is-words : r .words ≡ length (page (x .answers))
-  pub is-cut : r .cut ≡ x .cut
-  pub page-is : take (r .words) output′ ≡ page (x .answers)
+pub record ResultAs (output' : List ℕ) (x : definition.Result) (r : Report) : Type 0 where
+  pub is_end : end_says r.end ≡ ran x.end
+  pub is_round : r.round ≡ x.round
+  pub is_steps : r.steps ≡ x.steps
+  pub is_answers : r.answers ≡ length x.answers
+  pub is_words : r.words ≡ length (page x.answers)
+  pub is_cut : r.cut ≡ x.cut
+  pub page_is : take r.words output' ≡ page x.answers
 
 -- what `report` makes of an end, a tally and the cuts of the last completed round
 pub record Reported (end : End) (round steps : ℕ) (t : Tally) (cut : ℕ) (r : Report) : Type 0 where
-  pub is-end : r .end ≡ end
-  pub is-round : r .round ≡ round
-  pub is-steps : r .steps ≡ steps - t .left
-  pub is-answers : r .answers ≡ t .filled .answers
-  pub is-words : r .words ≡ t .filled .used
-  pub is-cut : r .cut ≡ cut
+  pub is_end : r.end ≡ end
+  pub is_round : r.round ≡ round
+  pub is_steps : r.steps ≡ steps - t.left
+  pub is_answers : r.answers ≡ t.filled.answers
+  pub is_words : r.words ≡ t.filled.used
+  pub is_cut : r.cut ≡ cut

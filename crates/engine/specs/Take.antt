@@ -1,95 +1,92 @@
 -- What the functions that take a goal promise: the code's state and answers, and what they say of a path.
-use Prim.Native.Nat.{ℕ, _+_, _-_, _≤_, _<_}
-use mathlib.Core.Path.{_≡_}
-use mathlib.Core.List.{List, []}
-use lib.ListN.{length}
-use Rattle·rules.specs.Syntax.{Relation, Program}
-use Rattle·rules.specs.Reading.{after}
-use Rattle·semantics.specs.Steps as steps
-use Rattle·semantics.specs.Steps.{Outcome, done, stop}
-use Rattle·semantics.specs.Path.{Task, Path, ChoicePoint, Taken, leaves, cut, goes}
-use Rattle·semantics.specs.Round.{Tally, Next, going, over, completed}
-use Rattle·semantics.specs.Invariant.{Sound, ProgramIn, TaskIn}
-use Rattle·engine·specs.specs.Reference.{GoalAt, TaskAt}
-use Rattle·engine·specs.specs.Memory.{Registers, saved, Stored}
-use Rattle·engine·specs.specs.Report.{bound-of}
-use Rattle·rules.specs.Settings.{most-words}
-use Rattle·engine·specs.specs.declared.search.state.State.{State}
-use Rattle·engine·specs.specs.declared.report.Bound.the-variants.{Waiting}
-use Rattle·engine·specs.specs.declared.search.state.Stop.{Stop}
-use Rattle·engine·specs.specs.declared.search.state.Stop.the-variants.{Steps, Path as PathLimit}
-use Rattle·engine·specs.specs.declared.search.state.Way.{Way}
-use Rattle·engine·specs.specs.declared.search.state.Way.the-variants.{Goes, Leaves, Cut, Stops}
-use Rattle·engine·specs.specs.declared.search.state.Took.{Took}
-use Rattle·engine·specs.specs.declared.terms.review.Reviewed.{Reviewed}
-use Rattle·engine·specs.specs.declared.terms.review.Reviewed.the-variants as reviewed
-use Rattle·engine·specs.specs.declared.search.state.Resumed.{Resumed}
-use Rattle·engine·specs.specs.declared.search.state.Resumed.the-variants.{Over, Goal}
+use Rattle.std.specs.Prelude.{ℕ, ◌+◌, ◌-◌, ◌≤◌, ◌<◌, ◌≡◌, List, [], length}
+use Rattle.rules.specs.Syntax.{Relation, Program}
+use Rattle.rules.specs.Reading.{after}
+use Rattle.semantics.specs.Steps as steps
+use Rattle.semantics.specs.Steps.{Outcome, done, stop}
+use Rattle.semantics.specs.Path.{Task, Path, ChoicePoint, Taken, leaves, cut, goes}
+use Rattle.semantics.specs.Round.{Tally, Next, going, over, completed}
+use Rattle.semantics.specs.Invariant.{Sound, ProgramIn, TaskIn}
+use Rattle.engine.specs.Reference.{GoalAt, TaskAt}
+use Rattle.engine.specs.Memory.{Registers, saved, Stored}
+use Rattle.engine.specs.Report.{bound_of}
+use Rattle.rules.specs.Settings.{most_words}
+use Rattle.engine.specs.declared.search.state.State.{State}
+use Rattle.engine.specs.declared.report.Bound.TheVariants.{Waiting}
+use Rattle.engine.specs.declared.search.state.Stop.{Stop}
+use Rattle.engine.specs.declared.search.state.Stop.TheVariants.{Steps, Path as PathLimit}
+use Rattle.engine.specs.declared.search.state.Way.{Way}
+use Rattle.engine.specs.declared.search.state.Way.TheVariants.{Goes, Leaves, Cut, Stops}
+use Rattle.engine.specs.declared.search.state.Took.{Took}
+use Rattle.engine.specs.declared.terms.review.Reviewed.{Reviewed}
+use Rattle.engine.specs.declared.terms.review.Reviewed.TheVariants as reviewed
+use Rattle.engine.specs.declared.search.state.Resumed.{Resumed}
+use Rattle.engine.specs.declared.search.state.Resumed.TheVariants.{Over, Goal}
 
 -- the registers of a state, beside which it has the number of choice points and the steps left
 abbrev pub registers : State → Registers
-registers st = record { head = st .head; trail = st .trail; variables = st .variables; goals = st .goals; constraints = st .constraints; calls = st .calls }
+registers st = record { head = st.head; trail = st.trail; variables = st.variables; goals = st.goals; constraints = st.constraints; calls = st.calls }
 
 -- the scratch and the state hold a path and its choice points
 abbrev pub PathHeld : Program → List ℕ → List ℕ → State → Path → List ChoicePoint → Type 0
-PathHeld P ws s st p cs = Stored P ws s (registers st) (st .choices) p cs
+PathHeld P ws s st p cs = Stored P ws s (registers st) st.choices p cs
 
 -- a goal is to be taken, by its reference; its own step is counted, so that one more step than those left is a number
 pub record Taking (P : Program) (ws s : List ℕ) (st : State) (w : ℕ) (p : Path) (cs : List ChoicePoint) (task : Task) : Type 0 where
   pub stored : PathHeld P ws s st p cs
-  pub task-at : TaskAt ws w task
-  pub step-taken : st .steps < 4294967295
+  pub task_at : TaskAt ws w task
+  pub step_taken : st.steps < 4294967295
 
 -- and the path is in order: its bindings are acyclic and of variables made, its constraints hold with them, and so are the goal's variables
 pub record GoalReady (P : Program) (ws s : List ℕ) (st : State) (w : ℕ) (p : Path) (cs : List ChoicePoint) (task : Task) : Type 0 where
   pub taking : Taking P ws s st w p cs task
-  pub short : length ws ≤ most-words
-  pub program-in : ProgramIn P
-  pub sound : Sound (p .bindings) (p .kept) (p .made)
-  pub task-in : TaskIn P (p .made) task
+  pub short : length ws ≤ most_words
+  pub program_in : ProgramIn P
+  pub sound : Sound p.bindings p.kept p.made
+  pub task_in : TaskIn P p.made task
 
 -- the same before the goal's own step
 pub record Due (P : Program) (ws s : List ℕ) (st : State) (w : ℕ) (p : Path) (cs : List ChoicePoint) (task : Task) : Type 0 where
   pub stored : PathHeld P ws s st p cs
-  pub task-at : TaskAt ws w task
-  pub short : length ws ≤ most-words
-  pub program-in : ProgramIn P
-  pub sound : Sound (p .bindings) (p .kept) (p .made)
-  pub task-in : TaskIn P (p .made) task
+  pub task_at : TaskAt ws w task
+  pub short : length ws ≤ most_words
+  pub program_in : ProgramIn P
+  pub sound : Sound p.bindings p.kept p.made
+  pub task_in : TaskIn P p.made task
 
 -- what each case of the code's enum says
-abbrev pub stop-of : Stop → steps.Stop
-stop-of Steps = steps.no-steps
-stop-of (PathLimit b) = steps.at-bound (bound-of b)
+abbrev pub stop_of : Stop → steps.Stop
+stop_of Steps = steps.no_steps
+stop_of (PathLimit b) = steps.at_bound (bound_of b)
 
 -- what each case says, with the path and the choice points that go on, and the steps left
-unfoldable pub took-says : Path → List ChoicePoint → Way → ℕ → Outcome Taken
-took-says p cs Goes l = done (goes p cs) l
-took-says p cs Leaves l = done leaves l
-took-says p cs Cut l = done cut l
-took-says p cs (Stops why m) l = stop (stop-of why) m
+unfoldable pub took_says : Path → List ChoicePoint → Way → ℕ → Outcome Taken
+took_says p cs Goes l = done (goes p cs) l
+took_says p cs Leaves l = done leaves l
+took_says p cs Cut l = done cut l
+took_says p cs (Stops why m) l = stop (stop_of why) m
 
 -- What the state holds then, when cs were the choice points before: where the path is left or cut it is some path, because one that fails in the middle has more bindings than the definition's. After a stop it is not used.
 unfoldable pub TookHolds : Program → List ℕ → List ℕ → List ChoicePoint → State → Path → List ChoicePoint → Way → Type 0
-TookHolds P ws s cs st p cs′ Goes = PathHeld P ws s st p cs′
-TookHolds P ws s cs st p cs′ Leaves = PathHeld P ws s st p cs
-TookHolds P ws s cs st p cs′ Cut = PathHeld P ws s st p cs
-TookHolds P ws s cs st p cs′ (Stops why m) = Unit {0}
+TookHolds P ws s cs st p cs' Goes = PathHeld P ws s st p cs'
+TookHolds P ws s cs st p cs' Leaves = PathHeld P ws s st p cs
+TookHolds P ws s cs st p cs' Cut = PathHeld P ws s st p cs
+TookHolds P ws s cs st p cs' (Stops why m) = Unit {0}
 
 -- a goal has been taken, with this state then
 pub record TookAs (P : Program) (ws s : List ℕ) (cs : List ChoicePoint) (o : Outcome Taken) (y : Way) (st : State) : Type 0 where
   pub path : Path
   pub choices : List ChoicePoint
-  pub says : o ≡ took-says path choices y (st .steps)
+  pub says : o ≡ took_says path choices y st.steps
   pub held : TookHolds P ws s cs st path choices y
 
 -- one goal more waits, in the next cell
-abbrev pub one-goal-more : State → State
-one-goal-more st = record { head = st .goals + 1; trail = st .trail; variables = st .variables; goals = st .goals + 1; constraints = st .constraints; calls = st .calls; choices = st .choices; steps = st .steps }
+abbrev pub one_goal_more : State → State
+one_goal_more st = record { head = st.goals + 1; trail = st.trail; variables = st.variables; goals = st.goals + 1; constraints = st.constraints; calls = st.calls; choices = st.choices; steps = st.steps }
 
 -- one choice point more
-abbrev pub one-choice-more : State → State
-one-choice-more st = record { head = st .head; trail = st .trail; variables = st .variables; goals = st .goals; constraints = st .constraints; calls = st .calls; choices = st .choices + 1; steps = st .steps }
+abbrev pub one_choice_more : State → State
+one_choice_more st = record { head = st.head; trail = st.trail; variables = st.variables; goals = st.goals; constraints = st.constraints; calls = st.calls; choices = st.choices + 1; steps = st.steps }
 
 -- Backtracking, with a tally t: the round is over ..
 pub record OverAs (P : Program) (ws s : List ℕ) (st : State) (t : Tally) (x : Next) : Type 0 where
@@ -103,9 +100,9 @@ pub record ResumedAs (P : Program) (ws s : List ℕ) (st : State) (t : Tally) (x
   pub path : Path
   pub choices : List ChoicePoint
   pub says : x ≡ going (record { task = task; path = path; choices = choices; tally = t })
-  pub task-at : TaskAt ws w task
+  pub task_at : TaskAt ws w task
   pub held : PathHeld P ws s next path choices
-  pub left-is : next .steps ≡ st .steps
+  pub left_is : next.steps ≡ st.steps
 
 unfoldable pub BacktrackAs : Program → List ℕ → List ℕ → State → Tally → Next → Resumed → Type 0
 BacktrackAs P ws s st t x Over = OverAs P ws s st t x
@@ -114,28 +111,28 @@ BacktrackAs P ws s st t x (Goal next w) = ResumedAs P ws s st t x next w
 -- the state of the newest choice point, with one goal more put to wait, and so many choice points
 abbrev pub resumed : List ℕ → State → ℕ → State
 resumed s st n =
-    let r : Registers = saved s (st .choices - 1) in
-    record { head = r .head; trail = r .trail; variables = r .variables; goals = r .goals + 1; constraints = r .constraints; calls = r .calls; choices = n; steps = st .steps }
+    let r : Registers = saved s (st.choices - 1) in
+    record { head = r.head; trail = r.trail; variables = r.variables; goals = r.goals + 1; constraints = r.constraints; calls = r.calls; choices = n; steps = st.steps }
 
 -- a relation as the table has it
 pub record RelationIs (ws : List ℕ) (params vars body : ℕ) (R : Relation) : Type 0 where
-  pub params-is : params ≡ R .params
-  pub vars-is : vars ≡ R .vars
-  pub body-at : GoalAt ws body (R .body)
+  pub params_is : params ≡ R.params
+  pub vars_is : vars ≡ R.vars
+  pub body_at : GoalAt ws body R.body
   pub inside : after ws body ≤ length ws
-  pub small : after ws body ≤ most-words
+  pub small : after ws body ≤ most_words
 
 -- so many entries on the trail, so many constraints, so many steps left
-abbrev pub with-counts : State → ℕ → ℕ → ℕ → State
-with-counts st n k l = record { head = st .head; trail = n; variables = st .variables; goals = st .goals; constraints = k; calls = st .calls; choices = st .choices; steps = l }
+abbrev pub with_counts : State → ℕ → ℕ → ℕ → State
+with_counts st n k l = record { head = st.head; trail = n; variables = st.variables; goals = st.goals; constraints = k; calls = st.calls; choices = st.choices; steps = l }
 
 -- the case and the state beside it
-abbrev pub took-as : Way → State → Took
-took-as y st = record { way = y; state = st }
+abbrev pub took_as : Way → State → Took
+took_as y st = record { way = y; state = st }
 
 -- what a review comes to for its path
-abbrev pub review-took : State → Reviewed → Took
-review-took st (reviewed.Fails l) = took-as Leaves (with-counts st (st .trail) (st .constraints) l)
-review-took st (reviewed.Holds l) = took-as Goes (with-counts st (st .trail) (st .constraints) l)
-review-took st reviewed.StepsOut = took-as (Stops Steps 0) st
-review-took st (reviewed.WaitingOut l) = took-as (Stops (PathLimit Waiting) l) st
+abbrev pub review_took : State → Reviewed → Took
+review_took st (reviewed.Fails l) = took_as Leaves (with_counts st st.trail st.constraints l)
+review_took st (reviewed.Holds l) = took_as Goes (with_counts st st.trail st.constraints l)
+review_took st reviewed.StepsOut = took_as (Stops Steps 0) st
+review_took st (reviewed.WaitingOut l) = took_as (Stops (PathLimit Waiting) l) st

@@ -1,32 +1,28 @@
 -- What unification promises.
-use Prim.Native.Nat.{ℕ, suc, _+_, _-_, _≤_, _<_}
-use mathlib.Core.Path.{_≡_}
-use mathlib.Core.Option.{Option, none, some}
-use mathlib.Core.List.{List, _∷_, _++_}
-use lib.Dec.{ltb}
-use lib.ListN.{length}
-use Rattle·rules.specs.Reading.{choose}
-use Rattle·rules.specs.Syntax.{Term}
-use Rattle·semantics.specs.Substitution.{Substitution}
-use Rattle·semantics.specs.Steps.{waiting, no-steps, at-bound, Outcome, done, stop}
-use Rattle·semantics.specs.Unify.{Looked, fails, agrees, binds, parts, Pairs, unify-next, unify}
-use Rattle·engine·specs.specs.Layout.{most-variables, most-pairs, names-area}
-use Rattle·engine·specs.specs.Reference.{at, Stands}
-use Rattle·engine·specs.specs.Walk.{Binds}
-use Rattle·engine·specs.specs.Trail.{Apart}
-use Rattle·engine·specs.specs.declared.terms.unify.Looked as code
-use Rattle·engine·specs.specs.declared.terms.unify.Looked.the-variants as looked
-use Rattle·engine·specs.specs.declared.terms.unify.PairUnified.{PairUnified}
-use Rattle·engine·specs.specs.declared.terms.unify.PairUnified.the-variants as pair
-use Rattle·engine·specs.specs.declared.terms.unify.Unified.{Unified}
-use Rattle·engine·specs.specs.declared.terms.unify.Unified.the-variants as unified
+use Rattle.std.specs.Prelude.{ℕ, suc, ◌-◌, ◌≤◌, ◌<◌, ◌≡◌, List, ◌∷◌, ◌++◌, ltb, length}
+use Rattle.std.proofs.Math.Option.{Option, none, some}
+use Rattle.rules.specs.Reading.{choose}
+use Rattle.rules.specs.Syntax.{Term}
+use Rattle.semantics.specs.Substitution.{Substitution}
+use Rattle.semantics.specs.Steps.{waiting, no_steps, at_bound, Outcome, done, stop}
+use Rattle.semantics.specs.Unify.{Looked, fails, agrees, binds, parts, Pairs, unify_next, unify}
+use Rattle.engine.specs.Layout.{most_variables, most_pairs, names_area}
+use Rattle.engine.specs.Reference.{at, Stands}
+use Rattle.engine.specs.Walk.{Binds}
+use Rattle.engine.specs.Trail.{Apart}
+use Rattle.engine.specs.declared.terms.unify.Looked as code
+use Rattle.engine.specs.declared.terms.unify.Looked.TheVariants as looked
+use Rattle.engine.specs.declared.terms.unify.PairUnified.{PairUnified}
+use Rattle.engine.specs.declared.terms.unify.PairUnified.TheVariants as pair
+use Rattle.engine.specs.declared.terms.unify.Unified.{Unified}
+use Rattle.engine.specs.declared.terms.unify.Unified.TheVariants as unified
 
 -- `look`: what looking at two followed terms comes to
 
 pub record BindsTo (ws : List ℕ) (o : Looked) (x w : ℕ) : Type 0 where
   pub term : Term
   pub is : o ≡ binds x term
-  pub low : x < most-variables
+  pub low : x < most_variables
   pub stands : Stands ws w term
 
 pub record PartsTo (ws : List ℕ) (o : Looked) (a b c d : ℕ) : Type 0 where
@@ -35,10 +31,10 @@ pub record PartsTo (ws : List ℕ) (o : Looked) (a b c d : ℕ) : Type 0 where
   pub third : Term
   pub fourth : Term
   pub is : o ≡ parts first second third fourth
-  pub stands-first : Stands ws a first
-  pub stands-second : Stands ws b second
-  pub stands-third : Stands ws c third
-  pub stands-fourth : Stands ws d fourth
+  pub stands_first : Stands ws a first
+  pub stands_second : Stands ws b second
+  pub stands_third : Stands ws c third
+  pub stands_fourth : Stands ws d fourth
 
 unfoldable pub LookedAs : List ℕ → Looked → code.Looked → Type 0
 LookedAs ws o looked.Fails = o ≡ fails
@@ -53,55 +49,55 @@ pub record TwoTerms (ws s : List ℕ) (bs : Substitution) (a : ℕ) (u : Term) (
   pub held : Binds ws s bs
   pub first : Stands ws a u
   pub second : Stands ws b v
-  pub trail-is : trail ≡ length bs
+  pub trail_is : trail ≡ length bs
 
-pub record PairGoes (ws s s′ : List ℕ) (bs : Substitution) (u v : Term) (steps n left : ℕ) : Type 0 where
+pub record PairGoes (ws s s' : List ℕ) (bs : Substitution) (u v : Term) (steps n left : ℕ) : Type 0 where
   pub next : Substitution
   pub new : Substitution
   pub grows : next ≡ new ++ bs
-  pub held : Binds ws s′ next
-  pub trail-is : n ≡ length next
-  pub long : length s′ ≡ length s
-  pub above : (i : ℕ) → names-area ≤ i → at s′ i ≡ at s i
+  pub held : Binds ws s' next
+  pub trail_is : n ≡ length next
+  pub long : length s' ≡ length s
+  pub above : (i : ℕ) → names_area ≤ i → at s' i ≡ at s i
   pub fewer : left < steps
-  pub same : (fuel : ℕ) (vs : Pairs) → unify (suc fuel) bs vs u v steps ≡ unify-next vs next left (λ bs′ us x y l. unify fuel bs′ us x y l)
+  pub same : (fuel : ℕ) (vs : Pairs) → unify (suc fuel) bs vs u v steps ≡ unify_next vs next left (λ bs' us x y l. unify fuel bs' us x y l)
 
-pub record PairParts (ws s s′ : List ℕ) (bs : Substitution) (u v : Term) (steps a b c d : ℕ) : Type 0 where
-  pub untouched : s′ ≡ s
+pub record PairParts (ws s s' : List ℕ) (bs : Substitution) (u v : Term) (steps a b c d : ℕ) : Type 0 where
+  pub untouched : s' ≡ s
   pub first : Term
   pub second : Term
   pub third : Term
   pub fourth : Term
-  pub stands-first : Stands ws a first
-  pub stands-second : Stands ws b second
-  pub stands-third : Stands ws c third
-  pub stands-fourth : Stands ws d fourth
-  pub same : (fuel : ℕ) (vs : Pairs) → unify (suc fuel) bs vs u v steps ≡ choose (ltb (length vs) most-pairs) (λ _. unify fuel bs ((second, fourth) ∷ vs) first third (steps - 1)) (λ _. stop (at-bound waiting) steps)
+  pub stands_first : Stands ws a first
+  pub stands_second : Stands ws b second
+  pub stands_third : Stands ws c third
+  pub stands_fourth : Stands ws d fourth
+  pub same : (fuel : ℕ) (vs : Pairs) → unify (suc fuel) bs vs u v steps ≡ choose (ltb (length vs) most_pairs) (λ _. unify fuel bs ((second, fourth) ∷ vs) first third (steps - 1)) (λ _. stop (at_bound waiting) steps)
 
-pub record PairEnds (s s′ : List ℕ) (bs : Substitution) (u v : Term) (steps : ℕ) (o : Outcome (Option Substitution)) : Type 0 where
-  pub untouched : s′ ≡ s
+pub record PairEnds (s s' : List ℕ) (bs : Substitution) (u v : Term) (steps : ℕ) (o : Outcome (Option Substitution)) : Type 0 where
+  pub untouched : s' ≡ s
   pub same : (fuel : ℕ) (vs : Pairs) → unify (suc fuel) bs vs u v steps ≡ o
 
 unfoldable pub PairUnifiedAs : List ℕ → List ℕ → List ℕ → Substitution → Term → Term → ℕ → PairUnified → Type 0
-PairUnifiedAs ws s s′ bs u v steps (pair.Fails left) = PairEnds s s′ bs u v steps (done none left)
-PairUnifiedAs ws s s′ bs u v steps (pair.Goes n left) = PairGoes ws s s′ bs u v steps n left
-PairUnifiedAs ws s s′ bs u v steps (pair.Parts a b c d) = PairParts ws s s′ bs u v steps a b c d
-PairUnifiedAs ws s s′ bs u v steps pair.StepsOut = PairEnds s s′ bs u v steps (stop no-steps 0)
-PairUnifiedAs ws s s′ bs u v steps (pair.WaitingOut left) = PairEnds s s′ bs u v steps (stop (at-bound waiting) left)
+PairUnifiedAs ws s s' bs u v steps (pair.Fails left) = PairEnds s s' bs u v steps (done none left)
+PairUnifiedAs ws s s' bs u v steps (pair.Goes n left) = PairGoes ws s s' bs u v steps n left
+PairUnifiedAs ws s s' bs u v steps (pair.Parts a b c d) = PairParts ws s s' bs u v steps a b c d
+PairUnifiedAs ws s s' bs u v steps pair.StepsOut = PairEnds s s' bs u v steps (stop no_steps 0)
+PairUnifiedAs ws s s' bs u v steps (pair.WaitingOut left) = PairEnds s s' bs u v steps (stop (at_bound waiting) left)
 
 -- `unify`
 
 -- the scratch afterwards, with so many entries on the trail: the bindings have grown, also where unification failed or stopped
-pub record Went (ws s : List ℕ) (bs : Substitution) (s′ : List ℕ) (n : ℕ) : Type 0 where
+pub record Went (ws s : List ℕ) (bs : Substitution) (s' : List ℕ) (n : ℕ) : Type 0 where
   pub next : Substitution
   pub new : Substitution
   pub grows : next ≡ new ++ bs
-  pub held : Binds ws s′ next
-  pub trail-is : n ≡ length next
-  pub apart : Apart s s′
+  pub held : Binds ws s' next
+  pub trail_is : n ≡ length next
+  pub apart : Apart s s'
 
 unfoldable pub UnifiedAs : List ℕ → List ℕ → List ℕ → Substitution → Outcome (Option Substitution) → Unified → Type 0
-UnifiedAs ws s s′ bs o (unified.Joined n left) = (w : Went ws s bs s′ n) × (o ≡ done (some (w .next)) left)
-UnifiedAs ws s s′ bs o (unified.Failed n left) = (w : Went ws s bs s′ n) × (o ≡ done none left)
-UnifiedAs ws s s′ bs o (unified.StepsOut n) = (w : Went ws s bs s′ n) × (o ≡ stop no-steps 0)
-UnifiedAs ws s s′ bs o (unified.WaitingOut n left) = (w : Went ws s bs s′ n) × (o ≡ stop (at-bound waiting) left)
+UnifiedAs ws s s' bs o (unified.Joined n left) = (w : Went ws s bs s' n) × (o ≡ done (some w.next) left)
+UnifiedAs ws s s' bs o (unified.Failed n left) = (w : Went ws s bs s' n) × (o ≡ done none left)
+UnifiedAs ws s s' bs o (unified.StepsOut n) = (w : Went ws s bs s' n) × (o ≡ stop no_steps 0)
+UnifiedAs ws s s' bs o (unified.WaitingOut n left) = (w : Went ws s bs s' n) × (o ≡ stop (at_bound waiting) left)

@@ -1,38 +1,35 @@
 -- What `part_at`, `walk` and `follow` promise.
-use Prim.Native.Nat.{ℕ, suc, _≤_, _<_}
-use mathlib.Core.Path.{_≡_}
-use mathlib.Core.List.{List}
-use mathlib.Core.Option.{Option, none, some}
-use lib.ListN.{length}
-use Rattle·rules.specs.Reading.{kind-at, payload-at}
-use Rattle·rules.specs.Syntax.{Term, Atom, var, atom, pair}
-use Rattle·semantics.specs.Substitution.{Substitution, walk, resolve}
-use Rattle·semantics.specs.Unify.{way-end}
-use Rattle·semantics.specs.Invariant.{Good}
-use Rattle·engine·specs.specs.Layout.{most-variables}
-use Rattle·engine·specs.specs.Reference.{at, pos-of, Stands}
-use Rattle·engine·specs.specs.Memory.{BindingsIn}
-use Rattle·engine·specs.specs.declared.terms.walk.Walked.{Walked}
-use Rattle·rules.specs.Written.{atom-word}
-use Rattle·rules.specs.Settings.{most-words, scratch-words}
-use Rattle·engine·specs.specs.declared.terms.walk.Shape.{Shape}
-use Rattle·engine·specs.specs.declared.terms.walk.Shape.the-variants.{Open, Atom as Leaf, Pair}
+use Rattle.std.specs.Prelude.{ℕ, suc, ◌≤◌, ◌<◌, ◌≡◌, List, length}
+use Rattle.std.proofs.Math.Option.{Option, none, some}
+use Rattle.rules.specs.Reading.{kind_at, payload_at}
+use Rattle.rules.specs.Syntax.{Term, Atom, var, atom, pair}
+use Rattle.semantics.specs.Substitution.{Substitution, walk, resolve}
+use Rattle.semantics.specs.Unify.{way_end}
+use Rattle.semantics.specs.Invariant.{Good}
+use Rattle.engine.specs.Layout.{most_variables}
+use Rattle.engine.specs.Reference.{at, pos_of, Stands}
+use Rattle.engine.specs.Memory.{BindingsIn}
+use Rattle.engine.specs.declared.terms.walk.Walked.{Walked}
+use Rattle.rules.specs.Written.{atom_word}
+use Rattle.rules.specs.Settings.{most_words, scratch_words}
+use Rattle.engine.specs.declared.terms.walk.Shape.{Shape}
+use Rattle.engine.specs.declared.terms.walk.Shape.TheVariants.{Open, Atom as Leaf, Pair}
 
 -- the part at a reference: its first word, with kind and payload
 pub record PartRead (ws : List ℕ) (w bits k p : ℕ) : Type 0 where
-  pub is-bits : bits ≡ at ws (pos-of w)
-  pub is-kind : k ≡ kind-at ws (pos-of w)
-  pub is-payload : p ≡ payload-at ws (pos-of w)
+  pub is_bits : bits ≡ at ws (pos_of w)
+  pub is_kind : k ≡ kind_at ws (pos_of w)
+  pub is_payload : p ≡ payload_at ws (pos_of w)
 
 -- a followed term has the word at its reference
 abbrev pub IsNode : List ℕ → Walked → Type 0
-IsNode ws n = PartRead ws (n .at) (n .bits) (n .kind) (n .payload)
+IsNode ws n = PartRead ws n.at n.bits n.kind n.payload
 
 -- the scratch holds a path's bindings, and they are acyclic
 pub record Binds (ws s : List ℕ) (bs : Substitution) : Type 0 where
-  pub short : length ws ≤ most-words
-  pub long : scratch-words ≤ length s
-  pub bindings-in : BindingsIn ws s bs
+  pub short : length ws ≤ most_words
+  pub long : scratch_words ≤ length s
+  pub bindings_in : BindingsIn ws s bs
   pub good : Good bs
 
 -- and a reference stands for a term
@@ -41,15 +38,15 @@ pub record Follows (ws s : List ℕ) (bs : Substitution) (w : ℕ) (t : Term) : 
   pub stands : Stands ws w t
 
 -- the last variable on a way, plus 1; 0 where it leads through none
-abbrev pub through-word : Option ℕ → ℕ
-through-word none = 0
-through-word (some x) = suc x
+abbrev pub through_word : Option ℕ → ℕ
+through_word none = 0
+through_word (some x) = suc x
 
 -- what `walk` gives: the word at a reference, which stands for the term that the definition walks to; and of a way to a pair the last variable
 pub record WalkedTo (ws s : List ℕ) (w : ℕ) (r : Walked) : Type 0 where
   pub node : IsNode ws r
-  pub stands : (bs : Substitution) (t : Term) → Follows ws s bs w t → Stands ws (r .at) (walk bs t)
-  pub led : (bs : Substitution) (t : Term) → Follows ws s bs w t → (a b : Term) → walk bs t ≡ pair a b → r .through ≡ through-word (way-end bs t)
+  pub stands : (bs : Substitution) (t : Term) → Follows ws s bs w t → Stands ws r.at (walk bs t)
+  pub led : (bs : Substitution) (t : Term) → Follows ws s bs w t → (a b : Term) → walk bs t ≡ pair a b → r.through ≡ through_word (way_end bs t)
 
 -- the reference, with bindings followed, is the term
 pub record Resolves (ws s : List ℕ) (w : ℕ) (r : Term) : Type 0 where
@@ -60,6 +57,6 @@ pub record Resolves (ws s : List ℕ) (w : ℕ) (r : Term) : Type 0 where
 
 -- what each case says
 unfoldable pub Shaped : List ℕ → List ℕ → Shape → Term → Type 0
-Shaped ws s (Open x) r = (r ≡ var x) × (x < most-variables)
-Shaped ws s (Leaf v) r = (a : Atom) × (r ≡ atom a) × (v ≡ atom-word a)
+Shaped ws s (Open x) r = (r ≡ var x) × (x < most_variables)
+Shaped ws s (Leaf v) r = (a : Atom) × (r ≡ atom a) × (v ≡ atom_word a)
 Shaped ws s (Pair f g) r = (a : Term) × (b : Term) × (r ≡ pair a b) × Resolves ws s f a × Resolves ws s g b

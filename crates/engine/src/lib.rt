@@ -1,4 +1,6 @@
 // The engine: a rule file is run through its rounds over lent words.
+#![tactic(auto)]
+
 mod clear;
 mod layout;
 mod repeats;
@@ -9,20 +11,18 @@ mod search;
 mod terms;
 mod writer;
 
+ghost use Rattle.engine.specs.Report.{RunPromise};
+ghost use Rattle.engine.specs.Run.{Admitted, RefusalReport};
+
 use crate::clear::clear;
-pub use crate::report::Bound;
-pub use crate::report::End;
-pub use crate::report::Report;
+pub use crate::report::{Bound, End, Report};
 use crate::rounds::rounds;
 use crate::search::table::fill_relations;
-use rules::SCRATCH_WORDS;
-use rules::Verdict;
-ghost use Rattle·engine·specs.specs.Report.{RunPromise};
-ghost use Rattle·engine·specs.specs.Run.{Admitted, RefusalReport};
+use rules::{SCRATCH_WORDS, Verdict};
 
 // The report of a refused call: number and place, all counts 0.
 fn refuse(number: u32, place: usize) -> Report
-    ensures { λ r. ⌜ RefusalReport number place r ⌝ }
+    ensures { RefusalReport number place result }
 {
     Report {
         end: End::Refused(number, place),
@@ -43,7 +43,7 @@ pub fn run(
     output: &mut [u32],
     scratch: &mut [u32],
 ) -> Report
-    ensures { λ r. ⌜ RunPromise (now (program .entry)) rounds steps (now (output .entry)) (now (scratch .entry)) r (now (output .exit)) (now (scratch .exit)) ⌝ }
+    ensures { RunPromise program.now rounds steps output.old scratch.old result output.new scratch.new }
 {
     if !rules::settings_good(rounds, scratch.len()) {
         return refuse(9, 0);
@@ -68,8 +68,8 @@ fn run_accepted(
     output: &mut [u32],
     scratch: &mut [u32],
 ) -> Report
-    requires { ⌜ Admitted (now program) limit (now scratch) ⌝ }
-    ensures { λ r. ⌜ RunPromise (now (program .entry)) limit steps (now (output .entry)) (now (scratch .entry)) r (now (output .exit)) (now (scratch .exit)) ⌝ }
+    requires { Admitted program.now limit scratch.old }
+    ensures { RunPromise program.now limit steps output.old scratch.old result output.new scratch.new }
 {
     let size = scratch.len();
     clear(scratch, 0, size);

@@ -1,9 +1,10 @@
 // What a run returns: how it ended, and its counts.
-ghost use mathlib.Core.Path.{_≡_};
-ghost use Rattle·semantics.specs.Steps.{bound-number};
-ghost use Rattle·engine·specs.specs.Report.{bound-of};
+ghost use Rattle.std.specs.Prelude.{◌≡◌};
+ghost use Rattle.semantics.specs.Steps.{bound_number};
+ghost use Rattle.engine.specs.Report.{bound_of};
 
 // Which of the five bounds on one path was met, in the order of document 01.
+#[derive(Clone, Copy)]
 pub enum Bound {
     Variables,
     Goals,
@@ -15,7 +16,7 @@ pub enum Bound {
 impl Bound {
     // Its number in document 01's list.
     pub fn number(self) -> u32
-        ensures { λ r. ⌜ r ≡ bound-number (bound-of self) ⌝ }
+        ensures { result ≡ bound_number (bound_of self) }
     {
         match self {
             Bound::Variables => 1,
@@ -28,6 +29,7 @@ impl Bound {
 }
 
 // How a run ended; a refusal carries its number and place.
+#[derive(Clone, Copy)]
 pub enum End {
     Finished,
     Rounds,
@@ -37,6 +39,7 @@ pub enum End {
     Refused(u32, usize),
 }
 
+#[derive(Clone, Copy)]
 pub struct Report {
     pub end: End,
     pub round: u32,

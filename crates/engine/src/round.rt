@@ -1,41 +1,36 @@
 // One round: from answer to answer, up to its end.
+ghost use Rattle.std.specs.Prelude.{◌≡◌, List, ℕ};
+ghost use Rattle.rules.specs.Syntax.{Program, Relation};
+ghost use Rattle.semantics.specs.Path.{Path, ChoicePoint};
+ghost use Rattle.semantics.specs.Answer.{answer};
+ghost use Rattle.semantics.specs.Round as definition;
+ghost use Rattle.engine.specs.Report.{ran, end_says};
+ghost use Rattle.engine.specs.Take.{PathHeld, stop_of};
+ghost use Rattle.semantics.specs.Substitution.{argument};
+ghost use Rattle.engine.specs.Rounds.{Clean, FilledAs, IndexAs, Starting, RoundedAs, Listing, Giving, AnswerGivenAs};
+ghost use Rattle.engine.specs.declared.round.Rounded.TheVariants.{Completed, Broken};
+
 use crate::layout::MOST_OUTPUT;
-use crate::repeats::repeated::Compared;
-use crate::repeats::repeated::repeated;
-use crate::report::Bound;
-use crate::report::End;
+use crate::repeats::repeated::{Compared, repeated};
+use crate::report::{Bound, End};
 use crate::search::choice::backtrack;
 use crate::search::constrain::with_counts;
 use crate::search::search::search;
-use crate::search::state::Resumed;
-use crate::search::state::Searched;
-use crate::search::state::State;
-use crate::search::state::Stop;
+use crate::search::state::{Resumed, Searched, State, Stop};
 use crate::search::table::relation;
 use crate::terms::trail::undo;
-use crate::writer::answer::Answered;
-use crate::writer::answer::write_answer;
+use crate::writer::answer::{Answered, write_answer};
 use word::at_most;
-ghost use mathlib.Core.Path.{_≡_};
-ghost use mathlib.Core.List.{List};
-ghost use Prim.Native.Nat.{ℕ};
-ghost use Rattle·rules.specs.Syntax.{Program, Relation};
-ghost use Rattle·semantics.specs.Path.{Path, ChoicePoint};
-ghost use Rattle·semantics.specs.Answer.{answer};
-ghost use Rattle·semantics.specs.Round as definition;
-ghost use Rattle·engine·specs.specs.Report.{ran, end-says};
-ghost use Rattle·engine·specs.specs.Take.{PathHeld, stop-of};
-ghost use Rattle·semantics.specs.Substitution.{argument};
-ghost use Rattle·engine·specs.specs.Rounds.{Clean, FilledAs, IndexAs, Starting, RoundedAs, Listing, Giving, AnswerGivenAs};
-ghost use Rattle·engine·specs.specs.declared.round.Rounded.the-variants.{Completed, Broken};
 
 // How far the output is filled: the words used, the answers, and the length of their index at the end of its usable words, 0 if there is none.
+#[derive(Clone, Copy)]
 pub struct Filled {
     pub used: u32,
     pub answers: u32,
     pub index: u32,
 }
 
+#[derive(Clone, Copy)]
 pub struct Tally {
     // The steps left.
     pub left: u32,
@@ -43,19 +38,21 @@ pub struct Tally {
 }
 
 // How a round ended: completed, with the number of branches it cut, or broken off.
+#[derive(Clone, Copy)]
 pub enum Rounded {
     Completed(Tally, u32),
     Broken(End, Tally),
 }
 
 // What comes of an answer: the round's end, or a goal to be taken next, by its reference, and how far the output is filled then.
+#[derive(Clone, Copy)]
 enum AnswerGiven {
     Ends(Rounded),
     Goes(State, u32, Filled),
 }
 
 fn end_of(stop: Stop) -> End
-    ensures { λ r. ⌜ end-says r ≡ ran (definition.end-of (stop-of stop)) ⌝ }
+    ensures { end_says result ≡ ran (definition.end_of (stop_of stop)) }
 {
     match stop {
         Stop::Steps => End::Steps,
@@ -64,16 +61,16 @@ fn end_of(stop: Stop) -> End
 }
 
 fn broken(end: End, left: u32, filled: Filled) -> Rounded
-    ensures { λ r. ⌜ r ≡ Broken end (record { left = left; filled = filled }) ⌝ }
+    ensures { result ≡ Broken end (record { left = left; filled = filled }) }
 {
     Rounded::Broken(end, Tally { left, filled })
 }
 
 // The round is completed: all that is bound is undone for the next.
 fn completed(scratch: &mut [u32], state: State, filled: Filled, cuts: u32) -> Rounded
-    requires { ⌜ ((P : Program) × (ws : List ℕ) × (p : Path) × (cs : List ChoicePoint) × PathHeld P ws (now scratch) state p cs) ⌝ }
-    ensures { λ r. ⌜ (r ≡ Completed (record { left = state .steps; filled = filled }) cuts)
-        × ((P : Program) (ws : List ℕ) (p : Path) (cs : List ChoicePoint) → PathHeld P ws (now (scratch .entry)) state p cs → Clean ws (now (scratch .exit)) P) ⌝ }
+    requires { (P : Program) × (ws : List ℕ) × (p : Path) × (cs : List ChoicePoint) × PathHeld P ws scratch.old state p cs }
+    ensures { (result ≡ Completed (record { left = state.steps; filled = filled }) cuts)
+        × ((P : Program) (ws : List ℕ) (p : Path) (cs : List ChoicePoint) → PathHeld P ws scratch.old state p cs → Clean ws scratch.new P) }
 {
     undo(scratch, 0, state.trail);
     Rounded::Completed(
@@ -87,9 +84,9 @@ fn completed(scratch: &mut [u32], state: State, filled: Filled, cuts: u32) -> Ro
 
 // The output with the answer that was written up to `next`, or without it if it repeats an earlier one of the run.
 fn list_answer(output: &mut [u32], filled: Filled, next: u32) -> Filled
-    requires { ⌜ ((o : List ℕ) × (a : definition.Tally) × (ws : List ℕ) × Listing o (now output) filled next a ws) ⌝ }
-    ensures { λ r. ⌜ ((o : List ℕ) (k l : ℕ) (a : definition.Tally) (ws : List ℕ) → Listing o (now (output .entry)) filled next a ws
-        → FilledAs (now (output .exit)) r (definition.list-answer (definition.once argument) a k l ws) × IndexAs (now (output .exit)) r (definition.list-answer (definition.once argument) a k l ws)) ⌝ }
+    requires { (o : List ℕ) × (a : definition.Tally) × (ws : List ℕ) × Listing o output.old filled next a ws }
+    ensures { (o : List ℕ) (k l : ℕ) (a : definition.Tally) (ws : List ℕ) → Listing o output.old filled next a ws
+        → FilledAs output.new result (definition.list_answer (definition.once argument) a k l ws) × IndexAs output.new result (definition.list_answer (definition.once argument) a k l ws) }
 {
     let end = at_most(output.len(), MOST_OUTPUT);
     match repeated(output, filled.used, next, end, filled.answers, filled.index) {
@@ -116,10 +113,10 @@ fn give(
     filled: Filled,
     cuts: u32,
 ) -> AnswerGiven
-    requires { ⌜ ((P : Program) × (p : Path) × (cs : List ChoicePoint) × (a : definition.Tally) × Giving P (now program) (now scratch) (now output) st p cs params filled cuts a) ⌝ }
-    ensures { λ r. ⌜ ((P : Program) (k : ℕ) (p : Path) (cs : List ChoicePoint) (a : definition.Tally)
-        → Giving P (now (program .entry)) (now (scratch .entry)) (now (output .entry)) st p cs params filled cuts a
-        → AnswerGivenAs P (now (program .entry)) (now (scratch .exit)) (now (output .exit)) st cuts (definition.give (definition.once argument) params k cs a (answer p params (st .steps))) r) ⌝ }
+    requires { (P : Program) × (p : Path) × (cs : List ChoicePoint) × (a : definition.Tally) × Giving P program.now scratch.old output.old st p cs params filled cuts a }
+    ensures { (P : Program) (k : ℕ) (p : Path) (cs : List ChoicePoint) (a : definition.Tally)
+        → Giving P program.now scratch.old output.old st p cs params filled cuts a
+        → AnswerGivenAs P program.now scratch.new output.new st cuts (definition.give (definition.once argument) params k cs a (answer p params st.steps)) result }
 {
     match write_answer(program, scratch, output, st, params, filled.used) {
         Answered::Full(left) => AnswerGiven::Ends(broken(End::Output, left, filled)),
@@ -149,9 +146,9 @@ pub(crate) fn round(
     number: u32,
     tally: Tally,
 ) -> Rounded
-    requires { ⌜ ((P : Program) × (R : Relation) × (a : definition.Tally) × Starting (now program) (now scratch) (now output) P query R number tally a) ⌝ }
-    ensures { λ r. ⌜ ((P : Program) (R : Relation) (a : definition.Tally) → Starting (now (program .entry)) (now (scratch .entry)) (now (output .entry)) P query R number tally a
-        → RoundedAs (now (program .entry)) (now (scratch .exit)) (now (output .exit)) P (definition.one-round P R number (a .room) (a .left) (a .written)) r) ⌝ }
+    requires { (P : Program) × (R : Relation) × (a : definition.Tally) × Starting program.now scratch.old output.old P query R number tally a }
+    ensures { (P : Program) (R : Relation) (a : definition.Tally) → Starting program.now scratch.old output.old P query R number tally a
+        → RoundedAs program.now scratch.new output.new P (definition.one_round P R number a.room a.left a.written) result }
 {
     let asked = relation(program, scratch, query);
     let params = asked.params;

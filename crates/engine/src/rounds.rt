@@ -1,22 +1,17 @@
 // The rounds of a run, one after the other.
-use crate::report::End;
-use crate::report::Report;
-use crate::round::Filled;
-use crate::round::Rounded;
-use crate::round::Tally;
-use crate::round::round;
-ghost use Prim.Native.Nat.{_≤_};
-ghost use mathlib.Core.List.{[]};
-ghost use lib.ListN.{length};
-ghost use Rattle·rules.specs.Syntax.{Program, Relation};
-ghost use Rattle·semantics.specs.Round as definition;
-ghost use Rattle·semantics.specs.Run.{usable};
-ghost use Rattle·engine·specs.specs.Rounds.{RunReady, Reported, ResultAs};
+ghost use Rattle.std.specs.Prelude.{◌≤◌, [], length};
+ghost use Rattle.rules.specs.Syntax.{Program, Relation};
+ghost use Rattle.semantics.specs.Round as definition;
+ghost use Rattle.semantics.specs.Run.{usable};
+ghost use Rattle.engine.specs.Rounds.{RunReady, Reported, ResultAs};
+
+use crate::report::{End, Report};
+use crate::round::{Filled, Rounded, Tally, round};
 
 // The report of a run with this step limit, whose last completed round cut so many branches.
 fn report(end: End, round: u32, steps: u32, tally: Tally, cut: u32) -> Report
-    requires { ⌜ tally .left ≤ steps ⌝ }
-    ensures { λ r. ⌜ Reported end round steps tally cut r ⌝ }
+    requires { tally.left ≤ steps }
+    ensures { Reported end round steps tally cut result }
 {
     Report {
         end,
@@ -37,9 +32,9 @@ pub(crate) fn rounds(
     limit: u32,
     steps: u32,
 ) -> Report
-    requires { ⌜ ((P : Program) × (R : Relation) × RunReady (now program) (now scratch) P query R limit) ⌝ }
-    ensures { λ r. ⌜ ((P : Program) (R : Relation) → RunReady (now (program .entry)) (now (scratch .entry)) P query R limit
-        → ResultAs (now (output .exit)) (definition.rounds steps P R limit 0 (usable (length (now (output .entry)))) steps 0 []) r) ⌝ }
+    requires { (P : Program) × (R : Relation) × RunReady program.now scratch.old P query R limit }
+    ensures { (P : Program) (R : Relation) → RunReady program.now scratch.old P query R limit
+        → ResultAs output.new (definition.rounds steps P R limit 0 (usable (length output.old)) steps 0 []) result }
 {
     let mut number = 0;
     let mut cut = 0;

@@ -1,19 +1,21 @@
 // The functions for other languages: `check` of crate rules, `run` of crate engine and `find` of crate page, with their results in numbers.
+#![tactic(auto)]
+
+ghost use Rattle.std.specs.Prelude.{◌≡◌, [], ◌∷◌};
+ghost use Rattle.rules.specs.Accept.{read};
+ghost use Rattle.rules.specs.Verdict.{said};
+ghost use Rattle.engine.specs.Report.{end_says};
+ghost use Rattle.page.specs.Page.{find};
+ghost use Rattle.exports.specs.Numbers.{CallPromise, end_numbers, packed, view_call};
+
 use engine::End;
 use page::Found;
 use rules::Verdict;
-ghost use mathlib.Core.Path.{_≡_};
-ghost use mathlib.Core.List.{[], _∷_};
-ghost use Rattle·rules.specs.Accept.{read};
-ghost use Rattle·rules.specs.Verdict.{said};
-ghost use Rattle·engine.specs.Report.{end-says};
-ghost use Rattle·page.specs.Page.{find};
-ghost use Rattle·exports·specs.specs.Numbers.{CallPromise, end-numbers, packed, view-call};
 
 // 0 if the program is accepted, else the number times 2^32 plus the place.
-#[no_mangle]
+#[unsafe(no_mangle)]
 pub extern "C" fn kindcanvas_check(program: &[u32]) -> u64
-    ensures { λ r. ⌜ r ≡ packed (said (read (now (program .entry)))) ⌝ }
+    ensures { result ≡ packed (said (read program.now)) }
 {
     match rules::check(program) {
         Verdict::Accepted => 0,
@@ -22,6 +24,7 @@ pub extern "C" fn kindcanvas_check(program: &[u32]) -> u64
 }
 
 // An end in numbers: how, which bound or refusal, and where.
+#[derive(Clone, Copy)]
 struct EndNumbers {
     end: u32,
     which: u32,
@@ -29,7 +32,7 @@ struct EndNumbers {
 }
 
 fn numbered(end: End) -> EndNumbers
-    ensures { λ r. ⌜ end-numbers (end-says end) ≡ r .end ∷ r .which ∷ r .place ∷ [] ⌝ }
+    ensures { end_numbers (end_says end) ≡ result.end ∷ result.which ∷ result.place ∷ [] }
 {
     match end {
         End::Finished => by_number(0, 0, 0),
@@ -42,13 +45,13 @@ fn numbered(end: End) -> EndNumbers
 }
 
 fn by_number(end: u32, which: u32, place: usize) -> EndNumbers
-    ensures { λ r. ⌜ (r .end ≡ end) × (r .which ≡ which) × (r .place ≡ place) ⌝ }
+    ensures { (result.end ≡ end) × (result.which ≡ which) × (result.place ≡ place) }
 {
     EndNumbers { end, which, place }
 }
 
 // `run`, with its result as eight numbers at the start of `numbers`. Returns how many it wrote there: 8, or 0 if `numbers` is too short; then nothing is run.
-#[no_mangle]
+#[unsafe(no_mangle)]
 pub extern "C" fn kindcanvas_run(
     program: &[u32],
     rounds: u32,
@@ -57,7 +60,7 @@ pub extern "C" fn kindcanvas_run(
     scratch: &mut [u32],
     numbers: &mut [u32],
 ) -> u32
-    ensures { λ r. ⌜ CallPromise (now (program .entry)) rounds steps (now (output .entry)) (now (scratch .entry)) (now (numbers .entry)) r (now (output .exit)) (now (scratch .exit)) (now (numbers .exit)) ⌝ }
+    ensures { CallPromise program.now rounds steps output.old scratch.old numbers.old result output.new scratch.new numbers.new }
 {
     if numbers.len() < 8 {
         return 0;
@@ -78,14 +81,14 @@ pub extern "C" fn kindcanvas_run(
 
 // Where the answer of this number, from 0, stands on the page: from `start` up to but without `end`, with its header. Returns 0, or the refusal's number; then the
 // part is empty, at the refusal's place.
-#[no_mangle]
+#[unsafe(no_mangle)]
 pub extern "C" fn kindcanvas_view(
     page: &[u32],
     answer: u32,
     start: &mut usize,
     end: &mut usize,
 ) -> u32
-    ensures { λ r. ⌜ view-call (find (now (page .entry)) answer) ≡ record { result = r; start = now (start .exit); end = now (end .exit) } ⌝ }
+    ensures { view_call (find page.now answer) ≡ record { result = result; start = start.new; end = end.new } }
 {
     match page::find(page, answer) {
         Found::Part(from, to) => {

@@ -1,73 +1,71 @@
 // Pages on standard input: how many, then each as an answer's number, a word count and its words. Prints a line of what the viewer gets of each:
 // the part's words, none if refused; then where the part starts, or the refusal.
-use libc::STDIN_FILENO;
-use libc::STDOUT_FILENO;
+#![tactic(auto)]
+
+use input::read_full;
 use page::Found;
-use word::Word;
-use word::at_most;
+use std::io;
+use std::io::Read;
+use word::{Word, at_most};
 
 // The longest page that is taken, in words.
 const MOST: usize = 256;
 
-fn print_word(bits: u32) {
+fn print_word(rt: &impl Print, bits: u32) -> io::Result<()> {
     let word = Word::from_bits(bits);
-    io::print_decimal(STDOUT_FILENO, word.kind() as u64);
-    io::write_all(STDOUT_FILENO, b":");
-    io::print_decimal(STDOUT_FILENO, word.payload() as u64);
-    io::write_all(STDOUT_FILENO, b" ");
+    print!(rt; "{}:{} ", word.kind(), word.payload())
 }
 
-fn print_words(words: &[u32]) {
+fn print_words(rt: &impl Print, words: &[u32]) -> io::Result<()> {
     let mut i = 0;
     while i < words.len() {
-        print_word(words[i]);
+        print_word(rt, words[i])?;
         i += 1;
     }
+    Ok(())
 }
 
-fn print_place(place: usize) {
-    io::write_all(STDOUT_FILENO, b"at ");
-    io::print_decimal(STDOUT_FILENO, place as u64);
-    io::write_all(STDOUT_FILENO, b"\n");
+fn print_place(rt: &impl Print, place: usize) -> io::Result<()> {
+    println!(rt; "at {place}")
 }
 
-fn show(page: &[u32], answer: u32) {
-    print_words(page::view(page, answer));
+fn show(rt: &impl Print, page: &[u32], answer: u32) -> io::Result<()> {
+    print_words(rt, page::view(page, answer))?;
     match page::find(page, answer) {
-        Found::Part(start, _) => print_place(start),
+        Found::Part(start, _) => print_place(rt, start),
         Found::Refused(number, place) => {
-            io::write_all(STDOUT_FILENO, b"refused ");
-            io::print_decimal(STDOUT_FILENO, number as u64);
-            io::write_all(STDOUT_FILENO, b" ");
-            print_place(place);
+            print!(rt; "refused {number} ")?;
+            print_place(rt, place)
         }
     }
 }
 
 // 0 where the input has ended.
-fn read_word() -> u32 {
+fn read_word(input: &mut impl Read) -> io::Result<u32> {
     let mut bytes = [0u8; 4];
-    io::read_full(STDIN_FILENO, &mut bytes);
+    read_full(input, &mut bytes)?;
     let word = Word::from_bytes(bytes[0], bytes[1], bytes[2], bytes[3]);
-    word.bits
+    Ok(word.bits)
 }
 
-fn show_next() {
-    let answer = read_word();
-    let count = at_most(read_word() as usize, MOST);
+fn show_next(rt: &impl Print, input: &mut impl Read) -> io::Result<()> {
+    let answer = read_word(input)?;
+    let count = at_most(read_word(input)? as usize, MOST);
     let mut words = [0u32; MOST];
     let mut i = 0;
     while i < count {
-        words[i] = read_word();
+        words[i] = read_word(input)?;
         i += 1;
     }
-    show(&words[..count], answer);
+    show(rt, &words[..count], answer)
 }
 
-fn main() {
-    let mut left = read_word();
+fn main(rt: HostRuntime) -> io::Result<()> {
+    let mut input = rt.stdin();
+    let mut left = read_word(&mut input)?;
     while 0 < left {
-        show_next();
+        show_next(&rt, &mut input)?;
         left -= 1;
     }
+    Ok(())
 }

@@ -1,8 +1,11 @@
 // Reads programs from standard input, each as its word count and its words, and prints a line of what `check` says of each.
-ghost use Prim.Native.Nat.{_<_};
-use libc::STDIN_FILENO;
-use libc::STDOUT_FILENO;
+#![tactic(auto)]
+
+ghost use Rattle.std.specs.Prelude.{◌<◌, IfOk};
+
+use input::read_full;
 use rules::Verdict;
+use std::io;
 
 // The word whose low byte is at `at`.
 fn word_at(bytes: &[u8; 262144], at: usize) -> u32 {
@@ -15,51 +18,42 @@ fn word_at(bytes: &[u8; 262144], at: usize) -> u32 {
 }
 
 fn wide(byte: u8) -> u32
-    ensures { λ r. ⌜ r < 256 ⌝ }
+    ensures { result < 256 }
 {
     byte as u32
 }
 
-fn print_number(n: usize) {
-    io::print_decimal(STDOUT_FILENO, n as u64);
-}
-
-fn show(program: &[u32]) {
+fn show(rt: &impl Print, program: &[u32]) -> io::Result<()> {
     match rules::check(program) {
-        Verdict::Accepted => {
-            io::write_all(STDOUT_FILENO, b"accepted\n");
-        }
+        Verdict::Accepted => println!(rt; "accepted"),
         Verdict::Refused(condition, place) => {
-            io::write_all(STDOUT_FILENO, b"refused ");
-            print_number(condition.number() as usize);
-            io::write_all(STDOUT_FILENO, b" at ");
-            print_number(place);
-            io::write_all(STDOUT_FILENO, b"\n");
+            let number = condition.number();
+            println!(rt; "refused {number} at {place}")
         }
     }
 }
 
 // Shows the program that starts at word `at`, if it is whole, and answers the place after it.
-fn show_at(words: &[u32], end: usize, at: usize) -> usize
-    requires { ⌜ at < end ⌝ }
-    ensures { λ r. ⌜ at < r ⌝ }
+fn show_at(rt: &impl Print, words: &[u32], end: usize, at: usize) -> io::Result<usize>
+    requires { at < end }
+    ensures { IfOk result (λ next. at < next) }
 {
     if words.len() < end {
-        return end;
+        return Ok(end);
     }
     let size = words[at] as usize;
     let from = at + 1;
     if end - from < size {
-        return end;
+        return Ok(end);
     }
     let to = from + size;
-    show(&words[from..to]);
-    to
+    show(rt, &words[from..to])?;
+    Ok(to)
 }
 
-fn main() {
+fn main(rt: HostRuntime) -> io::Result<()> {
     let mut bytes = [0u8; 262144];
-    let got = io::read_full(STDIN_FILENO, &mut bytes);
+    let got = read_full(&mut rt.stdin(), &mut bytes)?;
     let mut words = [0u32; 65536];
     let mut i = 0;
     while i < 65536 {
@@ -69,6 +63,7 @@ fn main() {
     let end = got / 4;
     let mut at = 0;
     while at < end {
-        at = show_at(&words, end, at);
+        at = show_at(&rt, &words, end, at)?;
     }
+    Ok(())
 }

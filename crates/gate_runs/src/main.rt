@@ -1,21 +1,24 @@
 // Runs on standard input, one after the other, each as four words and its bytes: round limit, step limit, output words, and how many bytes.
 // Prints what the listing program prints of each.
-use libc::STDIN_FILENO;
-use libc::STDOUT_FILENO;
-use word::Word;
-use word::at_most;
-ghost use Prim.Native.Nat.{_≤_};
-ghost use lib.ListN.{length};
+#![tactic(auto)]
 
-fn read_part(bytes: &mut [u8], size: usize)
-    requires { ⌜ size ≤ length (now bytes) ⌝ }
+ghost use Rattle.std.specs.Prelude.{◌≤◌, length};
+
+use input::read_full;
+use std::io;
+use std::io::Read;
+use word::{Word, at_most};
+
+fn read_part(input: &mut impl Read, bytes: &mut [u8], size: usize) -> io::Result<()>
+    requires { size ≤ length bytes.old }
 {
-    io::read_full(STDIN_FILENO, &mut bytes[..size]);
+    read_full(input, &mut bytes[..size])?;
+    Ok(())
 }
 
 // The word from byte `at` on of the settings.
 fn setting(settings: &[u8; 16], at: usize) -> u32
-    requires { ⌜ at ≤ 12 ⌝ }
+    requires { at ≤ 12 }
 {
     let word = Word::from_bytes(
         settings[at],
@@ -27,35 +30,42 @@ fn setting(settings: &[u8; 16], at: usize) -> u32
 }
 
 // The run with these settings, whose bytes come next.
-fn list_with(settings: &[u8; 16], bytes: &mut [u8]) {
+fn list_with(
+    rt: &impl Print,
+    input: &mut impl Read,
+    settings: &[u8; 16],
+    bytes: &mut [u8],
+) -> io::Result<()> {
     let rounds = setting(settings, 0);
     let steps = setting(settings, 4);
     let room = setting(settings, 8) as usize;
     let size = at_most(setting(settings, 12) as usize, bytes.len());
-    read_part(bytes, size);
+    read_part(input, bytes, size)?;
     let mut out = [0u8; 65536];
     let count = list_text::text(&bytes[..size], rounds, steps, room, &mut out);
-    io::write_all(STDOUT_FILENO, &out[..count]);
+    rt.write_all(&out[..count])
 }
 
 // Whether there was one more.
-fn list_next() -> bool {
+fn list_next(rt: &impl Print, input: &mut impl Read) -> io::Result<bool> {
     let mut settings = [0u8; 16];
-    if io::read_full(STDIN_FILENO, &mut settings) < 16 {
-        return false;
+    if read_full(input, &mut settings)? < 16 {
+        return Ok(false);
     }
     let mut bytes = [0u8; 65544];
-    list_with(&settings, &mut bytes);
-    true
+    list_with(rt, input, &settings, &mut bytes)?;
+    Ok(true)
 }
 
-fn main() {
+fn main(rt: HostRuntime) -> io::Result<()> {
+    let mut input = rt.stdin();
     let mut left = 1000u32;
     while 0 < left {
-        if list_next() {
+        if list_next(&rt, &mut input)? {
             left -= 1;
         } else {
-            return;
+            return Ok(());
         }
     }
+    Ok(())
 }

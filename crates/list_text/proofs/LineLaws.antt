@@ -1,20 +1,20 @@
 -- A line, word after word.
-use Prim.Native.Nat.{ℕ, _+_, _≤_, _<_}
-use mathlib.Core.Path.{_≡_, refl}
-use mathlib.Core.List.{List, [], _∷_, _++_}
+use Prim.Native.Nat.{ℕ, ◌+◌, ◌≤◌, ◌<◌}
+use mathlib.Core.Path.{◌≡◌, refl}
+use mathlib.Core.List.{List, [], ◌∷◌, ◌++◌}
 use native.Mathlib.Omega.{arith}
 use native.Mathlib.Numerals.{add-one}
-use lib.ListN.{length, getD, drop, drop-of-length-le}
+use lib.ListN.{length, get_or, drop, drop_of_length-le}
 use lib.Seq.{drop-cons}
-use Rattle·list_text·specs.specs.Listing.{codes, line, line-behind, word-text}
+use Rattle.list_text.specs.Listing.{codes, line, line_behind, word_text}
 
 -- a line's first word, and a further one
-pub line-first : (ws : List ℕ) → 0 < length ws → line ws ≡ word-text (getD ws 0 0) ++ line-behind (drop 1 ws)
-line-first [] h = absurd (omega arith)
-line-first (w ∷ ws) h = refl
+pub line_first : (ws : List ℕ) → 0 < length ws → line ws ≡ word_text (get_or ws 0 0) ++ line_behind (drop 1 ws)
+line_first [] h = absurd (omega arith)
+line_first (w ∷ ws) h = refl
 
-pub line-next : (ws : List ℕ) (i : ℕ) → i < length ws → line-behind (drop i ws) ≡ codes " " ++ (word-text (getD ws i 0) ++ line-behind (drop (i + 1) ws))
-line-next ws i h = rw (drop-cons ws i 0 h, add-one i)
+pub line_next : (ws : List ℕ) (i : ℕ) → i < length ws → line_behind (drop i ws) ≡ codes " " ++ (word_text (get_or ws i 0) ++ line_behind (drop (i + 1) ws))
+line_next ws i h = rw (drop-cons ws i 0 h, add-one i)
 
-pub line-last : (ws : List ℕ) (i : ℕ) → length ws ≤ i → line-behind (drop i ws) ≡ codes "\n"
-line-last ws i h = rw (drop-of-length-le ws h)
+pub line_last : (ws : List ℕ) (i : ℕ) → length ws ≤ i → line_behind (drop i ws) ≡ codes "\n"
+line_last ws i h = rw (drop_of_length-le ws h)

@@ -1,13 +1,13 @@
 -- Every row holds: one computed test.
-use mathlib.Core.Path.{_≡_, refl}
+use mathlib.Core.Path.{◌≡◌, refl}
 use mathlib.Core.List.{map}
-use Rattle·rules.specs.Reading.{read-word, read-leaf, read-term, read-one, read-two, read-terms, read-tag, read-absento, read-call, read-goal, read-goals, read-body, read-variables, read-relation, read-relations}
-use Rattle·rules.specs.Written.{term-words, terms-words, goal-words, goals-words}
-use Rattle·rules.specs.Calls.{goal-fault, goals-fault, relations-fault}
-use Rattle·rules.specs.Accept.{read}
-use Rattle·list_text·specs.specs.Listing.{decimal-by, whole-words}
-use Rattle·list_text·specs.specs.Rows.{rows}
+use Rattle.rules.specs.Reading.{read_word, read_leaf, read_term, read_one, read_two, read_terms, read_tag, read_absento, read_call, read_goal, read_goals, read_body, read_variables, read_relation, read_relations}
+use Rattle.rules.specs.Written.{term_words, terms_words, goal_words, goals_words}
+use Rattle.rules.specs.Calls.{goal_fault, goals_fault, relations_fault}
+use Rattle.rules.specs.Accept.{read}
+use Rattle.list_text.specs.Listing.{decimal_by, whole_words}
+use Rattle.list_text.specs.Rows.{rows}
 
-pub rows-hold : map (λ r. r .text) rows ≡ map (λ r. r .bytes) rows
-unfolding decimal-by whole-words read read-word read-leaf read-term read-one read-two read-terms read-tag read-absento read-call read-goal read-goals read-body read-variables read-relation read-relations term-words terms-words goal-words goals-words goal-fault goals-fault relations-fault
-rows-hold = refl
+pub rows_hold : map (λ r. r.text) rows ≡ map (λ r. r.bytes) rows
+unfolding decimal_by whole_words read read_word read_leaf read_term read_one read_two read_terms read_tag read_absento read_call read_goal read_goals read_body read_variables read_relation read_relations term_words terms_words goal_words goals_words goal_fault goals_fault relations_fault
+rows_hold = refl

@@ -1,21 +1,18 @@
 // The answers on a page, each as a line.
-use crate::put::put_byte;
-use crate::put::put_number;
-use page::Found;
-use page::answer_at;
+ghost use Rattle.std.specs.Prelude.{map, ◌+◌, ◌*◌, ◌<◌, ◌≤◌, length};
+ghost use Rattle.rules.specs.Lists.{joined};
+ghost use Rattle.page.specs.Page.{answers_on};
+ghost use Rattle.list_text.specs.Listing.{line, word_text};
+ghost use Rattle.list_text.specs.Writing.{Wrote};
+
+use crate::put::{put_byte, put_number};
+use page::{Found, answer_at};
 use word::Word;
-ghost use mathlib.Core.List.{map};
-ghost use Prim.Native.Nat.{_+_, _*_, _<_, _≤_};
-ghost use lib.ListN.{length};
-ghost use Rattle·rules.specs.Lists.{joined};
-ghost use Rattle·page.specs.Page.{answers-on};
-ghost use Rattle·list_text·specs.specs.Listing.{line, word-text};
-ghost use Rattle·list_text·specs.specs.Writing.{Wrote};
 
 // A word takes at most 12 bytes: two for its kind, nine for its payload.
 fn put_word(bits: u32, at: usize, out: &mut [u8]) -> usize
-    requires { ⌜ at + 12 ≤ 65536 ⌝ }
-    ensures { λ r. ⌜ Wrote (word-text bits) at (now (out .entry)) r (now (out .exit)) × (r ≤ at + 12) ⌝ }
+    requires { at + 12 ≤ 65536 }
+    ensures { Wrote (word_text bits) at out.old result out.new × (result ≤ at + 12) }
 {
     let word = Word::from_bits(bits);
     let kind = word.kind() as usize;
@@ -26,8 +23,8 @@ fn put_word(bits: u32, at: usize, out: &mut [u8]) -> usize
 }
 
 fn put_line(words: &[u32], at: usize, out: &mut [u8]) -> usize
-    requires { ⌜ (0 < length (now words)) × (at + 13 * length (now words) ≤ 65536) ⌝ }
-    ensures { λ r. ⌜ Wrote (line (now (words .entry))) at (now (out .entry)) r (now (out .exit)) × (r ≤ at + 13 * length (now (words .entry))) ⌝ }
+    requires { (0 < length words.now) × (at + 13 * length words.now ≤ 65536) }
+    ensures { Wrote (line words.now) at out.old result out.new × (result ≤ at + 13 * length words.now) }
 {
     let mut next = put_word(words[0], at, out);
     let mut i = 1;
@@ -41,8 +38,8 @@ fn put_line(words: &[u32], at: usize, out: &mut [u8]) -> usize
 
 // The answers as the walk over the page finds them.
 pub(crate) fn put_answers(page: &[u32], at: usize, out: &mut [u8]) -> usize
-    requires { ⌜ at + 13 * length (now page) ≤ 65536 ⌝ }
-    ensures { λ r. ⌜ Wrote (joined (map line (answers-on (now (page .entry))))) at (now (out .entry)) r (now (out .exit)) × (r ≤ 65536) ⌝ }
+    requires { at + 13 * length page.now ≤ 65536 }
+    ensures { Wrote (joined (map line (answers_on page.now))) at out.old result out.new × (result ≤ 65536) }
 {
     let mut next = at;
     let mut i = 0;

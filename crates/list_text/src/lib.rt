@@ -1,27 +1,27 @@
 // The text that the listing program prints of a rule file.
+#![tactic(auto)]
+
 mod answers;
 mod put;
 mod report;
 mod words;
 
+ghost use Rattle.std.specs.Prelude.{◌≡◌, ◌≤◌, length, replicate};
+ghost use Rattle.semantics.specs.Run.{run_as_written};
+ghost use Rattle.list_text.specs.Listing.{TextAs, listing_text, printed_text, report_text};
+ghost use Rattle.list_text.specs.Writing.{Wrote};
+ghost use Rattle.rules.specs.Settings.{scratch_words};
+
 use crate::answers::put_answers;
 use crate::report::put_report;
-use crate::words::read_words;
-use crate::words::word_count;
+use crate::words::{read_words, word_count};
 use rules::SCRATCH_WORDS;
 use word::at_most;
-ghost use mathlib.Core.Path.{_≡_};
-ghost use Prim.Native.Nat.{_≤_};
-ghost use lib.ListN.{length, replicate};
-ghost use Rattle·semantics.specs.Run.{run-as-written};
-ghost use Rattle·list_text·specs.specs.Listing.{TextAs, listing-text, printed-text, report-text};
-ghost use Rattle·list_text·specs.specs.Writing.{Wrote};
-ghost use Rattle·rules.specs.Settings.{scratch-words};
 
 // Runs the program with this output, which is all 0, and writes its list.
 fn list(program: &[u32], rounds: u32, steps: u32, output: &mut [u32], out: &mut [u8]) -> usize
-    requires { ⌜ (length (now output) ≤ 4096) × (now output ≡ replicate (length (now output)) 0) ⌝ }
-    ensures { λ r. ⌜ Wrote (report-text (run-as-written (now (program .entry)) rounds steps (now (output .entry)) (replicate scratch-words 0) .report)) 0 (now (out .entry)) r (now (out .exit)) × (r ≤ 65536) ⌝ }
+    requires { (length output.old ≤ 4096) × (output.old ≡ replicate (length output.old) 0) }
+    ensures { Wrote (report_text (run_as_written program.now rounds steps output.old (replicate scratch_words 0)).report) 0 out.old result out.new × (result ≤ 65536) }
 {
     let mut scratch = [0u32; SCRATCH_WORDS];
     let report = engine::run(program, rounds, steps, output, &mut scratch);
@@ -32,7 +32,7 @@ fn list(program: &[u32], rounds: u32, steps: u32, output: &mut [u32], out: &mut 
 // Runs the program in these bytes with so many output words, at most 4,096, and writes its list to the start of `out`, as far as that reaches.
 // Returns how long the list is.
 pub fn text(bytes: &[u8], rounds: u32, steps: u32, room: usize, out: &mut [u8]) -> usize
-    ensures { λ r. ⌜ TextAs (listing-text (now (bytes .entry)) rounds steps room) (now (out .entry)) r (now (out .exit)) ⌝ }
+    ensures { TextAs (listing_text bytes.now rounds steps room) out.old result out.new }
 {
     let mut words = [0u32; 16385];
     let count = word_count(bytes.len());
@@ -44,7 +44,7 @@ pub fn text(bytes: &[u8], rounds: u32, steps: u32, room: usize, out: &mut [u8]) 
 
 // What the listing program prints of these bytes: their list with document 01's limits, as `text` writes it.
 pub fn printed_text(bytes: &[u8], out: &mut [u8]) -> usize
-    ensures { λ r. ⌜ TextAs (printed-text (now (bytes .entry))) (now (out .entry)) r (now (out .exit)) ⌝ }
+    ensures { TextAs (printed_text bytes.now) out.old result out.new }
 {
     text(bytes, 16, 1000000, 4096, out)
 }

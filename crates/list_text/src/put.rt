@@ -1,13 +1,11 @@
 // Text into lent bytes, as far as they reach. Each function returns the place behind what it wrote.
-ghost use Prim.Native.Nat.{_+_, _<_, _≤_};
-ghost use mathlib.Core.List.{[], _∷_};
-ghost use lib.ListN.{length};
-ghost use Rattle·list_text·specs.specs.Listing.{decimal};
-ghost use Rattle·list_text·specs.specs.Writing.{Wrote};
+ghost use Rattle.std.specs.Prelude.{◌+◌, ◌<◌, ◌≤◌, [], ◌∷◌, length};
+ghost use Rattle.list_text.specs.Listing.{decimal};
+ghost use Rattle.list_text.specs.Writing.{Wrote};
 
 pub(crate) fn put_byte(byte: u8, at: usize, out: &mut [u8]) -> usize
-    requires { ⌜ at < 65536 ⌝ }
-    ensures { λ r. ⌜ Wrote (byte ∷ []) at (now (out .entry)) r (now (out .exit)) ⌝ }
+    requires { at < 65536 }
+    ensures { Wrote (byte ∷ []) at out.old result out.new }
 {
     if at < out.len() {
         out[at] = byte;
@@ -16,8 +14,8 @@ pub(crate) fn put_byte(byte: u8, at: usize, out: &mut [u8]) -> usize
 }
 
 pub(crate) fn put_text(text: &[u8], at: usize, out: &mut [u8]) -> usize
-    requires { ⌜ at + length (now text) ≤ 65536 ⌝ }
-    ensures { λ r. ⌜ Wrote (now (text .entry)) at (now (out .entry)) r (now (out .exit)) ⌝ }
+    requires { at + length text.now ≤ 65536 }
+    ensures { Wrote text.now at out.old result out.new }
 {
     let mut next = at;
     let mut i = 0;
@@ -29,8 +27,8 @@ pub(crate) fn put_text(text: &[u8], at: usize, out: &mut [u8]) -> usize
 }
 
 pub(crate) fn put_number(n: usize, at: usize, out: &mut [u8]) -> usize
-    requires { ⌜ at + length (decimal n) ≤ 65536 ⌝ }
-    ensures { λ r. ⌜ Wrote (decimal n) at (now (out .entry)) r (now (out .exit)) ⌝ }
+    requires { at + length (decimal n) ≤ 65536 }
+    ensures { Wrote (decimal n) at out.old result out.new }
 {
     if n < 10 {
         return put_byte(48 + n as u8, at, out);

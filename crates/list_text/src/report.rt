@@ -1,27 +1,24 @@
 // The first line of a list.
-use crate::put::put_number;
-use crate::put::put_text;
-use engine::End;
-use engine::Report;
-ghost use mathlib.Core.List.{_++_};
-ghost use Prim.Native.Nat.{_+_, _≤_};
-ghost use lib.ListN.{length};
-ghost use Rattle·engine.specs.Report.{end-says, refused};
-ghost use Rattle·list_text·specs.specs.Listing.{codes, counts-text, decimal, first-line};
-ghost use Rattle·list_text·specs.specs.Writing.{Wrote};
+ghost use Rattle.std.specs.Prelude.{◌++◌, ◌+◌, ◌≤◌, length};
+ghost use Rattle.engine.specs.Report.{end_says, refused};
+ghost use Rattle.list_text.specs.Listing.{codes, counts_text, decimal, first_line};
+ghost use Rattle.list_text.specs.Writing.{Wrote};
+
+use crate::put::{put_number, put_text};
+use engine::{End, Report};
 
 // A count, which takes at most 10 bytes, behind its name.
 fn put_count(name: &[u8], count: u32, at: usize, out: &mut [u8]) -> usize
-    requires { ⌜ at + length (now name) + 10 ≤ 65536 ⌝ }
-    ensures { λ r. ⌜ Wrote (now (name .entry) ++ decimal count) at (now (out .entry)) r (now (out .exit)) × (r ≤ at + length (now (name .entry)) + 10) ⌝ }
+    requires { at + length name.now + 10 ≤ 65536 }
+    ensures { Wrote (name.now ++ decimal count) at out.old result out.new × (result ≤ at + length name.now + 10) }
 {
     let next = put_text(name, at, out);
     put_number(count as usize, next, out)
 }
 
 fn put_counts(round: u32, steps: u32, answers: u32, cut: u32, at: usize, out: &mut [u8]) -> usize
-    requires { ⌜ at ≤ 31 ⌝ }
-    ensures { λ r. ⌜ Wrote (counts-text round steps answers cut) at (now (out .entry)) r (now (out .exit)) × (r ≤ 100) ⌝ }
+    requires { at ≤ 31 }
+    ensures { Wrote (counts_text round steps answers cut) at out.old result out.new × (result ≤ 100) }
 {
     let mut next = put_count(b" round ", round, at, out);
     next = put_count(b" steps ", steps, next, out);
@@ -31,8 +28,8 @@ fn put_counts(round: u32, steps: u32, answers: u32, cut: u32, at: usize, out: &m
 }
 
 fn put_ran(name: &[u8], round: u32, steps: u32, answers: u32, cut: u32, out: &mut [u8]) -> usize
-    requires { ⌜ length (now name) ≤ 8 ⌝ }
-    ensures { λ r. ⌜ Wrote (codes "end " ++ (now (name .entry) ++ counts-text round steps answers cut)) 0 (now (out .entry)) r (now (out .exit)) × (r ≤ 100) ⌝ }
+    requires { length name.now ≤ 8 }
+    ensures { Wrote (codes "end " ++ (name.now ++ counts_text round steps answers cut)) 0 out.old result out.new × (result ≤ 100) }
 {
     let mut next = put_text(b"end ", 0, out);
     next = put_text(name, next, out);
@@ -40,7 +37,7 @@ fn put_ran(name: &[u8], round: u32, steps: u32, answers: u32, cut: u32, out: &mu
 }
 
 fn put_path(number: u32, round: u32, steps: u32, answers: u32, cut: u32, out: &mut [u8]) -> usize
-    ensures { λ r. ⌜ Wrote (codes "end path " ++ (decimal number ++ counts-text round steps answers cut)) 0 (now (out .entry)) r (now (out .exit)) × (r ≤ 100) ⌝ }
+    ensures { Wrote (codes "end path " ++ (decimal number ++ counts_text round steps answers cut)) 0 out.old result out.new × (result ≤ 100) }
 {
     let mut next = put_text(b"end path ", 0, out);
     next = put_number(number as usize, next, out);
@@ -48,7 +45,7 @@ fn put_path(number: u32, round: u32, steps: u32, answers: u32, cut: u32, out: &m
 }
 
 fn put_refusal(number: u32, place: usize, out: &mut [u8]) -> usize
-    ensures { λ r. ⌜ Wrote (first-line (refused number place) 0 0 0 0) 0 (now (out .entry)) r (now (out .exit)) × (r ≤ 100) ⌝ }
+    ensures { Wrote (first_line (refused number place) 0 0 0 0) 0 out.old result out.new × (result ≤ 100) }
 {
     let mut next = put_text(b"refused ", 0, out);
     next = put_number(number as usize, next, out);
@@ -58,7 +55,7 @@ fn put_refusal(number: u32, place: usize, out: &mut [u8]) -> usize
 }
 
 pub(crate) fn put_report(report: Report, out: &mut [u8]) -> usize
-    ensures { λ r. ⌜ Wrote (first-line (end-says (report .end)) (report .round) (report .steps) (report .answers) (report .cut)) 0 (now (out .entry)) r (now (out .exit)) × (r ≤ 100) ⌝ }
+    ensures { Wrote (first_line (end_says report.end) report.round report.steps report.answers report.cut) 0 out.old result out.new × (result ≤ 100) }
 {
     let round = report.round;
     let steps = report.steps;

@@ -1,15 +1,13 @@
 // The words of a file.
-use word::Word;
-use word::at_most;
-ghost use mathlib.Core.Path.{_≡_};
-ghost use Prim.Native.Nat.{_*_, _≤_};
-ghost use lib.ListN.{length, take};
-ghost use Rattle·list_text·specs.specs.Listing.{whole-words};
-ghost use Rattle·list_text·specs.specs.Writing.{words-read};
+ghost use Rattle.std.specs.Prelude.{◌≡◌, ◌*◌, ◌≤◌, length, take};
+ghost use Rattle.list_text.specs.Listing.{whole_words};
+ghost use Rattle.list_text.specs.Writing.{words_read};
+
+use word::{Word, at_most};
 
 // How many words are read of so many bytes: none if they are no whole words, so that both are refused alike.
 pub(crate) fn word_count(bytes: usize) -> usize
-    ensures { λ r. ⌜ (r ≡ words-read bytes) × (4 * r ≤ bytes) × (r ≤ 16385) ⌝ }
+    ensures { (result ≡ words_read bytes) × (4 * result ≤ bytes) × (result ≤ 16385) }
 {
     if bytes % 4 != 0 {
         return 0;
@@ -18,8 +16,8 @@ pub(crate) fn word_count(bytes: usize) -> usize
 }
 
 pub(crate) fn read_words(bytes: &[u8], words: &mut [u32], count: usize)
-    requires { ⌜ (4 * count ≤ length (now bytes)) × (count ≤ length (now words)) ⌝ }
-    ensures { λ _. ⌜ take count (now (words .exit)) ≡ take count (whole-words (now (bytes .entry))) ⌝ }
+    requires { (4 * count ≤ length bytes.now) × (count ≤ length words.old) }
+    ensures { take count words.new ≡ take count (whole_words bytes.now) }
 {
     let mut i = 0;
     while i < count {

@@ -1,8 +1,8 @@
 -- What the code's enum says. A refusal carries document 02's number and its place.
-use Rattle·page·specs.specs.Page as page
-use Rattle·page·specs.specs.declared.Found.{Found}
-use Rattle·page·specs.specs.declared.Found.the-variants.{Part, Refused}
+use Rattle.page.specs.Page as page
+use Rattle.page.specs.declared.Found.{Found}
+use Rattle.page.specs.declared.Found.TheVariants.{Part, Refused}
 
-abbrev pub found-says : Found → page.Found
-found-says (Part start end) = page.part start end
-found-says (Refused number place) = page.refused number place
+abbrev pub found_says : Found → page.Found
+found_says (Part start end) = page.part start end
+found_says (Refused number place) = page.refused number place

@@ -1,13 +1,17 @@
 // The answers of an output page, found by their headers. Nothing inside an answer is looked at, and nothing is copied.
+#![tactic(auto)]
+
+ghost use Rattle.std.specs.Prelude.{◌≡◌};
+ghost use Rattle.page.specs.Found.{found_says};
+ghost use Rattle.page.specs.Page.{answer_at, find, part_ptr, view};
+
 use word::Word;
-ghost use mathlib.Core.Path.{_≡_};
-ghost use Rattle·page·specs.specs.Found.{found-says};
-ghost use Rattle·page·specs.specs.Page.{answer-at, find, part-ptr, view};
 
 // The refusal of document 02, Note 1.
 const NO_ANSWER: u32 = 10;
 
 // What is found on a page.
+#[derive(Clone, Copy)]
 pub enum Found {
     // An answer: the part from the first place up to but without the second.
     Part(usize, usize),
@@ -17,7 +21,7 @@ pub enum Found {
 
 // The answer whose header is at this place, or why there is none.
 pub fn answer_at(page: &[u32], at: usize) -> Found
-    ensures { λ r. ⌜ found-says r ≡ answer-at (now (page .entry)) at ⌝ }
+    ensures { found_says result ≡ answer_at page.now at }
 {
     if page.len() <= at {
         return Found::Refused(NO_ANSWER, page.len());
@@ -37,7 +41,7 @@ pub fn answer_at(page: &[u32], at: usize) -> Found
 
 // Where the answer of this number, from 0, stands on the page. One word is read for each answer that is passed, and at most one more, whatever their length.
 pub fn find(page: &[u32], answer: u32) -> Found
-    ensures { λ r. ⌜ found-says r ≡ find (now (page .entry)) answer ⌝ }
+    ensures { found_says result ≡ find page.now answer }
 {
     let mut at = 0;
     let mut ahead = answer;
@@ -57,7 +61,7 @@ pub fn find(page: &[u32], answer: u32) -> Found
 
 // That answer's words, its header too, as a part of the page itself; an empty part where `find` refuses.
 pub fn view(page: &[u32], answer: u32) -> &[u32]
-    ensures { λ r. ⌜ (now r ≡ view (now (page .entry)) answer) × (r .ptr ≡ part-ptr (page .entry .ptr) (find (now (page .entry)) answer)) ⌝ }
+    ensures { (result.now ≡ view page.now answer) × (result.ref_ptr ≡ part_ptr page.entry.ref_ptr (find page.now answer)) }
 {
     match find(page, answer) {
         Found::Part(start, end) => &page[start..end],

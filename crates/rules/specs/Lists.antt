@@ -1,6 +1,5 @@
 -- Lists: what holds of their elements, and lists one after the other.
-use mathlib.Core.List.{List, [], _∷_, _++_}
-use mathlib.Core.Logic.{_⊎_}
+use Rattle.std.specs.Prelude.{List, [], ◌∷◌, ◌++◌, ◌⊎◌}
 
 -- of every element
 abbrev pub Each : {A : Type 0} → (A → Type 0) → List A → Type 0

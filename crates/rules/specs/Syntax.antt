@@ -1,6 +1,5 @@
 -- Programs, after document 01, "Words": terms, constraints, goals, relations. What the words of a rule file stand for.
-use Prim.Native.Nat.{ℕ}
-use mathlib.Core.List.{List}
+use Rattle.std.specs.Prelude.{ℕ, List}
 
 -- "symbol p, number p, empty list"
 pub data Atom : Type 0 where

@@ -1,12 +1,10 @@
 -- The programs whose written form is accepted, if it has 1 to 16,384 words: document 01, "Words", "Bounds" and the conditions of "Turning a program away", over the syntax.
-use Prim.Native.Nat.{ℕ, _<_, _≤_}
-use mathlib.Core.Path.{_≡_}
-use mathlib.Core.Option.{Option, some, none}
-use mathlib.Core.List.{List, [], _∷_}
-use lib.ListN.{length, getElem?}
-use Rattle·rules·specs.specs.Syntax.{Atom, symbol, number, empty, Term, var, atom, pair, Constraint, differ, typed, absento, Goal, Goals, equal, constrain, conj, disj, call, one, more, Relation, Program}
-use Rattle·rules·specs.specs.Written.{written}
-use Rattle·rules·specs.specs.Settings.{most-relations, most-words}
+use Rattle.std.specs.Prelude.{ℕ, ◌<◌, ◌≤◌, ◌≡◌, List, [], ◌∷◌, length}
+use Rattle.std.proofs.Math.Option.{Option, some, none}
+use Rattle.std.proofs.Math.ListN.{get_elem?}
+use Rattle.rules.specs.Syntax.{Atom, symbol, number, empty, Term, var, atom, pair, Constraint, differ, typed, absento, Goal, Goals, equal, constrain, conj, disj, call, one, more, Relation, Program}
+use Rattle.rules.specs.Written.{written}
+use Rattle.rules.specs.Settings.{most_relations, most_words}
 
 -- payloads are below 2^28
 abbrev pub AtomGood : Atom → Type 0
@@ -49,9 +47,9 @@ unfoldable mutual
 
 -- "variables per relation 0 to 255", not "more parameters than variables"
 pub record RelationGood (R : Relation) : Type 0 where
-  pub vars-bound : R .vars ≤ 255
-  pub params-bound : R .params ≤ R .vars
-  pub body-good : GoalGood (R .vars) (R .body)
+  pub vars_bound : R.vars ≤ 255
+  pub params_bound : R.params ≤ R.vars
+  pub body_good : GoalGood R.vars R.body
 
 unfoldable pub RelationsGood : List Relation → Type 0
 RelationsGood [] = Unit {0}
@@ -60,7 +58,7 @@ RelationsGood (R ∷ Rs) = RelationGood R × RelationsGood Rs
 -- a call of a relation that is there, with as many arguments as parameters
 abbrev pub CallGood : Option Relation → ℕ → Type 0
 CallGood none args = ⊥
-CallGood (some R) args = args ≡ R .params
+CallGood (some R) args = args ≡ R.params
 
 unfoldable mutual
   pub GoalCalls : Goal → Program → Type 0
@@ -68,7 +66,7 @@ unfoldable mutual
   GoalCalls (constrain c) P = Unit {0}
   GoalCalls (conj gs) P = GoalsCalls gs P
   GoalCalls (disj gs) P = GoalsCalls gs P
-  GoalCalls (call r ts) P = CallGood (getElem? P r) (length ts)
+  GoalCalls (call r ts) P = CallGood (get_elem? P r) (length ts)
 
   pub GoalsCalls : Goals → Program → Type 0
   GoalsCalls (one g) P = GoalCalls g P
@@ -76,17 +74,17 @@ unfoldable mutual
 
 unfoldable pub RelationsCalls : List Relation → Program → Type 0
 RelationsCalls [] P = Unit {0}
-RelationsCalls (R ∷ Rs) P = GoalCalls (R .body) P × RelationsCalls Rs P
+RelationsCalls (R ∷ Rs) P = GoalCalls R.body P × RelationsCalls Rs P
 
 -- "at most 256 relations", each with its variables in range, and every call met
 pub record WellFormed (P : Program) : Type 0 where
-  pub few : length P ≤ most-relations
+  pub few : length P ≤ most_relations
   pub relations : RelationsGood P
   pub calls : RelationsCalls P P
 
 -- the written form of a well-formed program, of 1 to 16,384 words
 pub record WrittenForm (ws : List ℕ) (P : Program) : Type 0 where
-  pub is-written : ws ≡ written P
-  pub well-formed : WellFormed P
-  pub some-words : 1 ≤ length ws
-  pub few-words : length ws ≤ most-words
+  pub is_written : ws ≡ written P
+  pub well_formed : WellFormed P
+  pub some_words : 1 ≤ length ws
+  pub few_words : length ws ≤ most_words

@@ -1,21 +1,19 @@
 // Conditions 7 and 8: one pass over the calls of a program whose structure is read already.
-use crate::Condition;
-use crate::Verdict;
-use crate::part::Read;
-use crate::part::part_at;
+ghost use Rattle.std.specs.Prelude.{◌≡◌, List, ◌∷◌, ℕ, ◌+◌, length};
+ghost use Rattle.std.proofs.Math.ListN.{get_elem?};
+ghost use Rattle.rules.specs.Syntax.{Term, call, Program};
+ghost use Rattle.rules.specs.Written.{term_words};
+ghost use Rattle.rules.specs.Calls.{relations_fault};
+ghost use Rattle.rules.specs.Accept.{judge};
+ghost use Rattle.rules.specs.Verdict.{said, meaning};
+ghost use Rattle.rules.specs.Inner.{outcome, GoodTermAt, GoodTermsAt, RelationsAt, params_of, found_params, Item, goal, Rest, Moves};
+
+use crate::part::{Read, part_at};
+use crate::{Condition, Verdict};
 use word::Word;
-ghost use mathlib.Core.Path.{_≡_};
-ghost use mathlib.Core.List.{List, _∷_};
-ghost use Prim.Native.Nat.{ℕ, _+_};
-ghost use lib.ListN.{length, getElem?};
-ghost use Rattle·rules·specs.specs.Syntax.{Term, call, Program};
-ghost use Rattle·rules·specs.specs.Written.{term-words};
-ghost use Rattle·rules·specs.specs.Calls.{relations-fault};
-ghost use Rattle·rules·specs.specs.Accept.{judge};
-ghost use Rattle·rules·specs.specs.Verdict.{said, meaning};
-ghost use Rattle·rules·specs.specs.Inner.{outcome, GoodTermAt, GoodTermsAt, RelationsAt, params-of, found-params, Item, goal, Rest, Moves};
 
 // The parameters of a relation, if it is there.
+#[derive(Clone, Copy)]
 pub enum Found {
     Params(usize),
     Missing,
@@ -23,8 +21,8 @@ pub enum Found {
 
 // Past the term at `at`: a pair's first part is skipped by its payload.
 fn skip_term(program: &[u32], start: usize) -> usize
-    requires { ⌜ ((t : Term) × GoodTermAt (now program) start t) ⌝ }
-    ensures { λ r. ⌜ ((t : Term) → GoodTermAt (now (program .entry)) start t → r ≡ start + length (term-words t)) ⌝ }
+    requires { (t : Term) × GoodTermAt program.now start t }
+    ensures { (t : Term) → GoodTermAt program.now start t → result ≡ start + length (term_words t) }
 {
     let mut at = start;
     loop {
@@ -38,8 +36,8 @@ fn skip_term(program: &[u32], start: usize) -> usize
 
 // How many terms stand between `start` and `end`.
 fn count_terms(program: &[u32], start: usize, end: usize) -> usize
-    requires { ⌜ ((ts : List Term) × GoodTermsAt (now program) start end ts) ⌝ }
-    ensures { λ r. ⌜ ((ts : List Term) → GoodTermsAt (now (program .entry)) start end ts → r ≡ length ts) ⌝ }
+    requires { (ts : List Term) × GoodTermsAt program.now start end ts }
+    ensures { (ts : List Term) → GoodTermsAt program.now start end ts → result ≡ length ts }
 {
     let mut at = start;
     let mut count = 0;
@@ -52,8 +50,8 @@ fn count_terms(program: &[u32], start: usize, end: usize) -> usize
 
 // The parameters of relation `wanted`, found by going from relation to relation.
 fn find_params(program: &[u32], wanted: usize) -> Found
-    requires { ⌜ ((P : Program) × RelationsAt (now program) 0 P) ⌝ }
-    ensures { λ r. ⌜ ((P : Program) → RelationsAt (now (program .entry)) 0 P → found-params r ≡ params-of (getElem? P wanted)) ⌝ }
+    requires { (P : Program) × RelationsAt program.now 0 P }
+    ensures { (P : Program) → RelationsAt program.now 0 P → found_params result ≡ params_of (get_elem? P wanted) }
 {
     let mut at = 0;
     let mut left = wanted;
@@ -69,8 +67,8 @@ fn find_params(program: &[u32], wanted: usize) -> Found
 
 // The call at `at`: the place after it, or its fault.
 fn check_call(program: &[u32], at: usize) -> Read
-    requires { ⌜ ((P : Program) × (vars : ℕ) × (n : ℕ) × (ts : List Term) × (is : List Item) × Rest (now program) P at (goal vars (call n ts) ∷ is)) ⌝ }
-    ensures { λ r. ⌜ ((P : Program) (vars n : ℕ) (ts : List Term) (is : List Item) → Rest (now (program .entry)) P at (goal vars (call n ts) ∷ is) → Moves (now (program .entry)) P at (goal vars (call n ts) ∷ is) (outcome r)) ⌝ }
+    requires { (P : Program) × (vars : ℕ) × (n : ℕ) × (ts : List Term) × (is : List Item) × Rest program.now P at (goal vars (call n ts) ∷ is) }
+    ensures { (P : Program) (vars n : ℕ) (ts : List Term) (is : List Item) → Rest program.now P at (goal vars (call n ts) ∷ is) → Moves program.now P at (goal vars (call n ts) ∷ is) (outcome result) }
 {
     let end = at + 1 + part_at(program, at).size;
     let wanted = part_at(program, at + 1).size;
@@ -87,8 +85,8 @@ fn check_call(program: &[u32], at: usize) -> Read
 
 // The relation or goal at `at`: the place of the next one, inside it or after it, or the fault of a call.
 fn check_item(program: &[u32], at: usize) -> Read
-    requires { ⌜ ((P : Program) × (i : Item) × (is : List Item) × Rest (now program) P at (i ∷ is)) ⌝ }
-    ensures { λ r. ⌜ ((P : Program) (i : Item) (is : List Item) → Rest (now (program .entry)) P at (i ∷ is) → Moves (now (program .entry)) P at (i ∷ is) (outcome r)) ⌝ }
+    requires { (P : Program) × (i : Item) × (is : List Item) × Rest program.now P at (i ∷ is) }
+    ensures { (P : Program) (i : Item) (is : List Item) → Rest program.now P at (i ∷ is) → Moves program.now P at (i ∷ is) (outcome result) }
 {
     let part = part_at(program, at);
     let kind = part.kind;
@@ -109,8 +107,8 @@ fn check_item(program: &[u32], at: usize) -> Read
 
 // All calls.
 pub(crate) fn check_calls(program: &[u32]) -> Verdict
-    requires { ⌜ ((P : Program) × RelationsAt (now program) 0 P) ⌝ }
-    ensures { λ r. ⌜ ((P : Program) → RelationsAt (now (program .entry)) 0 P → meaning r ≡ said (judge P (relations-fault P P 0))) ⌝ }
+    requires { (P : Program) × RelationsAt program.now 0 P }
+    ensures { (P : Program) → RelationsAt program.now 0 P → meaning result ≡ said (judge P (relations_fault P P 0)) }
 {
     let mut at = 0;
     while at < program.len() {

@@ -1,20 +1,23 @@
 // Rule files in the written form: is this list of words a program, and if not, why and where? And may it be run with these settings?
+#![tactic(auto)]
+
 mod calls;
 mod part;
 mod reading;
 mod settings;
 
+ghost use Rattle.std.specs.Prelude.{◌≡◌};
+ghost use Rattle.rules.specs.Accept.{read};
+ghost use Rattle.rules.specs.Verdict.{number_of, said, meaning};
+
 use crate::part::Read;
-pub use crate::settings::SCRATCH_WORDS;
-pub use crate::settings::settings_good;
-ghost use mathlib.Core.Path.{_≡_};
-ghost use Rattle·rules·specs.specs.Accept.{read};
-ghost use Rattle·rules·specs.specs.Verdict.{number-of, said, meaning};
+pub use crate::settings::{SCRATCH_WORDS, settings_good};
 
 // The longest program, in words.
 const MOST_WORDS: usize = 16384;
 
 // The conditions 1 to 8 by which document 01 turns a program away.
+#[derive(Clone, Copy)]
 pub enum Condition {
     WordCount,
     WrongKind,
@@ -29,7 +32,7 @@ pub enum Condition {
 impl Condition {
     // The number in document 01's table.
     pub fn number(self) -> u32
-        ensures { λ r. ⌜ r ≡ number-of self ⌝ }
+        ensures { result ≡ number_of self }
     {
         match self {
             Condition::WordCount => 1,
@@ -45,6 +48,7 @@ impl Condition {
 }
 
 // What is said of a program: accepted, or the condition that it fails and the place.
+#[derive(Clone, Copy)]
 pub enum Verdict {
     Accepted,
     Refused(Condition, usize),
@@ -52,7 +56,7 @@ pub enum Verdict {
 
 // Reads the whole program: its structure first, then its calls.
 pub fn check(program: &[u32]) -> Verdict
-    ensures { λ r. ⌜ meaning r ≡ said (read (now (program .entry))) ⌝ }
+    ensures { meaning result ≡ said (read program.now) }
 {
     if program.len() < 1 {
         return Verdict::Refused(Condition::WordCount, 0);

@@ -1,18 +1,16 @@
 // Conditions 2 to 6: one reading of the words from word 0 up, to the first fault.
+ghost use Rattle.std.specs.Prelude.{◌≡◌, ◌+◌, ◌-◌, ◌*◌, ◌≤◌, ◌<◌, length};
+ghost use Rattle.rules.specs.Reading.{read_word, read_leaf, read_term, read_one, read_two, read_terms, read_tag, read_absento, read_call, read_goal, read_goals, read_body, read_variables, read_relation, read_relations};
+ghost use Rattle.rules.specs.Inner.{told, outcome, filled_told, Settles};
+
 use crate::Condition;
-use crate::part::Read;
-use crate::part::part_at;
+use crate::part::{Read, part_at};
 use word::Word;
-ghost use mathlib.Core.Path.{_≡_};
-ghost use Prim.Native.Nat.{_+_, _-_, _*_, _≤_, _<_};
-ghost use lib.ListN.{length};
-ghost use Rattle·rules·specs.specs.Reading.{read-word, read-leaf, read-term, read-one, read-two, read-terms, read-tag, read-absento, read-call, read-goal, read-goals, read-body, read-variables, read-relation, read-relations};
-ghost use Rattle·rules·specs.specs.Inner.{told, outcome, filled-told, Settles};
 
 // A word of one kind at `at`, before `end`.
 fn read_word(program: &[u32], kind: u32, at: usize, end: usize) -> Read
-    requires { ⌜ end ≤ length (now program) ⌝ }
-    ensures { λ r. ⌜ outcome r ≡ told (read-word kind (now (program .entry)) at end) ⌝ }
+    requires { end ≤ length program.now }
+    ensures { outcome result ≡ told (read_word kind program.now at end) }
 {
     if end <= at {
         return Read::Refused(Condition::WrongExtent, end);
@@ -26,7 +24,7 @@ fn read_word(program: &[u32], kind: u32, at: usize, end: usize) -> Read
 
 // What has to fill its part: a word left over is a fault, whatever it is.
 fn fill(read: Read, end: usize) -> Read
-    ensures { λ r. ⌜ outcome r ≡ filled-told (outcome read) end ⌝ }
+    ensures { outcome result ≡ filled_told (outcome read) end }
 {
     match read {
         Read::Refused(c, place) => Read::Refused(c, place),
@@ -41,8 +39,8 @@ fn fill(read: Read, end: usize) -> Read
 
 // A variable or an atom.
 fn read_leaf(kind: u32, payload: usize, vars: usize, at: usize) -> Read
-    requires { ⌜ (kind < 4) × (at < 18446744073709551615) ⌝ }
-    ensures { λ r. ⌜ outcome r ≡ told (read-leaf kind payload vars at) ⌝ }
+    requires { (kind < 4) × (at < 18446744073709551615) }
+    ensures { outcome result ≡ told (read_leaf kind payload vars at) }
 {
     if kind == Word::VARIABLE {
         if vars <= payload {
@@ -61,8 +59,8 @@ fn read_leaf(kind: u32, payload: usize, vars: usize, at: usize) -> Read
 
 // A term. First parts are read by recursion and second parts by the loop, so that a long list needs no stack.
 fn read_term(program: &[u32], vars: usize, start: usize, end: usize) -> Read
-    requires { ⌜ end ≤ length (now program) ⌝ }
-    ensures { λ r. ⌜ Settles (λ f. read-term f (now (program .entry)) vars start end) (end - start) (outcome r) ⌝ }
+    requires { end ≤ length program.now }
+    ensures { Settles (λ f. read_term f program.now vars start end) (end - start) (outcome result) }
 {
     let mut at = start;
     loop {
@@ -96,16 +94,16 @@ fn read_term(program: &[u32], vars: usize, start: usize, end: usize) -> Read
 
 // One term that fills its part.
 fn read_one(program: &[u32], vars: usize, at: usize, end: usize) -> Read
-    requires { ⌜ end ≤ length (now program) ⌝ }
-    ensures { λ r. ⌜ Settles (λ f. read-one f (now (program .entry)) vars at end) (end - at) (outcome r) ⌝ }
+    requires { end ≤ length program.now }
+    ensures { Settles (λ f. read_one f program.now vars at end) (end - at) (outcome result) }
 {
     fill(read_term(program, vars, at, end), end)
 }
 
 // Two terms that fill their part.
 fn read_two(program: &[u32], vars: usize, at: usize, end: usize) -> Read
-    requires { ⌜ end ≤ length (now program) ⌝ }
-    ensures { λ r. ⌜ Settles (λ f. read-two f (now (program .entry)) vars at end) (end - at) (outcome r) ⌝ }
+    requires { end ≤ length program.now }
+    ensures { Settles (λ f. read_two f program.now vars at end) (end - at) (outcome result) }
 {
     match read_term(program, vars, at, end) {
         Read::Refused(c, place) => Read::Refused(c, place),
@@ -115,8 +113,8 @@ fn read_two(program: &[u32], vars: usize, at: usize, end: usize) -> Read
 
 // Terms up to the end of their part.
 fn read_terms(program: &[u32], vars: usize, start: usize, end: usize) -> Read
-    requires { ⌜ end ≤ length (now program) ⌝ }
-    ensures { λ r. ⌜ Settles (λ f. read-terms f (now (program .entry)) vars start end) (end - start + 1) (outcome r) ⌝ }
+    requires { end ≤ length program.now }
+    ensures { Settles (λ f. read_terms f program.now vars start end) (end - start + 1) (outcome result) }
 {
     let mut at = start;
     while at < end {
@@ -134,8 +132,8 @@ fn read_terms(program: &[u32], vars: usize, start: usize, end: usize) -> Read
 
 // The tag of an absento: a symbol or a number.
 fn read_tag(program: &[u32], at: usize, end: usize) -> Read
-    requires { ⌜ end ≤ length (now program) ⌝ }
-    ensures { λ r. ⌜ outcome r ≡ told (read-tag (now (program .entry)) at end) ⌝ }
+    requires { end ≤ length program.now }
+    ensures { outcome result ≡ told (read_tag program.now at end) }
 {
     match read_word(program, Word::SYMBOL, at, end) {
         Read::Done(next) => Read::Done(next),
@@ -145,8 +143,8 @@ fn read_tag(program: &[u32], at: usize, end: usize) -> Read
 
 // The tag and the term of an absento.
 fn read_absento(program: &[u32], vars: usize, at: usize, end: usize) -> Read
-    requires { ⌜ end ≤ length (now program) ⌝ }
-    ensures { λ r. ⌜ Settles (λ f. read-absento f (now (program .entry)) vars at end) (end - at) (outcome r) ⌝ }
+    requires { end ≤ length program.now }
+    ensures { Settles (λ f. read_absento f program.now vars at end) (end - at) (outcome result) }
 {
     match read_tag(program, at, end) {
         Read::Refused(c, place) => Read::Refused(c, place),
@@ -156,8 +154,8 @@ fn read_absento(program: &[u32], vars: usize, at: usize, end: usize) -> Read
 
 // The relation's number and the arguments of a call.
 fn read_call(program: &[u32], vars: usize, at: usize, end: usize) -> Read
-    requires { ⌜ end ≤ length (now program) ⌝ }
-    ensures { λ r. ⌜ Settles (λ f. read-call f (now (program .entry)) vars at end) (end - at) (outcome r) ⌝ }
+    requires { end ≤ length program.now }
+    ensures { Settles (λ f. read_call f program.now vars at end) (end - at) (outcome result) }
 {
     match read_word(program, Word::NUMBER, at, end) {
         Read::Refused(c, place) => Read::Refused(c, place),
@@ -166,9 +164,10 @@ fn read_call(program: &[u32], vars: usize, at: usize, end: usize) -> Read
 }
 
 // A goal.
+#[cycle(read_goal_read_goals)]
 fn read_goal(program: &[u32], vars: usize, at: usize, end: usize) -> Read
-    requires { ⌜ end ≤ length (now program) ⌝ }
-    ensures { λ r. ⌜ Settles (λ f. read-goal f (now (program .entry)) vars at end) (2 * (end - at) + 1) (outcome r) ⌝ }
+    requires { end ≤ length program.now }
+    ensures { Settles (λ f. read_goal f program.now vars at end) (2 * (end - at) + 1) (outcome result) }
 {
     if end <= at {
         return Read::Refused(Condition::WrongExtent, end);
@@ -202,9 +201,10 @@ fn read_goal(program: &[u32], vars: usize, at: usize, end: usize) -> Read
 }
 
 // Goals, one or more, up to the end of their part.
+#[cycle(read_goal_read_goals)]
 fn read_goals(program: &[u32], vars: usize, start: usize, end: usize) -> Read
-    requires { ⌜ end ≤ length (now program) ⌝ }
-    ensures { λ r. ⌜ Settles (λ f. read-goals f (now (program .entry)) vars start end) (2 * (end - start) + 2) (outcome r) ⌝ }
+    requires { end ≤ length program.now }
+    ensures { Settles (λ f. read_goals f program.now vars start end) (2 * (end - start) + 2) (outcome result) }
 {
     let mut at = start;
     loop {
@@ -224,16 +224,16 @@ fn read_goals(program: &[u32], vars: usize, start: usize, end: usize) -> Read
 
 // A goal that fills its part.
 fn read_body(program: &[u32], vars: usize, at: usize, end: usize) -> Read
-    requires { ⌜ end ≤ length (now program) ⌝ }
-    ensures { λ r. ⌜ Settles (λ f. read-body f (now (program .entry)) vars at end) (2 * (end - at) + 1) (outcome r) ⌝ }
+    requires { end ≤ length program.now }
+    ensures { Settles (λ f. read_body f program.now vars at end) (2 * (end - at) + 1) (outcome result) }
 {
     fill(read_goal(program, vars, at, end), end)
 }
 
 // The variables word and the goal of a relation with `params` parameters.
 fn read_variables(program: &[u32], params: usize, at: usize, end: usize) -> Read
-    requires { ⌜ end ≤ length (now program) ⌝ }
-    ensures { λ r. ⌜ Settles (λ f. read-variables f (now (program .entry)) params at end) (2 * (end - at) + 1) (outcome r) ⌝ }
+    requires { end ≤ length program.now }
+    ensures { Settles (λ f. read_variables f program.now params at end) (2 * (end - at) + 1) (outcome result) }
 {
     match read_word(program, Word::NUMBER, at, end) {
         Read::Refused(c, place) => Read::Refused(c, place),
@@ -252,8 +252,8 @@ fn read_variables(program: &[u32], params: usize, at: usize, end: usize) -> Read
 
 // The relation that starts at `at`, after `before` others.
 fn read_relation(program: &[u32], before: usize, at: usize) -> Read
-    requires { ⌜ at < length (now program) ⌝ }
-    ensures { λ r. ⌜ Settles (λ f. read-relation f (now (program .entry)) before at) (2 * (length (now (program .entry)) - at) + 1) (outcome r) ⌝ }
+    requires { at < length program.now }
+    ensures { Settles (λ f. read_relation f program.now before at) (2 * (length program.now - at) + 1) (outcome result) }
 {
     let part = part_at(program, at);
     let size = part.size;
@@ -278,7 +278,7 @@ fn read_relation(program: &[u32], before: usize, at: usize) -> Read
 
 // All relations.
 pub(crate) fn read_relations(program: &[u32]) -> Read
-    ensures { λ r. ⌜ Settles (λ f. read-relations f (now (program .entry)) 0 0) (2 * length (now (program .entry)) + 2) (outcome r) ⌝ }
+    ensures { Settles (λ f. read_relations f program.now 0 0) (2 * length program.now + 2) (outcome result) }
 {
     let mut at = 0;
     let mut before = 0;

@@ -1,38 +1,38 @@
 -- The first words of a list set to 0.
-use Prim.Native.Nat.{_<_, suc, zero, ℕ}
-use mathlib.Core.List.{List, [], _++_, _∷_}
-use mathlib.Core.Path.{_≡_, ap, refl}
+use Prim.Native.Nat.{◌<◌, suc, zero, ℕ}
+use mathlib.Core.List.{List, [], ◌++◌, ◌∷◌}
+use mathlib.Core.Path.{◌≡◌, ap, refl}
 use native.Mathlib.Omega.{arith}
-use lib.ListN.{drop, getD, length, replicate, take}
-use Rattle·semantics·specs.specs.Run.{zeroed}
+use lib.ListN.{drop, get_or, length, replicate, take}
+use Rattle.semantics.specs.Run.{zeroed}
 
-pub zeroed-length : (n : ℕ) (ws : List ℕ) → length (zeroed n ws) ≡ length ws
+pub zeroed_length : (n : ℕ) (ws : List ℕ) → length (zeroed n ws) ≡ length ws
 unfolding zeroed
-zeroed-length zero ws = refl
-zeroed-length (suc n) [] = refl
-zeroed-length (suc n) (w ∷ ws) = ap suc (zeroed-length n ws)
+zeroed_length zero ws = refl
+zeroed_length (suc n) [] = refl
+zeroed_length (suc n) (w ∷ ws) = ap suc (zeroed_length n ws)
 
-pub zeroed-below : (n : ℕ) (ws : List ℕ) (i : ℕ) → i < n → getD (zeroed n ws) i 0 ≡ 0
+pub zeroed_below : (n : ℕ) (ws : List ℕ) (i : ℕ) → i < n → get_or (zeroed n ws) i 0 ≡ 0
 unfolding zeroed
-zeroed-below zero ws i h = absurd (omega arith)
-zeroed-below (suc n) [] i h = refl
-zeroed-below (suc n) (w ∷ ws) zero h = refl
-zeroed-below (suc n) (w ∷ ws) (suc i) h = zeroed-below n ws i (omega arith)
+zeroed_below zero ws i h = absurd (omega arith)
+zeroed_below (suc n) [] i h = refl
+zeroed_below (suc n) (w ∷ ws) zero h = refl
+zeroed_below (suc n) (w ∷ ws) (suc i) h = zeroed_below n ws i (omega arith)
 
-pub zeroed-beyond : (n : ℕ) (ws : List ℕ) → drop n (zeroed n ws) ≡ drop n ws
+pub zeroed_beyond : (n : ℕ) (ws : List ℕ) → drop n (zeroed n ws) ≡ drop n ws
 unfolding zeroed
-zeroed-beyond zero ws = refl
-zeroed-beyond (suc n) [] = refl
-zeroed-beyond (suc n) (w ∷ ws) = zeroed-beyond n ws
+zeroed_beyond zero ws = refl
+zeroed_beyond (suc n) [] = refl
+zeroed_beyond (suc n) (w ∷ ws) = zeroed_beyond n ws
 
-pub zeroed-all : (ws : List ℕ) → zeroed (length ws) ws ≡ replicate (length ws) 0
+pub zeroed_all : (ws : List ℕ) → zeroed (length ws) ws ≡ replicate (length ws) 0
 unfolding zeroed
-zeroed-all [] = refl
-zeroed-all (w ∷ ws) = ap (λ ws. 0 ∷ ws) (zeroed-all ws)
+zeroed_all [] = refl
+zeroed_all (w ∷ ws) = ap (λ ws. 0 ∷ ws) (zeroed_all ws)
 
 -- to set the first words to 0 in a list is to do so in these words alone, and put the others behind them
-pub zeroed-part : (n : ℕ) (ws : List ℕ) → zeroed n ws ≡ zeroed n (take n ws) ++ drop n ws
+pub zeroed_part : (n : ℕ) (ws : List ℕ) → zeroed n ws ≡ zeroed n (take n ws) ++ drop n ws
 unfolding zeroed
-zeroed-part zero ws = refl
-zeroed-part (suc n) [] = refl
-zeroed-part (suc n) (w ∷ ws) = ap (λ ws. 0 ∷ ws) (zeroed-part n ws)
+zeroed_part zero ws = refl
+zeroed_part (suc n) [] = refl
+zeroed_part (suc n) (w ∷ ws) = ap (λ ws. 0 ∷ ws) (zeroed_part n ws)

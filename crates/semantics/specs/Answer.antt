@@ -1,18 +1,14 @@
 -- The answer of a path: document 01, "One answer", and of "Steps" what the writer looks at.
-use Prim.Native.Nat.{ℕ, zero, suc, _-_}
-use mathlib.Core.List.{List, [], _∷_, _++_, map, reverse}
-use mathlib.Core.Option.{Option, none, some}
-use mathlib.Core.Bool.{Bool, true, false, _||_, _&&_, not}
-use lib.Dec.{eqb}
-use lib.ListN.{length, take}
-use Rattle·rules.specs.Syntax.{Atom, empty, Term, var, atom, pair, Sort, Constraint, differ, typed, absento, Goal, Goals, constrain, disj, one, more}
-use Rattle·rules.specs.Lists.{joined}
-use Rattle·rules.specs.Reading.{choose}
-use Rattle·rules.specs.Written.{part, terms-words, goal-words}
-use Rattle·semantics·specs.specs.Substitution.{Substitution, walk, resolve}
-use Rattle·semantics·specs.specs.Steps.{Outcome, done, and-then}
-use Rattle·semantics·specs.specs.Unify.{scan, never, member, unify-terms}
-use Rattle·semantics·specs.specs.Path.{Path}
+use Rattle.std.specs.Prelude.{ℕ, zero, suc, ◌-◌, List, [], ◌∷◌, ◌++◌, map, reverse, Bool, true, false, ◌||◌, ◌&&◌, not, eqb, length, take}
+use Rattle.std.proofs.Math.Option.{Option, none, some}
+use Rattle.rules.specs.Syntax.{Atom, empty, Term, var, atom, pair, Sort, Constraint, differ, typed, absento, Goal, Goals, constrain, disj, one, more}
+use Rattle.rules.specs.Lists.{joined}
+use Rattle.rules.specs.Reading.{choose}
+use Rattle.rules.specs.Written.{part, terms_words, goal_words}
+use Rattle.semantics.specs.Substitution.{Substitution, walk, resolve}
+use Rattle.semantics.specs.Steps.{Outcome, done, and_then}
+use Rattle.semantics.specs.Unify.{scan, never, member, unify_terms}
+use Rattle.semantics.specs.Path.{Path}
 
 -- the variables of a term, each "by first appearance", after those seen before
 abbrev pub appear : List ℕ → Term → List ℕ
@@ -21,9 +17,9 @@ appear seen (atom a) = seen
 appear seen (pair s t) = appear (appear seen s) t
 
 -- of terms one after the other
-abbrev pub appear-all : List ℕ → List Term → List ℕ
-appear-all seen [] = seen
-appear-all seen (t ∷ ts) = appear-all (appear seen t) ts
+abbrev pub appear_all : List ℕ → List Term → List ℕ
+appear_all seen [] = seen
+appear_all seen (t ∷ ts) = appear_all (appear seen t) ts
 
 -- a variable's place among the names
 abbrev pub index : ℕ → List ℕ → ℕ
@@ -39,83 +35,83 @@ reify names (pair s t) = pair (reify names s) (reify names t)
 -- What is listed of a constraint, over the path's open variables: "a type on an open variable; absento for each open variable in its term ..;
 -- differ as its trial's bindings in order", of which not all are equations that hold.
 pub data Line : Type 0 where
-  is-sort : Sort → ℕ → Line
+  is_sort : Sort → ℕ → Line
   lacks : Atom → ℕ → Line
-  not-all : List (ℕ × Term) → Line
+  not_all : List (ℕ × Term) → Line
 
 -- equations over the answer's own variables
-abbrev pub reify-bindings : List ℕ → List (ℕ × Term) → List (ℕ × Term)
-reify-bindings names [] = []
-reify-bindings names (b ∷ bs) = (index (b .0) names, reify names (b .1)) ∷ reify-bindings names bs
+abbrev pub reify_bindings : List ℕ → List (ℕ × Term) → List (ℕ × Term)
+reify_bindings names [] = []
+reify_bindings names (b ∷ bs) = (index b.0 names, reify names b.1) ∷ reify_bindings names bs
 
 -- and a line
-abbrev pub reify-line : List ℕ → Line → Line
-reify-line names (is-sort k x) = is-sort k (index x names)
-reify-line names (lacks a x) = lacks a (index x names)
-reify-line names (not-all bs) = not-all (reify-bindings names bs)
+abbrev pub reify_line : List ℕ → Line → Line
+reify_line names (is_sort k x) = is_sort k (index x names)
+reify_line names (lacks a x) = lacks a (index x names)
+reify_line names (not_all bs) = not_all (reify_bindings names bs)
 
 -- one binding of a trial, read as a disequality
-abbrev pub differ-goal : ℕ × Term → Goal
-differ-goal b = constrain (differ (var (b .0)) (b .1))
+abbrev pub differ_goal : ℕ × Term → Goal
+differ_goal b = constrain (differ (var b.0) b.1)
 
 -- several
-abbrev pub differ-goals : ℕ × Term → List (ℕ × Term) → Goals
-differ-goals b [] = one (differ-goal b)
-differ-goals b (c ∷ bs) = more (differ-goal b) (differ-goals c bs)
+abbrev pub differ_goals : ℕ × Term → List (ℕ × Term) → Goals
+differ_goals b [] = one (differ_goal b)
+differ_goals b (c ∷ bs) = more (differ_goal b) (differ_goals c bs)
 
 -- A line as a goal: "several put under one 11". A trial that binds nothing has no line, as its constraint fails: that clause is never met, and its goal never holds.
-abbrev pub line-goal : Line → Goal
-line-goal (is-sort k x) = constrain (typed k (var x))
-line-goal (lacks a x) = constrain (absento a (var x))
-line-goal (not-all []) = constrain (differ (atom empty) (atom empty))
-line-goal (not-all (b ∷ [])) = differ-goal b
-line-goal (not-all (b ∷ c ∷ bs)) = disj (differ-goals b (c ∷ bs))
+abbrev pub line_goal : Line → Goal
+line_goal (is_sort k x) = constrain (typed k (var x))
+line_goal (lacks a x) = constrain (absento a (var x))
+line_goal (not_all []) = constrain (differ (atom empty) (atom empty))
+line_goal (not_all (b ∷ [])) = differ_goal b
+line_goal (not_all (b ∷ c ∷ bs)) = disj (differ_goals b (c ∷ bs))
 
 -- are all variables among the names?
-abbrev pub vars-in : List ℕ → Term → Bool
-vars-in names (var x) = member x names
-vars-in names (atom a) = true
-vars-in names (pair s t) = vars-in names s && vars-in names t
+abbrev pub vars_in : List ℕ → Term → Bool
+vars_in names (var x) = member x names
+vars_in names (atom a) = true
+vars_in names (pair s t) = vars_in names s && vars_in names t
 
 -- of equations
-abbrev pub bindings-in : List ℕ → List (ℕ × Term) → Bool
-bindings-in names [] = true
-bindings-in names (b ∷ bs) = (member (b .0) names && vars-in names (b .1)) && bindings-in names bs
+abbrev pub bindings_in : List ℕ → List (ℕ × Term) → Bool
+bindings_in names [] = true
+bindings_in names (b ∷ bs) = (member b.0 names && vars_in names b.1) && bindings_in names bs
 
 -- of a line: else it "mentions a variable absent from the query terms"
-abbrev pub line-in : List ℕ → Line → Bool
-line-in names (is-sort k x) = member x names
-line-in names (lacks a x) = member x names
-line-in names (not-all bs) = bindings-in names bs
+abbrev pub line_in : List ℕ → Line → Bool
+line_in names (is_sort k x) = member x names
+line_in names (lacks a x) = member x names
+line_in names (not_all bs) = bindings_in names bs
 
 -- are these the same words?
-abbrev pub same-words : List ℕ → List ℕ → Bool
-same-words [] [] = true
-same-words [] (w ∷ ws) = false
-same-words (v ∷ vs) [] = false
-same-words (v ∷ vs) (w ∷ ws) = eqb v w && same-words vs ws
+abbrev pub same_words : List ℕ → List ℕ → Bool
+same_words [] [] = true
+same_words [] (w ∷ ws) = false
+same_words (v ∷ vs) [] = false
+same_words (v ∷ vs) (w ∷ ws) = eqb v w && same_words vs ws
 
 -- "the same words as an earlier one"
-abbrev pub any-same : List ℕ → List (List ℕ) → Bool
-any-same v [] = false
-any-same v (w ∷ ws) = same-words v w || any-same v ws
+abbrev pub any_same : List ℕ → List (List ℕ) → Bool
+any_same v [] = false
+any_same v (w ∷ ws) = same_words v w || any_same v ws
 
 -- a line's words in the answer: those of its goal
-abbrev pub line-words : List ℕ → Line → List ℕ
-line-words names l = goal-words (line-goal (reify-line names l))
+abbrev pub line_words : List ℕ → Line → List ℕ
+line_words names l = goal_words (line_goal (reify_line names l))
 
 -- Does a line stay, after lines of these words? "One that mentions a variable absent from the query terms is dropped (document 000), as is one with the same words as an earlier one."
 abbrev pub stays : List ℕ → List (List ℕ) → Line → Bool
-stays names before l = line-in names l && not (any-same (line-words names l) before)
+stays names before l = line_in names l && not (any_same (line_words names l) before)
 
 -- the lines that stay
 abbrev pub listed : List ℕ → List (List ℕ) → List Line → List Line
 listed names before [] = []
-listed names before (l ∷ ls) = choose (stays names before l) (λ _. l ∷ listed names (line-words names l ∷ before) ls) (λ _. listed names before ls)
+listed names before (l ∷ ls) = choose (stays names before l) (λ _. l ∷ listed names (line_words names l ∷ before) ls) (λ _. listed names before ls)
 
 -- and of lines, one after the other
-abbrev pub lines-words : List ℕ → List Line → List ℕ
-lines-words names ls = joined (map (line-words names) ls)
+abbrev pub lines_words : List ℕ → List Line → List ℕ
+lines_words names ls = joined (map (line_words names) ls)
 
 -- the query's parameters: variables i to i + n - 1
 abbrev pub parameters : ℕ → ℕ → List Term
@@ -123,62 +119,62 @@ parameters i zero = []
 parameters i (suc n) = var i ∷ parameters (suc i) n
 
 -- "the query terms with bindings followed"
-abbrev pub query-terms : Substitution → ℕ → ℕ → List Term
-query-terms bs i n = map (resolve bs) (parameters i n)
+abbrev pub query_terms : Substitution → ℕ → ℕ → List Term
+query_terms bs i n = map (resolve bs) (parameters i n)
 
 -- the open variables of the query terms, "by first appearance"
-abbrev pub names-of : Substitution → ℕ → List ℕ
-names-of bs n = appear-all [] (query-terms bs 0 n)
+abbrev pub names_of : Substitution → ℕ → List ℕ
+names_of bs n = appear_all [] (query_terms bs 0 n)
 
 -- "15:n, then the query terms .. Then the path's constraints in order"
-abbrev pub answer-words : Substitution → ℕ → List Line → List ℕ
-answer-words bs n lines = let names = names-of bs n in part 15 (terms-words (map (reify names) (query-terms bs 0 n)) ++ lines-words names (listed names [] lines))
+abbrev pub answer_words : Substitution → ℕ → List Line → List ℕ
+answer_words bs n lines = let names = names_of bs n in part 15 (terms_words (map (reify names) (query_terms bs 0 n)) ++ lines_words names (listed names [] lines))
 
 -- a trial's bindings "in order": what unification put in front of bs, oldest first
-abbrev pub trial-bindings : Substitution → Substitution → List (ℕ × Term)
-trial-bindings bs bs′ = reverse (take (length bs′ - length bs) bs′)
+abbrev pub trial_bindings : Substitution → Substitution → List (ℕ × Term)
+trial_bindings bs bs' = reverse (take (length bs' - length bs) bs')
 
 -- "right sides followed through the path's bindings"
-abbrev pub resolve-right : Substitution → List (ℕ × Term) → List (ℕ × Term)
-resolve-right bs [] = []
-resolve-right bs (b ∷ cs) = (b .0, resolve bs (b .1)) ∷ resolve-right bs cs
+abbrev pub resolve_right : Substitution → List (ℕ × Term) → List (ℕ × Term)
+resolve_right bs [] = []
+resolve_right bs (b ∷ cs) = (b.0, resolve bs b.1) ∷ resolve_right bs cs
 
 -- looks at all nodes of terms, one term after the other
-abbrev pub look-through : Substitution → List Term → ℕ → Outcome (Unit {0})
-look-through bs [] left = done tt left
-look-through bs (t ∷ ts) left = and-then (scan never bs [] t left) (λ _ l. look-through bs ts l)
+abbrev pub look_through : Substitution → List Term → ℕ → Outcome (Unit {0})
+look_through bs [] left = done tt left
+look_through bs (t ∷ ts) left = and_then (scan never bs [] t left) (λ _ l. look_through bs ts l)
 
 -- "a type on an open variable .. What holds already is not listed."
-abbrev pub typed-lines : Sort → Term → List Line
-typed-lines k (var x) = is-sort k x ∷ []
-typed-lines k (atom a) = []
-typed-lines k (pair s t) = []
+abbrev pub typed_lines : Sort → Term → List Line
+typed_lines k (var x) = is_sort k x ∷ []
+typed_lines k (atom a) = []
+typed_lines k (pair s t) = []
 
 -- "absento for each open variable in its term, by first occurrence"
-abbrev pub lacks-each : Atom → List ℕ → List Line
-lacks-each a [] = []
-lacks-each a (x ∷ xs) = lacks a x ∷ lacks-each a xs
+abbrev pub lacks_each : Atom → List ℕ → List Line
+lacks_each a [] = []
+lacks_each a (x ∷ xs) = lacks a x ∷ lacks_each a xs
 
 -- "a trial's pairs, then, unless it failed, its right sides"
-abbrev pub trial-lines : Substitution → Option Substitution → ℕ → Outcome (List Line)
-trial-lines bs none left = done [] left
-trial-lines bs (some bs′) left =
-    and-then (look-through bs (map (λ (b : ℕ × Term). b .1) (trial-bindings bs bs′)) left) (λ _ l. done (not-all (resolve-right bs (trial-bindings bs bs′)) ∷ []) l)
+abbrev pub trial_lines : Substitution → Option Substitution → ℕ → Outcome (List Line)
+trial_lines bs none left = done [] left
+trial_lines bs (some bs') left =
+    and_then (look_through bs (map (λ (b : ℕ × Term). b.1) (trial_bindings bs bs')) left) (λ _ l. done (not_all (resolve_right bs (trial_bindings bs bs')) ∷ []) l)
 
 -- "goes once through each constraint: type terms, absento's terms, and a trial's pairs"
-abbrev pub lines-of : Substitution → Constraint → ℕ → Outcome (List Line)
-lines-of bs (differ s t) left = and-then (unify-terms bs s t left) (λ r l. trial-lines bs r l)
-lines-of bs (typed k t) left = and-then (scan never bs [] t left) (λ _ l. done (typed-lines k (walk bs t)) l)
-lines-of bs (absento a t) left = and-then (scan never bs [] t left) (λ _ l. done (lacks-each a (appear [] (resolve bs t))) l)
+abbrev pub lines_of : Substitution → Constraint → ℕ → Outcome (List Line)
+lines_of bs (differ s t) left = and_then (unify_terms bs s t left) (λ r l. trial_lines bs r l)
+lines_of bs (typed k t) left = and_then (scan never bs [] t left) (λ _ l. done (typed_lines k (walk bs t)) l)
+lines_of bs (absento a t) left = and_then (scan never bs [] t left) (λ _ l. done (lacks_each a (appear [] (resolve bs t))) l)
 
 -- "the path's constraints in order"
-abbrev pub all-lines : Substitution → List Constraint → ℕ → Outcome (List Line)
-all-lines bs [] left = done [] left
-all-lines bs (c ∷ cs) left = and-then (lines-of bs c left) (λ ls l. and-then (all-lines bs cs l) (λ ms m. done (ls ++ ms) m))
+abbrev pub all_lines : Substitution → List Constraint → ℕ → Outcome (List Line)
+all_lines bs [] left = done [] left
+all_lines bs (c ∷ cs) left = and_then (lines_of bs c left) (λ ls l. and_then (all_lines bs cs l) (λ ms m. done (ls ++ ms) m))
 
 -- "The writer looks at the query terms, then goes once through each constraint": the words of the answer of a path, with n query terms
 abbrev pub answer : Path → ℕ → ℕ → Outcome (List ℕ)
 answer p n left =
-    and-then (look-through (p .bindings) (parameters 0 n) left) (λ _ l.
-    and-then (all-lines (p .bindings) (p .kept) l) (λ lines m.
-    done (answer-words (p .bindings) n lines) m))
+    and_then (look_through p.bindings (parameters 0 n) left) (λ _ l.
+    and_then (all_lines p.bindings p.kept l) (λ lines m.
+    done (answer_words p.bindings n lines) m))

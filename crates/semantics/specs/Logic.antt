@@ -1,11 +1,9 @@
 -- The relations read as plain logic, without a search: document 01, "Logic without a search".
-use Prim.Native.Nat.{ℕ, zero, suc, _+_}
-use mathlib.Core.Path.{_≡_}
-use mathlib.Core.List.{List, [], _∷_, map}
-use mathlib.Core.Option.{some}
-use lib.ListN.{getElem?}
-use Rattle·rules.specs.Syntax.{Atom, symbol, number, empty, Term, var, atom, pair, Sort, symbols, numbers, Constraint, differ, typed, absento, Goal, Goals, equal, constrain, conj, disj, call, one, more, Relation, Program}
-use Rattle·rules.specs.WellFormed.{AtomGood}
+use Rattle.std.specs.Prelude.{ℕ, zero, suc, ◌+◌, ◌≡◌, List, [], ◌∷◌, map}
+use Rattle.std.proofs.Math.Option.{some}
+use Rattle.std.proofs.Math.ListN.{get_elem?}
+use Rattle.rules.specs.Syntax.{Atom, symbol, number, empty, Term, var, atom, pair, Sort, symbols, numbers, Constraint, differ, typed, absento, Goal, Goals, equal, constrain, conj, disj, call, one, more, Relation, Program}
+use Rattle.rules.specs.WellFormed.{AtomGood}
 
 -- "A tree, or variable-free term, is an atom .. or a pair of trees, and is finite."
 pub data Tree : Type 0 where
@@ -63,30 +61,30 @@ module _ (P : Program) where
     -- "Under it a goal holds with n calls in just these cases."
     pub data Holds : Assignment → Goal → ℕ → Type 0 where
       -- "Equal: the trees are the same .. with n = 0"
-      equal-holds : {ρ : Assignment} {s t : Term} → value ρ s ≡ value ρ t → Holds ρ (equal s t) 0
-      constrain-holds : {ρ : Assignment} {c : Constraint} → Meets ρ c → Holds ρ (constrain c) 0
-      conj-holds : {ρ : Assignment} {gs : Goals} {n : ℕ} → All ρ gs n → Holds ρ (conj gs) n
-      disj-holds : {ρ : Assignment} {gs : Goals} {n : ℕ} → Any ρ gs n → Holds ρ (disj gs) n
+      equal_holds : {ρ : Assignment} {s t : Term} → value ρ s ≡ value ρ t → Holds ρ (equal s t) 0
+      constrain_holds : {ρ : Assignment} {c : Constraint} → Meets ρ c → Holds ρ (constrain c) 0
+      conj_holds : {ρ : Assignment} {gs : Goals} {n : ℕ} → All ρ gs n → Holds ρ (conj gs) n
+      disj_holds : {ρ : Assignment} {gs : Goals} {n : ℕ} → Any ρ gs n → Holds ρ (disj gs) n
       -- "Call: under some assignment that gives the called relation's parameters the arguments' trees, its goal holds, and n is 1 more than that goal's number."
-      call-holds : {ρ : Assignment} {r : ℕ} {ts : List Term} {n : ℕ} (R : Relation) (ρ′ : Assignment) →
-          getElem? P r ≡ some R → AllProper ρ′ → firsts (R .params) ρ′ ≡ map (value ρ) ts → Holds ρ′ (R .body) n → Holds ρ (call r ts) (suc n)
+      call_holds : {ρ : Assignment} {r : ℕ} {ts : List Term} {n : ℕ} (R : Relation) (ρ' : Assignment) →
+          get_elem? P r ≡ some R → AllProper ρ' → firsts R.params ρ' ≡ map (value ρ) ts → Holds ρ' R.body n → Holds ρ (call r ts) (suc n)
 
     -- "Conjunction: every goal holds, and n is the sum of their numbers."
     pub data All : Assignment → Goals → ℕ → Type 0 where
-      all-one : {ρ : Assignment} {g : Goal} {n : ℕ} → Holds ρ g n → All ρ (one g) n
-      all-more : {ρ : Assignment} {g : Goal} {gs : Goals} {m n : ℕ} → Holds ρ g m → All ρ gs n → All ρ (more g gs) (m + n)
+      all_one : {ρ : Assignment} {g : Goal} {n : ℕ} → Holds ρ g n → All ρ (one g) n
+      all_more : {ρ : Assignment} {g : Goal} {gs : Goals} {m n : ℕ} → Holds ρ g m → All ρ gs n → All ρ (more g gs) (m + n)
 
     -- "Disjunction: one alternative holds with n."
     pub data Any : Assignment → Goals → ℕ → Type 0 where
-      any-one : {ρ : Assignment} {g : Goal} {n : ℕ} → Holds ρ g n → Any ρ (one g) n
-      any-first : {ρ : Assignment} {g : Goal} {gs : Goals} {n : ℕ} → Holds ρ g n → Any ρ (more g gs) n
-      any-later : {ρ : Assignment} {g : Goal} {gs : Goals} {n : ℕ} → Any ρ gs n → Any ρ (more g gs) n
+      any_one : {ρ : Assignment} {g : Goal} {n : ℕ} → Holds ρ g n → Any ρ (one g) n
+      any_first : {ρ : Assignment} {g : Goal} {gs : Goals} {n : ℕ} → Holds ρ g n → Any ρ (more g gs) n
+      any_later : {ρ : Assignment} {g : Goal} {gs : Goals} {n : ℕ} → Any ρ gs n → Any ρ (more g gs) n
 
   -- "The relations give a tuple with n calls if relation 0's goal holds with n under some assignment that gives its parameters the tuple."
   pub record Gives (tuple : List Tree) (n : ℕ) : Type 0 where
     pub query : Relation
-    pub is-query : getElem? P 0 ≡ some query
+    pub is_query : get_elem? P 0 ≡ some query
     pub assignment : Assignment
     pub proper : AllProper assignment
-    pub is-tuple : firsts (query .params) assignment ≡ tuple
-    pub holds : Holds assignment (query .body) n
+    pub is_tuple : firsts query.params assignment ≡ tuple
+    pub holds : Holds assignment query.body n

@@ -1,19 +1,17 @@
 -- The starred runs of document 01, "Runs to reproduce", its run with 255 variables, and small runs for "Errors this trade has made", for the order of answers and lines, for the
 -- branches cut in the last completed round, for the occurs check, for repeats, and for each bound of a path, as one list of rows.
-use Prim.Native.Nat.{ℕ, zero, suc}
-use mathlib.Core.List.{List, [], _∷_, _++_, map}
-use lib.ListN.{length}
-use Rattle·word.specs.Word.{word}
-use Rattle·rules.specs.Lists.{joined}
-use Rattle·rules.specs.Written.{part}
-use Rattle·semantics·specs.specs.Steps as bound
-use Rattle·semantics·specs.specs.Round.{End, finished, rounds-used, steps-used, output-full, path-limit, Answer, Result}
+use Rattle.std.specs.Prelude.{ℕ, zero, suc, List, [], ◌∷◌, ◌++◌, map, length}
+use Rattle.word.specs.Word.{word}
+use Rattle.rules.specs.Lists.{joined}
+use Rattle.rules.specs.Written.{part}
+use Rattle.semantics.specs.Steps as bound
+use Rattle.semantics.specs.Round.{End, finished, rounds_used, steps_used, output_full, path_limit, Answer, Result}
 
 -- a program's words, round limit, step limit, output length, and the result with a scratch that is long enough
 pub record Row : Type 0 where
   pub words : List ℕ
-  pub round-limit : ℕ
-  pub step-limit : ℕ
+  pub round_limit : ℕ
+  pub step_limit : ℕ
   pub output : ℕ
   pub expected : Result
 
@@ -101,20 +99,20 @@ conjunctions zero goal = goal
 conjunctions (suc n) goal = part 10 (conjunctions n goal)
 
 -- relation 0 calls relation 1, which makes its parameter 1:7: round 0 cuts a branch, and round 1 none
-abbrev pub one-call : List ℕ
-one-call = part 13 (word 2 1 ∷ word 2 1 ∷ word 12 2 ∷ word 2 1 ∷ word 0 0 ∷ []) ++ part 13 (word 2 1 ∷ word 2 1 ∷ word 5 2 ∷ word 0 0 ∷ word 1 7 ∷ [])
+abbrev pub one_call : List ℕ
+one_call = part 13 (word 2 1 ∷ word 2 1 ∷ word 12 2 ∷ word 2 1 ∷ word 0 0 ∷ []) ++ part 13 (word 2 1 ∷ word 2 1 ∷ word 5 2 ∷ word 0 0 ∷ word 1 7 ∷ [])
 
 -- relation 1 calls itself in two alternatives: rounds 0, 1, 2 and 3 cut 1, 2, 4 and 8 branches
 abbrev pub doubling : List ℕ
 doubling = query (word 12 1 ∷ word 2 1 ∷ []) ++ part 13 (word 2 0 ∷ word 2 0 ∷ part 11 (word 12 1 ∷ word 2 1 ∷ word 12 1 ∷ word 2 1 ∷ []))
 
 -- the same with 255 variables: in round 9 the ninth call has no room for them
-abbrev pub doubling-variables : List ℕ
-doubling-variables = query (word 12 1 ∷ word 2 1 ∷ []) ++ part 13 (word 2 0 ∷ word 2 255 ∷ part 11 (word 12 1 ∷ word 2 1 ∷ word 12 1 ∷ word 2 1 ∷ []))
+abbrev pub doubling_variables : List ℕ
+doubling_variables = query (word 12 1 ∷ word 2 1 ∷ []) ++ part 13 (word 2 0 ∷ word 2 255 ∷ part 11 (word 12 1 ∷ word 2 1 ∷ word 12 1 ∷ word 2 1 ∷ []))
 
 -- `doubling` with a third alternative, in which the relation's parameter is 5
-abbrev pub doubling-five : List ℕ
-doubling-five =
+abbrev pub doubling_five : List ℕ
+doubling_five =
     part 13 (word 2 1 ∷ word 2 1 ∷ word 12 2 ∷ word 2 1 ∷ word 0 0 ∷ [])
     ++ part 13 (word 2 1 ∷ word 2 1 ∷ part 11 (word 12 2 ∷ word 2 1 ∷ word 0 0 ∷ word 12 2 ∷ word 2 1 ∷ word 0 0 ∷ word 5 2 ∷ word 0 0 ∷ word 2 5 ∷ []))
 
@@ -141,43 +139,43 @@ abbrev pub T : List ℕ
 T = query (part 10 (symbols 128 again))
 
 -- the pair of a term and the empty list
-abbrev pub with-empty : List ℕ → List ℕ
-with-empty term = word 4 (length term) ∷ (term ++ (word 3 0 ∷ []))
+abbrev pub with_empty : List ℕ → List ℕ
+with_empty term = word 4 (length term) ∷ (term ++ (word 3 0 ∷ []))
 
 -- a term inside so many of them, each time the first part
 abbrev pub nested : ℕ → List ℕ → List ℕ
 nested zero term = term
-nested (suc n) term = with-empty (nested n term)
+nested (suc n) term = with_empty (nested n term)
 
 -- a relation, called with the empty list, has absento 7 in its parameter and calls itself with the parameter 128 pairs deeper: in the sixth call one node too many waits
 abbrev pub W : List ℕ
 W = query (word 12 2 ∷ word 2 1 ∷ word 3 0 ∷ []) ++ part 13 (word 2 1 ∷ word 2 1 ∷ part 10 (word 9 2 ∷ word 1 7 ∷ word 0 0 ∷ part 12 (word 2 1 ∷ nested 128 (word 0 0 ∷ []))))
 
 -- an alternative for each of symbolo and numbero of a symbol and a number: those that hold
-abbrev pub atoms-typed : List ℕ
-atoms-typed =
-    part 13 (word 2 1 ∷ word 2 1 ∷ part 11 (typed-as 7 (word 1 7) ++ (typed-as 7 (word 2 7) ++ (typed-as 8 (word 1 8) ++ typed-as 8 (word 2 8)))))
+abbrev pub atoms_typed : List ℕ
+atoms_typed =
+    part 13 (word 2 1 ∷ word 2 1 ∷ part 11 (typed_as 7 (word 1 7) ++ (typed_as 7 (word 2 7) ++ (typed_as 8 (word 1 8) ++ typed_as 8 (word 2 8)))))
   where
     -- q equal to an atom, and of a type
-    typed-as : ℕ → ℕ → List ℕ
-    typed-as kind atom = part 10 (part 5 (word 0 0 ∷ atom ∷ []) ++ part kind (word 0 0 ∷ []))
+    typed_as : ℕ → ℕ → List ℕ
+    typed_as kind atom = part 10 (part 5 (word 0 0 ∷ atom ∷ []) ++ part kind (word 0 0 ∷ []))
 
 -- q equal to the pair (x, y), absento 7 in q, differ of (x, y) and ((y, 1:1), 2:2): names by first appearance, absento by first occurrence, right sides through the path's bindings
-abbrev pub in-order : List ℕ
-in-order =
+abbrev pub in_order : List ℕ
+in_order =
     word 13 20 ∷ word 2 1 ∷ word 2 3 ∷ word 10 17 ∷ word 5 4 ∷ word 0 0 ∷ word 4 1 ∷ word 0 1 ∷ word 0 2 ∷ word 9 2 ∷ word 1 7 ∷ word 0 0 ∷ word 6 8 ∷ word 4 1 ∷ word 0 1
     ∷ word 0 2 ∷ word 4 3 ∷ word 4 1 ∷ word 0 2 ∷ word 1 1 ∷ word 2 2 ∷ []
 
 -- 1:1 equal to 1:2, and different from it
-abbrev pub atoms-equal : List ℕ
-atoms-equal = word 13 5 ∷ word 2 0 ∷ word 2 0 ∷ word 5 2 ∷ word 1 1 ∷ word 1 2 ∷ []
+abbrev pub atoms_equal : List ℕ
+atoms_equal = word 13 5 ∷ word 2 0 ∷ word 2 0 ∷ word 5 2 ∷ word 1 1 ∷ word 1 2 ∷ []
 
-abbrev pub atoms-differ : List ℕ
-atoms-differ = word 13 5 ∷ word 2 0 ∷ word 2 0 ∷ word 6 2 ∷ word 1 1 ∷ word 1 2 ∷ []
+abbrev pub atoms_differ : List ℕ
+atoms_differ = word 13 5 ∷ word 2 0 ∷ word 2 0 ∷ word 6 2 ∷ word 1 1 ∷ word 1 2 ∷ []
 
 -- symbolo(q), then q equal to q: nothing is bound, so nothing is reviewed again
-abbrev pub bound-nothing : List ℕ
-bound-nothing = word 13 8 ∷ word 2 1 ∷ word 2 1 ∷ word 10 5 ∷ word 7 1 ∷ word 0 0 ∷ word 5 2 ∷ word 0 0 ∷ word 0 0 ∷ []
+abbrev pub bound_nothing : List ℕ
+bound_nothing = word 13 8 ∷ word 2 1 ∷ word 2 1 ∷ word 10 5 ∷ word 7 1 ∷ word 0 0 ∷ word 5 2 ∷ word 0 0 ∷ word 0 0 ∷ []
 
 -- The occurs check of document 02, Note 10: variables that are bound to the pair of two empty lists, and then met again.
 
@@ -186,48 +184,48 @@ abbrev pub conjoined : ℕ → List ℕ → List ℕ
 conjoined vars goals = part 13 (word 2 0 ∷ word 2 vars ∷ part 10 goals)
 
 -- the variable x equal to the pair
-abbrev pub is-pair : ℕ → List ℕ
-is-pair x = part 5 (word 0 x ∷ with-empty (word 3 0 ∷ []))
+abbrev pub is_pair : ℕ → List ℕ
+is_pair x = part 5 (word 0 x ∷ with_empty (word 3 0 ∷ []))
 
 -- then y equal to (x, x), or different from it: a second arrival is one step and nothing below it is looked at, in a trial too
-abbrev pub met-twice : ℕ → List ℕ
-met-twice kind = conjoined 2 (is-pair 0 ++ part kind (word 0 1 ∷ word 4 1 ∷ word 0 0 ∷ word 0 0 ∷ []))
+abbrev pub met_twice : ℕ → List ℕ
+met_twice kind = conjoined 2 (is_pair 0 ++ part kind (word 0 1 ∷ word 4 1 ∷ word 0 0 ∷ word 0 0 ∷ []))
 
 -- with x and y bound to one pair, z equal to (x, y): the mark is on the variable, not on the value
-abbrev pub one-value : List ℕ
-one-value = conjoined 3 (is-pair 0 ++ (part 5 (word 0 1 ∷ word 0 0 ∷ []) ++ part 5 (word 0 2 ∷ word 4 1 ∷ word 0 0 ∷ word 0 1 ∷ [])))
+abbrev pub one_value : List ℕ
+one_value = conjoined 3 (is_pair 0 ++ (part 5 (word 0 1 ∷ word 0 0 ∷ []) ++ part 5 (word 0 2 ∷ word 4 1 ∷ word 0 0 ∷ word 0 1 ∷ [])))
 
 -- one variable for two parameters: a parameter leads on through its argument
-abbrev pub two-parameters : List ℕ
-two-parameters =
-    conjoined 1 (is-pair 0 ++ part 12 (word 2 1 ∷ word 0 0 ∷ word 0 0 ∷ []))
+abbrev pub two_parameters : List ℕ
+two_parameters =
+    conjoined 1 (is_pair 0 ++ part 12 (word 2 1 ∷ word 0 0 ∷ word 0 0 ∷ []))
     ++ part 13 (word 2 2 ∷ word 2 3 ∷ part 5 (word 0 2 ∷ word 4 1 ∷ word 0 0 ∷ word 0 1 ∷ []))
 
 -- with z equal to (y, nil), (x, y) equal to (z', z') for z' = (z, nil): what the check of x entered, that of y enters anew, and finds y in it
-abbrev pub two-checks : List ℕ
-two-checks =
-    conjoined 3 (part 5 (word 0 2 ∷ with-empty (word 0 1 ∷ [])) ++ part 5 (word 4 1 ∷ word 0 0 ∷ word 0 1 ∷ (part 4 (with-empty (word 0 2 ∷ [])) ++ with-empty (word 0 2 ∷ []))))
+abbrev pub two_checks : List ℕ
+two_checks =
+    conjoined 3 (part 5 (word 0 2 ∷ with_empty (word 0 1 ∷ [])) ++ part 5 (word 4 1 ∷ word 0 0 ∷ word 0 1 ∷ (part 4 (with_empty (word 0 2 ∷ [])) ++ with_empty (word 0 2 ∷ []))))
 
 -- x, y and z in a chain, the last bound to the pair, and a term with the first two: the mark is on the last variable of a way
-abbrev pub two-ways : List ℕ
-two-ways = conjoined 4 (part 5 (word 0 0 ∷ word 0 1 ∷ []) ++ (part 5 (word 0 1 ∷ word 0 2 ∷ []) ++ (is-pair 2 ++ part 5 (word 0 3 ∷ word 4 1 ∷ word 0 0 ∷ word 0 1 ∷ []))))
+abbrev pub two_ways : List ℕ
+two_ways = conjoined 4 (part 5 (word 0 0 ∷ word 0 1 ∷ []) ++ (part 5 (word 0 1 ∷ word 0 2 ∷ []) ++ (is_pair 2 ++ part 5 (word 0 3 ∷ word 4 1 ∷ word 0 0 ∷ word 0 1 ∷ []))))
 
 -- y equal to (x, (x, y)): y is found behind the second arrival
-abbrev pub found-behind : List ℕ
-found-behind = conjoined 2 (is-pair 0 ++ part 5 (word 0 1 ∷ word 4 1 ∷ word 0 0 ∷ word 4 1 ∷ word 0 0 ∷ word 0 1 ∷ []))
+abbrev pub found_behind : List ℕ
+found_behind = conjoined 2 (is_pair 0 ++ part 5 (word 0 1 ∷ word 4 1 ∷ word 0 0 ∷ word 4 1 ∷ word 0 0 ∷ word 0 1 ∷ []))
 
 -- each call doubles its parameter, and has an alternative with an occurs check of it, which fails: with old checks the 12 rounds took 33,115 steps
 abbrev pub doubled : List ℕ
 doubled =
-    part 13 (word 2 0 ∷ word 2 0 ∷ part 12 (word 2 1 ∷ with-empty (word 3 0 ∷ [])))
+    part 13 (word 2 0 ∷ word 2 0 ∷ part 12 (word 2 1 ∷ with_empty (word 3 0 ∷ [])))
     ++ part 13 (word 2 1 ∷ word 2 2 ∷ part 11 (part 5 (word 0 1 ∷ word 4 1 ∷ word 0 0 ∷ word 0 1 ∷ []) ++ part 12 (word 2 1 ∷ word 4 1 ∷ word 0 0 ∷ word 0 0 ∷ [])))
 
 -- absento in (x, x), and (x, x) for a query term: these looks enter x each time
-abbrev pub absence-twice : List ℕ
-absence-twice = conjoined 1 (is-pair 0 ++ part 9 (word 1 7 ∷ word 4 1 ∷ word 0 0 ∷ word 0 0 ∷ []))
+abbrev pub absence_twice : List ℕ
+absence_twice = conjoined 1 (is_pair 0 ++ part 9 (word 1 7 ∷ word 4 1 ∷ word 0 0 ∷ word 0 0 ∷ []))
 
-abbrev pub query-twice : List ℕ
-query-twice = part 13 (word 2 1 ∷ word 2 2 ∷ part 10 (is-pair 1 ++ part 5 (word 0 0 ∷ word 4 1 ∷ word 0 1 ∷ word 0 1 ∷ [])))
+abbrev pub query_twice : List ℕ
+query_twice = part 13 (word 2 1 ∷ word 2 2 ∷ part 10 (is_pair 1 ++ part 5 (word 0 0 ∷ word 4 1 ∷ word 0 1 ∷ word 0 1 ∷ [])))
 
 -- the answer to a query without terms
 abbrev pub yes : List ℕ
@@ -238,14 +236,14 @@ abbrev pub either : List ℕ → List ℕ
 either atoms = part 13 (word 2 1 ∷ word 2 1 ∷ part 11 (joined (map (λ (w : ℕ). word 5 2 ∷ word 0 0 ∷ w ∷ []) atoms)))
 
 -- relation 1 makes its parameter 5, or calls itself, or makes it 6: round 2 gives both answers of round 1 again
-abbrev pub five-or-six : List ℕ
-five-or-six =
+abbrev pub five_or_six : List ℕ
+five_or_six =
     part 13 (word 2 1 ∷ word 2 1 ∷ word 12 2 ∷ word 2 1 ∷ word 0 0 ∷ [])
     ++ part 13 (word 2 1 ∷ word 2 1 ∷ part 11 (word 5 2 ∷ word 0 0 ∷ word 2 5 ∷ word 12 2 ∷ word 2 1 ∷ word 0 0 ∷ word 5 2 ∷ word 0 0 ∷ word 2 6 ∷ []))
 
 -- two alternatives that hold, of a query without parameters: the answer's words are its header alone
-abbrev pub holds-twice : List ℕ
-holds-twice = query (part 11 (word 5 2 ∷ word 3 0 ∷ word 3 0 ∷ word 5 2 ∷ word 3 0 ∷ word 3 0 ∷ []))
+abbrev pub holds_twice : List ℕ
+holds_twice = query (part 11 (word 5 2 ∷ word 3 0 ∷ word 3 0 ∷ word 5 2 ∷ word 3 0 ∷ word 3 0 ∷ []))
 
 -- symbolo(q), numbero(q) or symbolo(q): the first two answers differ in a constraint
 abbrev pub sorts : List ℕ
@@ -261,19 +259,19 @@ five = word 15 1 ∷ word 2 5 ∷ []
 
 -- a row in one line
 abbrev pub row : List ℕ → ℕ → ℕ → ℕ → End → ℕ → ℕ → List Answer → ℕ → Row
-row words round-limit step-limit output end round steps answers cut =
-    record { words = words; round-limit = round-limit; step-limit = step-limit; output = output; expected = record { end = end; round = round; steps = steps; answers = answers; cut = cut } }
+row words round_limit step_limit output end round steps answers cut =
+    record { words = words; round_limit = round_limit; step_limit = step_limit; output = output; expected = record { end = end; round = round; steps = steps; answers = answers; cut = cut } }
 
 -- each with its round limit, step limit and output length: the listing program's, but for what the run says; then the end, the round, the steps, the answers and the branches cut
 abbrev pub rows : List Row
 rows =
     row A 16 1000000 4096 finished 0 4 ((0, seven) ∷ []) 0
-    ∷ row A 16 3 4096 steps-used 0 3 [] 0
-    ∷ row A 16 1000000 1 output-full 0 4 [] 0
+    ∷ row A 16 3 4096 steps_used 0 3 [] 0
+    ∷ row A 16 1000000 1 output_full 0 4 [] 0
     ∷ row A 16 1000000 2 finished 0 4 ((0, seven) ∷ []) 0
     ∷ row B 16 1000000 4096 finished 0 4 [] 0
-    ∷ row C 2 1000000 4096 rounds-used 2 20 ((1, five) ∷ []) 1
-    ∷ row C 0 1000000 4096 rounds-used 0 1 [] 1
+    ∷ row C 2 1000000 4096 rounds_used 2 20 ((1, five) ∷ []) 1
+    ∷ row C 0 1000000 4096 rounds_used 0 1 [] 1
     ∷ row D 16 1000000 4096 finished 0 8 ((0, word 15 4 ∷ word 0 0 ∷ word 6 2 ∷ word 0 0 ∷ word 2 5 ∷ []) ∷ []) 0
     ∷ row E 16 1000000 4096 finished 0 5 [] 0
     ∷ row F 16 1000000 4096 finished 0 12 ((0, seven) ∷ []) 0
@@ -289,45 +287,45 @@ rows =
     ∷ row (L (word 1 7)) 16 1000000 4096 finished 0 9 ((0, word 15 4 ∷ word 0 0 ∷ word 9 2 ∷ word 1 7 ∷ word 0 0 ∷ []) ∷ []) 0
     ∷ row (L (word 2 7)) 16 1000000 4096 finished 0 9 ((0, word 15 4 ∷ word 0 0 ∷ word 9 2 ∷ word 2 7 ∷ word 0 0 ∷ []) ∷ []) 0
     ∷ row M 16 1000000 4096 finished 0 9 ((0, word 15 1 ∷ word 1 1 ∷ []) ∷ (0, word 15 1 ∷ word 1 2 ∷ []) ∷ []) 0
-    ∷ row M 16 1000000 3 output-full 0 9 ((0, word 15 1 ∷ word 1 1 ∷ []) ∷ []) 0
-    ∷ row M 16 8 4096 steps-used 0 8 ((0, word 15 1 ∷ word 1 1 ∷ []) ∷ []) 0
+    ∷ row M 16 1000000 3 output_full 0 9 ((0, word 15 1 ∷ word 1 1 ∷ []) ∷ []) 0
+    ∷ row M 16 8 4096 steps_used 0 8 ((0, word 15 1 ∷ word 1 1 ∷ []) ∷ []) 0
     ∷ row N 16 1000000 4096 finished 0 17 ((0, word 15 9 ∷ word 0 0 ∷ word 0 1 ∷ word 8 1 ∷ word 0 1 ∷ word 6 2 ∷ word 0 0 ∷ word 2 5 ∷ word 8 1 ∷ word 0 0 ∷ []) ∷ []) 0
     ∷ row O 16 1000000 4096 finished 0 23 ((0, word 15 6 ∷ word 0 0 ∷ word 8 1 ∷ word 0 0 ∷ word 6 2 ∷ word 0 0 ∷ word 2 5 ∷ []) ∷ []) 0
-    ∷ row atoms-typed 16 1000000 4096 finished 0 29 ((0, seven) ∷ (0, word 15 1 ∷ word 2 8 ∷ []) ∷ []) 0
-    ∷ row in-order 16 1000000 4096 finished 0 37 ((0, word 15 18 ∷ word 4 1 ∷ word 0 0 ∷ word 0 1 ∷ word 9 2 ∷ word 1 7 ∷ word 0 0 ∷ word 9 2 ∷ word 1 7 ∷ word 0 1 ∷ word 11 8 ∷ word 6 4 ∷ word 0 0 ∷ word 4 1 ∷ word 0 1 ∷ word 1 1 ∷ word 6 2 ∷ word 0 1 ∷ word 2 2 ∷ []) ∷ []) 0
-    ∷ row atoms-equal 16 1000000 4096 finished 0 2 [] 0
-    ∷ row atoms-differ 16 1000000 4096 finished 0 4 ((0, yes) ∷ []) 0
-    ∷ row bound-nothing 16 1000000 4096 finished 0 7 ((0, word 15 3 ∷ word 0 0 ∷ word 7 1 ∷ word 0 0 ∷ []) ∷ []) 0
-    ∷ row (query again) 2 1 9 steps-used 1 1 [] 1
-    ∷ row one-call 16 1000000 4096 finished 1 6 ((1, seven) ∷ []) 0
-    ∷ row doubling 3 1000000 4096 rounds-used 3 37 [] 8
-    ∷ row doubling 16 25 4096 steps-used 3 25 [] 4
-    ∷ row doubling-variables 16 1000000 4096 (path-limit bound.variables) 9 1531 [] 256
-    ∷ row doubling-five 16 1000000 3 output-full 2 19 ((1, five) ∷ []) 2
+    ∷ row atoms_typed 16 1000000 4096 finished 0 29 ((0, seven) ∷ (0, word 15 1 ∷ word 2 8 ∷ []) ∷ []) 0
+    ∷ row in_order 16 1000000 4096 finished 0 37 ((0, word 15 18 ∷ word 4 1 ∷ word 0 0 ∷ word 0 1 ∷ word 9 2 ∷ word 1 7 ∷ word 0 0 ∷ word 9 2 ∷ word 1 7 ∷ word 0 1 ∷ word 11 8 ∷ word 6 4 ∷ word 0 0 ∷ word 4 1 ∷ word 0 1 ∷ word 1 1 ∷ word 6 2 ∷ word 0 1 ∷ word 2 2 ∷ []) ∷ []) 0
+    ∷ row atoms_equal 16 1000000 4096 finished 0 2 [] 0
+    ∷ row atoms_differ 16 1000000 4096 finished 0 4 ((0, yes) ∷ []) 0
+    ∷ row bound_nothing 16 1000000 4096 finished 0 7 ((0, word 15 3 ∷ word 0 0 ∷ word 7 1 ∷ word 0 0 ∷ []) ∷ []) 0
+    ∷ row (query again) 2 1 9 steps_used 1 1 [] 1
+    ∷ row one_call 16 1000000 4096 finished 1 6 ((1, seven) ∷ []) 0
+    ∷ row doubling 3 1000000 4096 rounds_used 3 37 [] 8
+    ∷ row doubling 16 25 4096 steps_used 3 25 [] 4
+    ∷ row doubling_variables 16 1000000 4096 (path_limit bound.variables) 9 1531 [] 256
+    ∷ row doubling_five 16 1000000 3 output_full 2 19 ((1, five) ∷ []) 2
     ∷ row (either (word 2 5 ∷ word 2 5 ∷ [])) 16 1000000 4096 finished 0 9 ((0, five) ∷ []) 0
     ∷ row (either (word 2 5 ∷ word 2 5 ∷ [])) 16 1000000 4 finished 0 9 ((0, five) ∷ []) 0
-    ∷ row (either (word 2 5 ∷ word 2 5 ∷ [])) 16 1000000 3 output-full 0 9 ((0, five) ∷ []) 0
+    ∷ row (either (word 2 5 ∷ word 2 5 ∷ [])) 16 1000000 3 output_full 0 9 ((0, five) ∷ []) 0
     ∷ row (either (word 1 1 ∷ word 1 2 ∷ word 1 3 ∷ word 1 1 ∷ word 1 2 ∷ [])) 16 1000000 4096 finished 0 21 ((0, word 15 1 ∷ word 1 1 ∷ []) ∷ (0, word 15 1 ∷ word 1 2 ∷ []) ∷ (0, word 15 1 ∷ word 1 3 ∷ []) ∷ []) 0
-    ∷ row five-or-six 2 1000000 4096 rounds-used 2 31 ((1, five) ∷ (1, word 15 1 ∷ word 2 6 ∷ []) ∷ []) 1
-    ∷ row holds-twice 0 9 1 output-full 0 5 ((0, yes) ∷ []) 0
-    ∷ row holds-twice 0 9 2 finished 0 5 ((0, yes) ∷ []) 0
+    ∷ row five_or_six 2 1000000 4096 rounds_used 2 31 ((1, five) ∷ (1, word 15 1 ∷ word 2 6 ∷ []) ∷ []) 1
+    ∷ row holds_twice 0 9 1 output_full 0 5 ((0, yes) ∷ []) 0
+    ∷ row holds_twice 0 9 2 finished 0 5 ((0, yes) ∷ []) 0
     ∷ row sorts 16 1000000 4096 finished 0 13 ((0, word 15 3 ∷ word 0 0 ∷ word 7 1 ∷ word 0 0 ∷ []) ∷ (0, word 15 3 ∷ word 0 0 ∷ word 8 1 ∷ word 0 0 ∷ []) ∷ []) 0
-    ∷ row (met-twice 5) 16 1000000 4096 finished 0 13 ((0, yes) ∷ []) 0
-    ∷ row (met-twice 5) 16 12 4096 steps-used 0 12 [] 0
-    ∷ row (met-twice 6) 16 1000000 4096 finished 0 27 ((0, yes) ∷ []) 0
-    ∷ row one-value 16 1000000 4096 finished 0 20 ((0, yes) ∷ []) 0
-    ∷ row two-parameters 16 1000000 4096 finished 1 21 ((1, yes) ∷ []) 0
-    ∷ row two-checks 16 1000000 4096 finished 0 18 [] 0
-    ∷ row two-ways 16 1000000 4096 finished 0 19 ((0, yes) ∷ []) 0
-    ∷ row found-behind 16 1000000 4096 finished 0 15 [] 0
-    ∷ row doubled 12 1000000 4096 rounds-used 12 1287 [] 1
-    ∷ row absence-twice 16 1000000 4096 finished 0 22 ((0, yes) ∷ []) 0
-    ∷ row query-twice 16 1000000 4096 finished 0 20 ((0, word 15 7 ∷ word 4 3 ∷ word 4 1 ∷ word 3 0 ∷ word 3 0 ∷ word 4 1 ∷ word 3 0 ∷ word 3 0 ∷ []) ∷ []) 0
-    ∷ row P 16 1000000 4096 (path-limit bound.variables) 8 43 [] 1
-    ∷ row (Q 8) 16 1000000 4096 (path-limit bound.variables) 9 53 [] 1
-    ∷ row (Q 9) 16 1000000 4096 (path-limit bound.variables) 8 43 [] 1
-    ∷ row R 16 1000000 4096 (path-limit bound.goals) 4 3583 [] 1
-    ∷ row S 16 1000000 4096 (path-limit bound.disjunctions) 4 2190 [] 1
-    ∷ row T 16 1000000 4096 (path-limit bound.constraints) 4 3613 [] 1
-    ∷ row W 16 1000000 4096 (path-limit bound.waiting) 6 8302 [] 1
+    ∷ row (met_twice 5) 16 1000000 4096 finished 0 13 ((0, yes) ∷ []) 0
+    ∷ row (met_twice 5) 16 12 4096 steps_used 0 12 [] 0
+    ∷ row (met_twice 6) 16 1000000 4096 finished 0 27 ((0, yes) ∷ []) 0
+    ∷ row one_value 16 1000000 4096 finished 0 20 ((0, yes) ∷ []) 0
+    ∷ row two_parameters 16 1000000 4096 finished 1 21 ((1, yes) ∷ []) 0
+    ∷ row two_checks 16 1000000 4096 finished 0 18 [] 0
+    ∷ row two_ways 16 1000000 4096 finished 0 19 ((0, yes) ∷ []) 0
+    ∷ row found_behind 16 1000000 4096 finished 0 15 [] 0
+    ∷ row doubled 12 1000000 4096 rounds_used 12 1287 [] 1
+    ∷ row absence_twice 16 1000000 4096 finished 0 22 ((0, yes) ∷ []) 0
+    ∷ row query_twice 16 1000000 4096 finished 0 20 ((0, word 15 7 ∷ word 4 3 ∷ word 4 1 ∷ word 3 0 ∷ word 3 0 ∷ word 4 1 ∷ word 3 0 ∷ word 3 0 ∷ []) ∷ []) 0
+    ∷ row P 16 1000000 4096 (path_limit bound.variables) 8 43 [] 1
+    ∷ row (Q 8) 16 1000000 4096 (path_limit bound.variables) 9 53 [] 1
+    ∷ row (Q 9) 16 1000000 4096 (path_limit bound.variables) 8 43 [] 1
+    ∷ row R 16 1000000 4096 (path_limit bound.goals) 4 3583 [] 1
+    ∷ row S 16 1000000 4096 (path_limit bound.disjunctions) 4 2190 [] 1
+    ∷ row T 16 1000000 4096 (path_limit bound.constraints) 4 3613 [] 1
+    ∷ row W 16 1000000 4096 (path_limit bound.waiting) 6 8302 [] 1
     ∷ []

@@ -1,1 +1,3 @@
+#![tactic(auto)]
+
 // No code: what a run is, in specs/, and the theorems about it, in proofs/.

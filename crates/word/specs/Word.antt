@@ -1,7 +1,6 @@
 -- Words, after document 01, "Words": the top four bits of a 32-bit word are its kind, the low 28 its payload.
-use mathlib.Core.Path.{_≡_}
-use Prim.Native.Nat.{ℕ, _+_, _*_, _/_, _%_, _<_}
-use native.Mathlib.Omega.{arith}
+use Rattle.std.specs.Prelude.{◌≡◌, ℕ, ◌+◌, ◌*◌, ◌/◌, ◌%◌, ◌<◌}
+use Rattle.std.proofs.Common.{arith}
 
 -- "the top four bits are the kind"
 abbrev pub kind : ℕ → ℕ
@@ -16,29 +15,29 @@ abbrev pub word : ℕ → ℕ → ℕ
 word k p = k * 268435456 + p
 
 -- "words from standard input, four bytes each, low byte first"
-abbrev pub from-bytes : ℕ → ℕ → ℕ → ℕ → ℕ
-from-bytes low second third high = low + 256 * second + 65536 * third + 16777216 * high
+abbrev pub from_bytes : ℕ → ℕ → ℕ → ℕ → ℕ
+from_bytes low second third high = low + 256 * second + 65536 * third + 16777216 * high
 
 -- a kind and a payload below 2^28 go in and come out
-pub kind-word : (k p : ℕ) → p < 268435456 → kind (word k p) ≡ k
-kind-word k p h = omega arith
+pub kind_word : (k p : ℕ) → p < 268435456 → kind (word k p) ≡ k
+kind_word k p h = omega arith
 
-pub payload-word : (k p : ℕ) → p < 268435456 → payload (word k p) ≡ p
-payload-word k p h = omega arith
+pub payload_word : (k p : ℕ) → p < 268435456 → payload (word k p) ≡ p
+payload_word k p h = omega arith
 
 -- a kind below 16 and a payload below 2^28 make a 32-bit word
-pub word-fits : (k p : ℕ) → k < 16 → p < 268435456 → word k p < 4294967296
-word-fits k p hk hp = omega arith
+pub word_fits : (k p : ℕ) → k < 16 → p < 268435456 → word k p < 4294967296
+word_fits k p hk hp = omega arith
 
 -- every 32-bit number is the word of one kind below 16 and one payload below 2^28 ..
 pub record Splits (w k p : ℕ) : Type 0 where
-  pub is-word : w ≡ word k p
-  pub kind-below : k < 16
-  pub payload-below : p < 268435456
+  pub is_word : w ≡ word k p
+  pub kind_below : k < 16
+  pub payload_below : p < 268435456
 
 pub splits : (w : ℕ) → w < 4294967296 → Splits w (kind w) (payload w)
-splits w h = record { is-word = omega arith; kind-below = omega arith; payload-below = omega arith }
+splits w h = record { is_word = omega arith; kind_below = omega arith; payload_below = omega arith }
 
 -- .. and of no other
-pub splits-once : (w k p : ℕ) → Splits w k p → (k ≡ kind w) × (p ≡ payload w)
-splits-once w k p s = omega arith
+pub splits_once : (w k p : ℕ) → Splits w k p → (k ≡ kind w) × (p ≡ payload w)
+splits_once w k p s = omega arith

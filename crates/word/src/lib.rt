@@ -1,8 +1,10 @@
 // A 32-bit word of a program or of an answer: the kind in the top four bits, the payload in the low 28.
-ghost use mathlib.Core.Path.{_≡_};
-ghost use Prim.Native.Nat.{_%_, min};
-ghost use Rattle·word·specs.specs.Word.{from-bytes, kind, payload, word};
+#![tactic(auto)]
 
+ghost use Rattle.std.specs.Prelude.{◌≡◌, ◌%◌, min};
+ghost use Rattle.word.specs.Word.{from_bytes, kind, payload, word};
+
+#[derive(Clone, Copy)]
 pub struct Word {
     pub bits: u32,
 }
@@ -41,14 +43,14 @@ impl Word {
 
     // The word as it is stored.
     pub fn from_bits(bits: u32) -> Word
-        ensures { λ r. ⌜ r .bits ≡ bits ⌝ }
+        ensures { result.bits ≡ bits }
     {
         Word { bits }
     }
 
     // The word of four bytes of a file.
     pub fn from_bytes(low: u8, second: u8, third: u8, high: u8) -> Word
-        ensures { λ r. ⌜ r .bits ≡ from-bytes low second third high ⌝ }
+        ensures { result.bits ≡ from_bytes low second third high }
     {
         let lower = low as u32 + 256 * (second as u32);
         let upper = third as u32 + 256 * (high as u32);
@@ -59,7 +61,7 @@ impl Word {
 
     // The word of a kind and a payload. Only the low 4 and 28 bits are taken, so that no input overflows.
     pub fn new(kind: u32, payload: u32) -> Word
-        ensures { λ r. ⌜ r .bits ≡ word (kind % 16) (payload % 268435456) ⌝ }
+        ensures { result.bits ≡ word (kind % 16) (payload % 268435456) }
     {
         Word {
             bits: kind % 16 * 268435456 + payload % 268435456,
@@ -67,13 +69,13 @@ impl Word {
     }
 
     pub fn kind(self) -> u32
-        ensures { λ r. ⌜ r ≡ kind (self .bits) ⌝ }
+        ensures { result ≡ kind self.bits }
     {
         self.bits / 268435456
     }
 
     pub fn payload(self) -> u32
-        ensures { λ r. ⌜ r ≡ payload (self .bits) ⌝ }
+        ensures { result ≡ payload self.bits }
     {
         self.bits % 268435456
     }
@@ -81,7 +83,7 @@ impl Word {
 
 // The smaller of two counts, where one of them is the most there may be.
 pub fn at_most(n: usize, most: usize) -> usize
-    ensures { λ r. ⌜ r ≡ min n most ⌝ }
+    ensures { result ≡ min n most }
 {
     if n < most {
         return n;

@@ -6,7 +6,11 @@ use std::collections::{BTreeMap, BTreeSet, VecDeque};
 use std::fmt;
 
 /// The toolchain's own libraries. Another root that is no crate of this repository is a fault, so that no chain is lost.
-const LIBRARIES: [&str; 4] = ["Prim", "mathlib", "lib", "native"];
+const LIBRARIES: [&str; 5] = ["Prim", "mathlib", "lib", "native", "borrow"];
+
+/// The libraries of the kit whose paths are written as those of crates are: `Rattle.std.specs.Prelude`. No crate of this repository has such a name, and another library of
+/// the kit is a fault as long as it is not named here.
+pub const KIT: [&str; 1] = ["std"];
 
 /// A public function with its contract, and the modules that the names in it are imported from.
 #[derive(Debug, PartialEq)]
@@ -14,7 +18,7 @@ pub struct Contract {
     pub function: String,
     pub requires: bool,
     pub ensures: bool,
-    /// As written, with the crate in front: `Rattle·engine·specs.specs.Report`.
+    /// As written, with the crate in front: `Rattle.engine.specs.Report`.
     pub imports: Vec<String>,
 }
 
@@ -40,7 +44,7 @@ pub enum Import {
     Proofs,
 }
 
-/// The text without comments, which begin with `mark` at a line's start or after a space.
+/// The text without comments, which begin with `mark` at a line's start or after a space, and without quotes: `«Rattle».house` is `Rattle.house`.
 fn code(text: &str, mark: &str) -> String {
     let mut kept = String::new();
     for line in text.lines() {
@@ -48,15 +52,15 @@ fn code(text: &str, mark: &str) -> String {
             .match_indices(mark)
             .map(|(at, _)| at)
             .find(|&at| at == 0 || line[..at].ends_with(char::is_whitespace));
-        kept.push_str(&line[..end.unwrap_or(line.len())]);
+        kept.push_str(&line[..end.unwrap_or(line.len())].replace(['«', '»'], ""));
         kept.push('\n');
     }
     kept
 }
 
-/// The words of a name: `_≤_` is written around its operands, as `a ≤ b`, or whole.
+/// The words of a name: `◌≤◌` is written around its operands, as `a ≤ b`, or whole.
 fn words_of(name: &str) -> impl Iterator<Item = &str> {
-    name.split('_').filter(|word| !word.is_empty())
+    name.split('◌').filter(|word| !word.is_empty())
 }
 
 /// The words that `ghost use` lines bring in, each with the modules of the names that have it.
@@ -78,8 +82,8 @@ fn ghost_words(code: &str) -> Result<BTreeMap<String, Vec<String>>, String> {
             list.split(',').for_each(|name| bring(name, module));
         } else if let Some((module, name)) = used.split_once(" as ") {
             bring(name, module);
-        } else if let Some((module, name)) = used.rsplit_once('.') {
-            bring(name, module);
+        } else if let Some((_, name)) = used.rsplit_once('.') {
+            bring(name, used);
         } else {
             return Err(format!("ghost use {used}"));
         }
@@ -122,27 +126,31 @@ pub fn contracts(text: &str) -> Result<Vec<Contract>, String> {
             return Err(format!("{} fn", before.join(" ")));
         }
         let rest = &code[at + 3..];
-        let end = rest.find('(').ok_or("a function without parameters")?;
+        let end = rest
+            .find(['<', '('])
+            .ok_or("a function without parameters")?;
         let function = rest[..end].trim();
-        let parameters = parameters(&rest[end..])?;
+        let mut names = parameters(&rest[end..])?;
         let mut contract = Contract {
             function: function.to_string(),
             requires: false,
             ensures: false,
             imports: Vec::new(),
         };
-        // A clause is a word and a part in braces; the first part without such a word is the body.
+        // A clause is a word, perhaps a name, and a part in braces; the first part without such a word is the body.
         let mut from = at;
         loop {
             let open = from + code[from..].find('{').ok_or("a function without a body")?;
-            let word = code[from..open].split_whitespace().last();
-            match word {
+            match head(&code[from..open]).map_err(|e| format!("{function}: {e}"))? {
                 Some("requires") => contract.requires = true,
-                Some("ensures") => contract.ensures = true,
-                _ => break,
+                Some(_) => {
+                    contract.ensures = true;
+                    names.insert("result".to_string());
+                }
+                None => break,
             }
             let close = closing(&code, open)?;
-            let clause = named(&code[open + 1..close], &words, &parameters);
+            let clause = named(&code[open + 1..close], &words, &names);
             for import in clause.map_err(|e| format!("{function}: {e}"))? {
                 if !contract.imports.contains(&import) {
                     contract.imports.push(import);
@@ -155,29 +163,53 @@ pub fn contracts(text: &str) -> Result<Vec<Contract>, String> {
     Ok(found)
 }
 
-/// The names of the parameters that `text` begins with, in parentheses.
+/// The word of the clause whose brace comes after this text, or none before a body: `requires` or `ensures`, with a name where a function has several of a kind.
+fn head(text: &str) -> Result<Option<&str>, String> {
+    let written: Vec<&str> = text.split_whitespace().collect();
+    let clause =
+        |word: &&str| matches!(word.trim_end_matches('*'), "requires" | "ensures" | "ghost");
+    let Some(at) = written.iter().position(clause) else {
+        return Ok(None);
+    };
+    match written[at] {
+        word @ ("requires" | "ensures") if at + 2 >= written.len() => Ok(Some(word)),
+        _ => Err(format!(
+            "the clause {} is not read",
+            written[at..].join(" ")
+        )),
+    }
+}
+
+/// The names of the parameters that `text` begins with: of types, in angle brackets, where there are any, and of values, in parentheses.
 fn parameters(text: &str) -> Result<BTreeSet<String>, String> {
-    let end = text.find(')').ok_or("parameters without their end")?;
-    let list = text[1..end].split(',').map(str::trim);
+    let (types, rest) = match text.strip_prefix('<') {
+        Some(rest) => rest.split_once(">(").ok_or("types without their end")?,
+        None => ("", &text[1..]),
+    };
+    let (values, _) = rest.split_once(')').ok_or("parameters without their end")?;
+    let list = types.split(',').chain(values.split(',')).map(str::trim);
     Ok(list
         .filter(|parameter| !parameter.is_empty())
         .map(|parameter| parameter.split(':').next().unwrap_or(parameter).trim())
-        .map(|name| name.trim_start_matches("mut ").to_string())
+        .map(|name| name.trim_start_matches('&').trim_start_matches("mut "))
+        .map(|name| name.trim_start_matches("const ").to_string())
         .collect())
 }
 
-/// What the language itself has: the value of a place, products, functions, records and their fields' equations, the types of bound names.
-const OF_THE_LANGUAGE: [&str; 8] = ["now", "×", "→", "record", "=", ":", ".", "λ"];
+/// What the language itself has: products, functions, records and their fields' equations, the types of bound names, and what no import may bring.
+const OF_THE_LANGUAGE: [&str; 12] = [
+    "×", "→", "record", "=", ":", ".", "λ", "¬", "⊥", "Unit", "tt", "absurd",
+];
 
-/// The modules of the imported names in a clause, and those that are named in full. A word that is neither imported nor a parameter, a bound name, a field or a number is a
-/// fault.
+/// The modules of the imported names in a clause, and those that are named in full. A word that is neither imported nor one of `names` (a parameter, or `result`), a bound
+/// name, a field or a number is a fault. Of a parameter that is a type, as `R` in `R.remaining`, a clause names what its bounds have.
 fn named(
     clause: &str,
     words: &BTreeMap<String, Vec<String>>,
-    parameters: &BTreeSet<String>,
+    names: &BTreeSet<String>,
 ) -> Result<Vec<String>, String> {
     let spaced = clause.replace('λ', " λ ");
-    let parts = |c: char| c.is_whitespace() || "(){}⌜⌝,;".contains(c);
+    let parts = |c: char| c.is_whitespace() || "(){},;".contains(c);
     let written: Vec<&str> = spaced.split(parts).filter(|w| !w.is_empty()).collect();
     // `λ r. …` binds r up to the clause's end, and `record { a = … }` has the field a
     let bound = |word: &str| {
@@ -188,7 +220,7 @@ fn named(
     let mut modules = in_full(clause);
     for (i, word) in written.iter().enumerate() {
         let field = word.starts_with('.') || written.get(i + 1) == Some(&"=");
-        let full = word.starts_with("Rattle·");
+        let full = word.starts_with("Rattle.");
         let number = word.chars().all(|c| c.is_ascii_digit());
         if field || full || number || OF_THE_LANGUAGE.contains(word) {
             continue;
@@ -197,7 +229,7 @@ fn named(
         for part in words_of(first) {
             match words.get(part) {
                 Some(of) => modules.extend(of.iter().cloned()),
-                None if parameters.contains(first) || bound(first) => {}
+                None if names.contains(first) || bound(first) => {}
                 None => return Err(format!("{part} is in no ghost use")),
             }
         }
@@ -208,7 +240,7 @@ fn named(
 /// The paths of modules of crates that stand in some code.
 fn in_full(code: &str) -> Vec<String> {
     let end = |c: char| c.is_whitespace() || "(){},;".contains(c);
-    code.match_indices("Rattle·")
+    code.match_indices("Rattle.")
         .map(|(at, _)| {
             code[at..]
                 .split(end)
@@ -249,11 +281,13 @@ pub fn named_by(text: &str) -> Vec<String> {
     in_full(&code(text, "//"))
 }
 
-/// Is this a path of a crate's proofs, `Rattle·X.proofs` from another crate or `Rattle·X·proofs` from its own?
+/// Is this a path of a crate's proofs, `Rattle.X.proofs`? What the kit proves in its own libraries is none.
 pub fn of_proofs(path: &str) -> bool {
     let mut parts = path.split('.');
-    let root = parts.next().unwrap_or("");
-    root.starts_with("Rattle·") && (root.ends_with("·proofs") || parts.next() == Some("proofs"))
+    let (root, krate, part) = (parts.next(), parts.next(), parts.next());
+    root == Some("Rattle")
+        && !krate.is_some_and(|krate| KIT.contains(&krate))
+        && part == Some("proofs")
 }
 
 /// Where a path leads; `is_module` says whether a crate's `specs/` has a module of that name.
@@ -263,14 +297,16 @@ pub fn resolve(path: &str, is_module: &dyn Fn(&Module) -> bool) -> Result<Import
     }
     let mut parts = path.split('.');
     let root = parts.next().unwrap_or("");
-    let Some(krate) = root.strip_prefix("Rattle·") else {
-        return if LIBRARIES.contains(&root) {
-            Ok(Import::Leaf)
-        } else {
-            Err(format!("{path} is of no known library"))
-        };
-    };
-    let krate = krate.split('·').next().unwrap_or("").to_string();
+    if LIBRARIES.contains(&root) {
+        return Ok(Import::Leaf);
+    }
+    if root != "Rattle" {
+        return Err(format!("{path} is of no known library"));
+    }
+    let krate = parts.next().unwrap_or("").to_string();
+    if KIT.contains(&krate.as_str()) {
+        return Ok(Import::Leaf);
+    }
     match (parts.next(), parts.next()) {
         (Some("specs"), Some("declared")) => Ok(Import::Leaf),
         (Some("specs"), Some(name)) => {

@@ -1,6 +1,6 @@
 //! The public contracts of this repository's crates.
 
-use contracts::{contracts, imports, named_by, of_proofs, walk, Contract, Module};
+use contracts::{contracts, imports, named_by, resolve, walk, Contract, Import, Module, KIT};
 use std::collections::BTreeMap;
 use std::fs;
 use std::path::{Path, PathBuf};
@@ -38,6 +38,8 @@ fn tree() -> (Vec<(String, Contract)>, BTreeMap<Module, String>) {
     for entry in fs::read_dir(crates()).unwrap() {
         let folder = entry.unwrap().path();
         let krate = name(&folder);
+        // A path into a library of the kit is not followed.
+        assert!(!KIT.contains(&krate.as_str()), "{krate} is the kit's");
         for file in files(&folder.join("src"), "rt") {
             let said = contracts(&fs::read_to_string(&file).unwrap());
             let said = said.unwrap_or_else(|e| panic!("{}: {e}", file.display()));
@@ -117,6 +119,8 @@ fn what_public_contracts_unfold_to_stands_in_specs() {
 /// Private contracts too, and every definition: also those that no public contract reaches.
 #[test]
 fn no_definition_and_no_contract_comes_from_proofs() {
+    let texts = tree().1;
+    let is_module = |module: &Module| texts.contains_key(module);
     let mut named = 0;
     let mut bad = Vec::new();
     for entry in fs::read_dir(crates()).unwrap() {
@@ -128,11 +132,19 @@ fn no_definition_and_no_contract_comes_from_proofs() {
         let src = src.into_iter().map(|file| (named_by(&read(&file)), file));
         for (paths, file) in specs.chain(src) {
             named += paths.len();
-            for path in paths.into_iter().filter(|path| of_proofs(path)) {
-                bad.push(format!("{}: {path}", file.display()));
+            for path in paths {
+                match resolve(&path, &is_module) {
+                    Ok(Import::Leaf | Import::Specs(_)) => {}
+                    Ok(Import::Proofs) => bad.push(format!("{}: {path}", file.display())),
+                    Err(fault) => bad.push(format!("{}: {fault}", file.display())),
+                }
             }
         }
     }
     assert!(named >= 500, "only {named} imports are found");
-    assert!(bad.is_empty(), "imports from proofs/:\n{}", bad.join("\n"));
+    assert!(
+        bad.is_empty(),
+        "imports from proofs/, or that cannot be read:\n{}",
+        bad.join("\n")
+    );
 }

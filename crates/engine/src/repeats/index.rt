@@ -1,20 +1,19 @@
 // The index of the answers: a hash table in the last words of the output that can be used.
+ghost use Rattle.std.specs.Prelude.{◌≡◌, true, List, ℕ, ◌≤◌, ◌<◌};
+ghost use Rattle.engine.specs.Lines.{Rows};
+ghost use Rattle.engine.specs.Index.{next_slot, Table, Seeking, EnteredAs, BuiltAs, Fitting, FittedAs};
+
 use crate::clear::clear;
 use crate::repeats::hash::home;
 use crate::repeats::same::same;
 use word::Word;
-ghost use mathlib.Core.Path.{_≡_};
-ghost use mathlib.Core.Bool.{true};
-ghost use mathlib.Core.List.{List};
-ghost use Prim.Native.Nat.{ℕ, _≤_, _<_};
-ghost use Rattle·engine·specs.specs.Lines.{Rows};
-ghost use Rattle·engine·specs.specs.Index.{next-slot, Table, Seeking, EnteredAs, BuiltAs, Fitting, FittedAs};
 
 // The first index is made with so many answers, and has so many slots.
 const FIRST_ANSWERS: u32 = 8;
 
 const FIRST_SLOTS: u32 = 32;
 
+#[derive(Clone, Copy)]
 pub(crate) enum Entered {
     // An answer with the same words was there.
     Repeated,
@@ -26,8 +25,8 @@ pub(crate) enum Entered {
 
 // The slot behind another: behind the last comes the first.
 fn next_slot(slot: usize, size: usize) -> usize
-    requires { ⌜ slot < size ⌝ }
-    ensures { λ r. ⌜ r ≡ next-slot size slot ⌝ }
+    requires { slot < size }
+    ensures { result ≡ next_slot size slot }
 {
     if slot + 1 == size {
         return 0;
@@ -43,9 +42,9 @@ pub(crate) fn enter(
     table: usize,
     size: usize,
 ) -> Entered
-    requires { ⌜ ((ws : List (List ℕ)) × (v : List ℕ) × Seeking (now output) start next table size ws v) ⌝ }
-    ensures { λ r. ⌜ ((ws : List (List ℕ)) (v : List ℕ) → Seeking (now (output .entry)) start next table size ws v
-        → EnteredAs (now (output .entry)) (now (output .exit)) table size ws v r) ⌝ }
+    requires { (ws : List (List ℕ)) × (v : List ℕ) × Seeking output.old start next table size ws v }
+    ensures { (ws : List (List ℕ)) (v : List ℕ) → Seeking output.old start next table size ws v
+        → EnteredAs output.old output.new table size ws v result }
 {
     let mut slot = home(output, start, next, size);
     let mut tries = 0;
@@ -66,8 +65,8 @@ pub(crate) fn enter(
 
 // Makes an index of all answers up to `used`, or tells that one was not entered.
 fn build(output: &mut [u32], used: usize, table: usize, size: usize) -> bool
-    requires { ⌜ Table (now output) used table size × ((ws : List (List ℕ)) × Rows (now output) 0 used ws) ⌝ }
-    ensures { λ r. ⌜ ((ws : List (List ℕ)) → Rows (now (output .entry)) 0 used ws → BuiltAs (now (output .entry)) (now (output .exit)) table size ws r) ⌝ }
+    requires { Table output.old used table size × ((ws : List (List ℕ)) × Rows output.old 0 used ws) }
+    ensures { (ws : List (List ℕ)) → Rows output.old 0 used ws → BuiltAs output.old output.new table size ws result }
 {
     clear(output, table, table + size);
     let mut place = 0;
@@ -91,8 +90,8 @@ fn build(output: &mut [u32], used: usize, table: usize, size: usize) -> bool
 
 // The length that an index of so many answers should have, if it has this now: more than twice as many slots as answers. One that was given up, or had no room with the eighth answer, is not made later.
 fn wanted(answers: u32, index: u32) -> u32
-    requires { ⌜ index < 268435456 ⌝ }
-    ensures { λ r. ⌜ (index ≤ r) × (r < 536870912) ⌝ }
+    requires { index < 268435456 }
+    ensures { (index ≤ result) × (result < 536870912) }
 {
     if answers < index / 2 {
         return index;
@@ -108,7 +107,7 @@ fn wanted(answers: u32, index: u32) -> u32
 
 // Whether a longer index is made, of so many slots with so many words free: only if as many words stay free, so that answers do not soon reach into it, or if seven eighths of the index are taken, or if there is none.
 fn worthwhile(answers: u32, index: u32, free: usize, size: usize) -> bool
-    ensures { λ r. ⌜ (r ≡ true → size ≤ free) ⌝ }
+    ensures { result ≡ true → size ≤ free }
 {
     if size <= free / 2 {
         return true;
@@ -121,8 +120,8 @@ fn worthwhile(answers: u32, index: u32, free: usize, size: usize) -> bool
 
 // The index's length from now on, with so many answers: a longer one is made if it is wanted and fits behind the answers. It is given up if an answer could not be entered, which does not happen, as there are more slots than answers and no two are the same; the promise does not need that.
 pub(crate) fn fitted(output: &mut [u32], used: usize, end: usize, answers: u32, index: u32) -> u32
-    requires { ⌜ ((ws : List (List ℕ)) × Fitting (now output) used end index ws) ⌝ }
-    ensures { λ r. ⌜ ((ws : List (List ℕ)) → Fitting (now (output .entry)) used end index ws → FittedAs (now (output .entry)) (now (output .exit)) used end ws r) ⌝ }
+    requires { (ws : List (List ℕ)) × Fitting output.old used end index ws }
+    ensures { (ws : List (List ℕ)) → Fitting output.old used end index ws → FittedAs output.old output.new used end ws result }
 {
     let longer = wanted(answers, index);
     let size = longer as usize;

@@ -1,13 +1,12 @@
 // Whether an answer that has just been written repeats an earlier one of the run.
-use crate::repeats::index::Entered;
-use crate::repeats::index::enter;
-use crate::repeats::index::fitted;
+ghost use Rattle.std.specs.Prelude.{List, ℕ, ◌<◌};
+ghost use Rattle.engine.specs.Index.{Comparing, ComparedAs};
+
+use crate::repeats::index::{Entered, enter, fitted};
 use crate::repeats::same::among;
-ghost use mathlib.Core.List.{List};
-ghost use Prim.Native.Nat.{ℕ, _<_};
-ghost use Rattle·engine·specs.specs.Index.{Comparing, ComparedAs};
 
 // With the index's length afterwards.
+#[derive(Clone, Copy)]
 pub(crate) enum Compared {
     Repeated(u32),
     New(u32),
@@ -15,9 +14,9 @@ pub(crate) enum Compared {
 
 // Compares with all answers one after the other: there is no index, or it is given up.
 fn compare_all(output: &mut [u32], used: usize, next: usize, end: usize, answers: u32) -> Compared
-    requires { ⌜ (answers < 4294967295) × ((ws : List (List ℕ)) × (v : List ℕ) × Comparing (now output) used next end 0 ws v) ⌝ }
-    ensures { λ r. ⌜ ((ws : List (List ℕ)) (v : List ℕ) → Comparing (now (output .entry)) used next end 0 ws v
-        → ComparedAs (now (output .entry)) (now (output .exit)) used next end ws v r) ⌝ }
+    requires { (answers < 4294967295) × ((ws : List (List ℕ)) × (v : List ℕ) × Comparing output.old used next end 0 ws v) }
+    ensures { (ws : List (List ℕ)) (v : List ℕ) → Comparing output.old used next end 0 ws v
+        → ComparedAs output.old output.new used next end ws v result }
 {
     if among(output, used, next) {
         return Compared::Repeated(0);
@@ -34,9 +33,9 @@ pub(crate) fn repeated(
     answers: u32,
     index: u32,
 ) -> Compared
-    requires { ⌜ (answers < 4294967295) × ((ws : List (List ℕ)) × (v : List ℕ) × Comparing (now output) used next end index ws v) ⌝ }
-    ensures { λ r. ⌜ ((ws : List (List ℕ)) (v : List ℕ) → Comparing (now (output .entry)) used next end index ws v
-        → ComparedAs (now (output .entry)) (now (output .exit)) used next end ws v r) ⌝ }
+    requires { (answers < 4294967295) × ((ws : List (List ℕ)) × (v : List ℕ) × Comparing output.old used next end index ws v) }
+    ensures { (ws : List (List ℕ)) (v : List ℕ) → Comparing output.old used next end index ws v
+        → ComparedAs output.old output.new used next end ws v result }
 {
     let start = used as usize;
     let behind = next as usize;

@@ -1,18 +1,16 @@
 // An answer compared word by word.
+ghost use Rattle.std.specs.Prelude.{◌≡◌, List, ℕ, ◌≤◌, length};
+ghost use Rattle.semantics.specs.Answer.{any_same};
+ghost use Rattle.engine.specs.Term.{Room};
+ghost use Rattle.engine.specs.Lines.{Whole, Stretch, Rows};
+ghost use Rattle.engine.specs.Index.{Standing};
+
 use word::Word;
-ghost use mathlib.Core.Path.{_≡_};
-ghost use mathlib.Core.List.{List};
-ghost use Prim.Native.Nat.{ℕ, _≤_};
-ghost use lib.ListN.{length};
-ghost use Rattle·semantics.specs.Answer.{any-same};
-ghost use Rattle·engine·specs.specs.Term.{Room};
-ghost use Rattle·engine·specs.specs.Lines.{Whole, Stretch, Rows};
-ghost use Rattle·engine·specs.specs.Index.{Standing};
 
 // Whether the words from `start` up to `next` stand at `place` too.
 pub(crate) fn same(words: &[u32], place: usize, start: usize, next: usize) -> bool
-    requires { ⌜ (place ≤ start) × (next ≤ length (now words)) ⌝ }
-    ensures { λ r. ⌜ ((v : List ℕ) → Stretch (now (words .entry)) start next v → Standing (now (words .entry)) place v r) ⌝ }
+    requires { (place ≤ start) × (next ≤ length words.now) }
+    ensures { (v : List ℕ) → Stretch words.now start next v → Standing words.now place v result }
 {
     let mut earlier = place;
     let mut at = start;
@@ -28,8 +26,8 @@ pub(crate) fn same(words: &[u32], place: usize, start: usize, next: usize) -> bo
 
 // Whether the answer from `used` up to `next` is among those before it, looked at one after the other.
 pub(crate) fn among(words: &[u32], used: usize, next: usize) -> bool
-    requires { ⌜ ((ws : List (List ℕ)) × (v : List ℕ) × Rows (now words) 0 used ws × Stretch (now words) used next v × Whole v × Room (now words) next) ⌝ }
-    ensures { λ r. ⌜ ((ws : List (List ℕ)) (v : List ℕ) → Rows (now (words .entry)) 0 used ws → Stretch (now (words .entry)) used next v → Whole v → r ≡ any-same v ws) ⌝ }
+    requires { (ws : List (List ℕ)) × (v : List ℕ) × Rows words.now 0 used ws × Stretch words.now used next v × Whole v × Room words.now next }
+    ensures { (ws : List (List ℕ)) (v : List ℕ) → Rows words.now 0 used ws → Stretch words.now used next v → Whole v → result ≡ any_same v ws }
 {
     let mut place = 0;
     while place < used {

@@ -1,33 +1,26 @@
 // Taking calls: a relation's variables are made anew, its parameters bound to the arguments, its body put to wait.
-use crate::layout::MOST_GOALS;
-use crate::layout::MOST_VARIABLES;
-use crate::layout::POSITIONS;
+ghost use Rattle.std.specs.Prelude.{List, ℕ, ◌+◌, ◌<◌};
+ghost use Rattle.rules.specs.Syntax.{Term, call, Program};
+ghost use Rattle.semantics.specs.Substitution.{Substitution, argument};
+ghost use Rattle.semantics.specs.Path.{Path, ChoicePoint, take_call};
+ghost use Rattle.engine.specs.Reference.{Stands};
+ghost use Rattle.engine.specs.Walk.{Follows};
+ghost use Rattle.engine.specs.Take.{GoalReady, TookAs};
+ghost use Rattle.engine.specs.Call.{BindingParameters, ParametersBound};
+
+use crate::layout::{MOST_GOALS, MOST_VARIABLES, POSITIONS};
 use crate::report::Bound;
 use crate::search::goal::push_goal;
-use crate::search::state::State;
-use crate::search::state::Stop;
-use crate::search::state::Took;
-use crate::search::state::Way;
+use crate::search::state::{State, Stop, Took, Way};
 use crate::search::table::relation;
 use crate::terms::trail::bind;
-use crate::terms::walk::part_at;
-use crate::terms::walk::skip;
-use crate::terms::walk::variable_at;
+use crate::terms::walk::{part_at, skip, variable_at};
 use word::Word;
-ghost use mathlib.Core.List.{List};
-ghost use Prim.Native.Nat.{ℕ, _+_, _<_};
-ghost use Rattle·rules.specs.Syntax.{Term, call, Program};
-ghost use Rattle·semantics.specs.Substitution.{Substitution, argument};
-ghost use Rattle·semantics.specs.Path.{Path, ChoicePoint, take-call};
-ghost use Rattle·engine·specs.specs.Reference.{Stands};
-ghost use Rattle·engine·specs.specs.Walk.{Follows};
-ghost use Rattle·engine·specs.specs.Take.{GoalReady, TookAs};
-ghost use Rattle·engine·specs.specs.Call.{BindingParameters, ParametersBound};
 
 // What a parameter is bound to: its argument, but of a variable the last variable on its way.
 fn last_variable(program: &[u32], scratch: &[u32], term: u32) -> u32
-    requires { ⌜ ((bs : Substitution) × (t : Term) × Follows (now program) (now scratch) bs term t) ⌝ }
-    ensures { λ r. ⌜ ((bs : Substitution) (t : Term) → Follows (now (program .entry)) (now (scratch .entry)) bs term t → Stands (now (program .entry)) r (argument bs t)) ⌝ }
+    requires { (bs : Substitution) × (t : Term) × Follows program.now scratch.now bs term t }
+    ensures { (bs : Substitution) (t : Term) → Follows program.now scratch.now bs term t → Stands program.now result (argument bs t) }
 {
     let mut at = term;
     loop {
@@ -55,9 +48,9 @@ fn bind_parameters(
     count: u32,
     trail: u32,
 ) -> u32
-    requires { ⌜ ((base : ℕ) × (to : ℕ) × (whole : Substitution) × BindingParameters (now program) (now scratch) (now scratch) base to whole first trail arguments count) ⌝ }
-    ensures { λ r. ⌜ ((base to : ℕ) (whole : Substitution) → BindingParameters (now (program .entry)) (now (scratch .entry)) (now (scratch .entry)) base to whole first trail arguments count
-        → ParametersBound (now (program .entry)) (now (scratch .entry)) (now (scratch .exit)) whole r) ⌝ }
+    requires { (base : ℕ) × (to : ℕ) × (whole : Substitution) × BindingParameters program.now scratch.old scratch.old base to whole first trail arguments count }
+    ensures { (base to : ℕ) (whole : Substitution) → BindingParameters program.now scratch.old scratch.old base to whole first trail arguments count
+        → ParametersBound program.now scratch.old scratch.new whole result }
 {
     let mut at = arguments;
     let mut variable = first;
@@ -81,9 +74,9 @@ pub(crate) fn take_call(
     goal: u32,
     round: u32,
 ) -> Took
-    requires { ⌜ ((P : Program) × (p : Path) × (cs : List ChoicePoint) × (base : ℕ) × (n : ℕ) × (ts : List Term) × GoalReady P (now program) (now scratch) st goal p cs (base, call n ts)) ⌝ }
-    ensures { λ r. ⌜ ((P : Program) (p : Path) (cs : List ChoicePoint) (base n : ℕ) (ts : List Term) → GoalReady P (now (program .entry)) (now (scratch .entry)) st goal p cs (base, call n ts)
-        → TookAs P (now (program .entry)) (now (scratch .exit)) cs (take-call round P p cs base n ts (st .steps)) (r .way) (r .state)) ⌝ }
+    requires { (P : Program) × (p : Path) × (cs : List ChoicePoint) × (base : ℕ) × (n : ℕ) × (ts : List Term) × GoalReady P program.now scratch.old st goal p cs (base, call n ts) }
+    ensures { (P : Program) (p : Path) (cs : List ChoicePoint) (base n : ℕ) (ts : List Term) → GoalReady P program.now scratch.old st goal p cs (base, call n ts)
+        → TookAs P program.now scratch.new cs (take_call round P p cs base n ts st.steps) result.way result.state }
 {
     if round <= st.calls {
         return Took {

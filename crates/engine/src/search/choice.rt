@@ -1,33 +1,24 @@
 // Disjunctions, whose alternatives are tried left to right: choice points of eight words each, and backtracking to them.
-use crate::layout::MOST_DISJUNCTIONS;
-use crate::layout::MOST_GOALS;
-use crate::layout::POINTS;
+ghost use Rattle.std.specs.Prelude.{◌≡◌, List, ◌-◌, ◌<◌, ◌≤◌, ℕ, length};
+ghost use Rattle.rules.specs.Syntax.{Program, Goals, disj};
+ghost use Rattle.rules.specs.Settings.{scratch_words};
+ghost use Rattle.semantics.specs.Path.{Path, ChoicePoint, take_disj};
+ghost use Rattle.semantics.specs.Round.{Tally, backtrack};
+ghost use Rattle.engine.specs.Layout.{most_goals, most_disjunctions};
+ghost use Rattle.engine.specs.Memory.{point};
+ghost use Rattle.engine.specs.Take.{registers, one_choice_more, resumed, PathHeld, BacktrackAs, Taking, TookAs};
+
+use crate::layout::{MOST_DISJUNCTIONS, MOST_GOALS, POINTS};
 use crate::report::Bound;
 use crate::search::goal::push_goal;
-use crate::search::state::Resumed;
-use crate::search::state::State;
-use crate::search::state::Stop;
-use crate::search::state::Took;
-use crate::search::state::Way;
+use crate::search::state::{Resumed, State, Stop, Took, Way};
 use crate::terms::trail::undo;
-use crate::terms::walk::part_at;
-use crate::terms::walk::part_end;
-ghost use mathlib.Core.Path.{_≡_};
-ghost use mathlib.Core.List.{List};
-ghost use Prim.Native.Nat.{_-_, _<_, _≤_, ℕ};
-ghost use lib.ListN.{length};
-ghost use Rattle·rules.specs.Syntax.{Program, Goals, disj};
-ghost use Rattle·rules.specs.Settings.{scratch-words};
-ghost use Rattle·semantics.specs.Path.{Path, ChoicePoint, take-disj};
-ghost use Rattle·semantics.specs.Round.{Tally, backtrack};
-ghost use Rattle·engine·specs.specs.Layout.{most-goals, most-disjunctions};
-ghost use Rattle·engine·specs.specs.Memory.{point};
-ghost use Rattle·engine·specs.specs.Take.{registers, one-choice-more, resumed, PathHeld, BacktrackAs, Taking, TookAs};
+use crate::terms::walk::{part_at, part_end};
 
 // Makes a choice point: the alternatives left, from a reference up to the position `end`, and all that the path has when it is come back to.
 pub(crate) fn push_choice(scratch: &mut [u32], st: State, rest: u32, end: u32) -> State
-    requires { ⌜ (scratch-words ≤ length (now scratch)) × (st .choices < most-disjunctions) ⌝ }
-    ensures { λ r. ⌜ (r ≡ one-choice-more st) × (now (scratch .exit) ≡ point (now (scratch .entry)) (st .choices) rest end (registers st)) ⌝ }
+    requires { (scratch_words ≤ length scratch.old) × (st.choices < most_disjunctions) }
+    ensures { (result ≡ one_choice_more st) × (scratch.new ≡ point scratch.old st.choices rest end (registers st)) }
 {
     let at = (POINTS + 8 * st.choices) as usize;
     scratch[at] = rest;
@@ -52,8 +43,8 @@ pub(crate) fn push_choice(scratch: &mut [u32], st: State, rest: u32, end: u32) -
 
 // The state that the newest choice point has saved, with one goal more put to wait, when so many choice points are left.
 fn saved_state(scratch: &[u32], st: State, choices: u32) -> State
-    requires { ⌜ (scratch-words ≤ length (now scratch)) × (0 < st .choices) × (st .choices ≤ most-disjunctions) × (resumed (now scratch) st choices .goals ≤ most-goals) ⌝ }
-    ensures { λ r. ⌜ r ≡ resumed (now (scratch .entry)) st choices ⌝ }
+    requires { (scratch_words ≤ length scratch.now) × (0 < st.choices) × (st.choices ≤ most_disjunctions) × ((resumed scratch.now st choices).goals ≤ most_goals) }
+    ensures { result ≡ resumed scratch.now st choices }
 {
     let at = (POINTS + 8 * (st.choices - 1)) as usize;
     State {
@@ -70,9 +61,9 @@ fn saved_state(scratch: &[u32], st: State, choices: u32) -> State
 
 // Backtracks to the newest choice point: all that was bound since is undone, and its next alternative is to be taken. Where that is its last one, the choice point goes.
 pub(crate) fn backtrack(program: &[u32], scratch: &mut [u32], st: State) -> Resumed
-    requires { ⌜ ((P : Program) × (p : Path) × (cs : List ChoicePoint) × PathHeld P (now program) (now scratch) st p cs) ⌝ }
-    ensures { λ r. ⌜ ((P : Program) (p : Path) (cs : List ChoicePoint) (t : Tally) → PathHeld P (now (program .entry)) (now (scratch .entry)) st p cs
-        → BacktrackAs P (now (program .entry)) (now (scratch .exit)) st t (backtrack cs t) r) ⌝ }
+    requires { (P : Program) × (p : Path) × (cs : List ChoicePoint) × PathHeld P program.now scratch.old st p cs }
+    ensures { (P : Program) (p : Path) (cs : List ChoicePoint) (t : Tally) → PathHeld P program.now scratch.old st p cs
+        → BacktrackAs P program.now scratch.new st t (backtrack cs t) result }
 {
     if st.choices == 0 {
         return Resumed::Over;
@@ -92,9 +83,9 @@ pub(crate) fn backtrack(program: &[u32], scratch: &mut [u32], st: State) -> Resu
 
 // A disjunction puts its first alternative to wait; where there are more, a choice point has the others.
 pub(crate) fn take_disj(program: &[u32], scratch: &mut [u32], st: State, disjunction: u32) -> Took
-    requires { ⌜ ((P : Program) × (p : Path) × (cs : List ChoicePoint) × (base : ℕ) × (gs : Goals) × Taking P (now program) (now scratch) st disjunction p cs (base, disj gs)) ⌝ }
-    ensures { λ r. ⌜ ((P : Program) (p : Path) (cs : List ChoicePoint) (base : ℕ) (gs : Goals) → Taking P (now (program .entry)) (now (scratch .entry)) st disjunction p cs (base, disj gs)
-        → TookAs P (now (program .entry)) (now (scratch .exit)) cs (take-disj p cs base gs (st .steps)) (r .way) (r .state)) ⌝ }
+    requires { (P : Program) × (p : Path) × (cs : List ChoicePoint) × (base : ℕ) × (gs : Goals) × Taking P program.now scratch.old st disjunction p cs (base, disj gs) }
+    ensures { (P : Program) (p : Path) (cs : List ChoicePoint) (base : ℕ) (gs : Goals) → Taking P program.now scratch.old st disjunction p cs (base, disj gs)
+        → TookAs P program.now scratch.new cs (take_disj p cs base gs st.steps) result.way result.state }
 {
     if MOST_GOALS <= st.goals {
         return Took {

@@ -1,28 +1,20 @@
 // Taking equalities and constraints: the path goes on with what they ask, or it is left.
-use crate::layout::CONSTRAINTS;
-use crate::layout::MOST_CONSTRAINTS;
+ghost use Rattle.std.specs.Prelude.{◌≡◌, List, ℕ};
+ghost use Rattle.rules.specs.Syntax.{Term, Constraint, equal, constrain, Program};
+ghost use Rattle.semantics.specs.Substitution.{shift, shift_constraint};
+ghost use Rattle.semantics.specs.Path.{Path, ChoicePoint, take_equal, take_constraint};
+ghost use Rattle.engine.specs.Take.{GoalReady, TookAs, with_counts, review_took};
+
+use crate::layout::{CONSTRAINTS, MOST_CONSTRAINTS};
 use crate::report::Bound;
-use crate::search::state::State;
-use crate::search::state::Stop;
-use crate::search::state::Took;
-use crate::search::state::Way;
-use crate::terms::review::Reviewed;
-use crate::terms::review::review;
-use crate::terms::review::review_all;
-use crate::terms::unify::Unified;
-use crate::terms::unify::unify;
+use crate::search::state::{State, Stop, Took, Way};
+use crate::terms::review::{Reviewed, review, review_all};
+use crate::terms::unify::{Unified, unify};
 use crate::terms::walk::skip;
-ghost use mathlib.Core.Path.{_≡_};
-ghost use mathlib.Core.List.{List};
-ghost use Prim.Native.Nat.{ℕ};
-ghost use Rattle·rules.specs.Syntax.{Term, Constraint, equal, constrain, Program};
-ghost use Rattle·semantics.specs.Substitution.{shift, shift-constraint};
-ghost use Rattle·semantics.specs.Path.{Path, ChoicePoint, take-equal, take-constraint};
-ghost use Rattle·engine·specs.specs.Take.{GoalReady, TookAs, with-counts, review-took};
 
 // The state with so many entries on the trail, so many constraints, so many steps left.
 pub(crate) fn with_counts(st: State, trail: u32, kept: u32, left: u32) -> State
-    ensures { λ r. ⌜ r ≡ with-counts st trail kept left ⌝ }
+    ensures { result ≡ with_counts st trail kept left }
 {
     State {
         head: st.head,
@@ -38,7 +30,7 @@ pub(crate) fn with_counts(st: State, trail: u32, kept: u32, left: u32) -> State
 
 // What a review comes to for its path.
 fn after_review(st: State, reviewed: Reviewed) -> Took
-    ensures { λ r. ⌜ r ≡ review-took st reviewed ⌝ }
+    ensures { result ≡ review_took st reviewed }
 {
     match reviewed {
         Reviewed::Fails(left) => Took {
@@ -62,9 +54,9 @@ fn after_review(st: State, reviewed: Reviewed) -> Took
 
 // An equality unifies its terms; where that bound something, the constraints are reviewed.
 pub(crate) fn take_equal(program: &[u32], scratch: &mut [u32], st: State, goal: u32) -> Took
-    requires { ⌜ ((P : Program) × (p : Path) × (cs : List ChoicePoint) × (base : ℕ) × (s : Term) × (t : Term) × GoalReady P (now program) (now scratch) st goal p cs (base, equal s t)) ⌝ }
-    ensures { λ r. ⌜ ((P : Program) (p : Path) (cs : List ChoicePoint) (base : ℕ) (s t : Term) → GoalReady P (now (program .entry)) (now (scratch .entry)) st goal p cs (base, equal s t)
-        → TookAs P (now (program .entry)) (now (scratch .exit)) cs (take-equal p cs (shift base s) (shift base t) (st .steps)) (r .way) (r .state)) ⌝ }
+    requires { (P : Program) × (p : Path) × (cs : List ChoicePoint) × (base : ℕ) × (s : Term) × (t : Term) × GoalReady P program.now scratch.old st goal p cs (base, equal s t) }
+    ensures { (P : Program) (p : Path) (cs : List ChoicePoint) (base : ℕ) (s t : Term) → GoalReady P program.now scratch.old st goal p cs (base, equal s t)
+        → TookAs P program.now scratch.new cs (take_equal p cs (shift base s) (shift base t) st.steps) result.way result.state }
 {
     let second = skip(program, goal + 1);
     match unify(&*program, scratch, goal + 1, second, st.trail, st.steps) {
@@ -96,9 +88,9 @@ pub(crate) fn take_equal(program: &[u32], scratch: &mut [u32], st: State, goal: 
 
 // A constraint is kept, and reviewed.
 pub(crate) fn take_constraint(program: &[u32], scratch: &mut [u32], st: State, goal: u32) -> Took
-    requires { ⌜ ((P : Program) × (p : Path) × (cs : List ChoicePoint) × (base : ℕ) × (c : Constraint) × GoalReady P (now program) (now scratch) st goal p cs (base, constrain c)) ⌝ }
-    ensures { λ r. ⌜ ((P : Program) (p : Path) (cs : List ChoicePoint) (base : ℕ) (c : Constraint) → GoalReady P (now (program .entry)) (now (scratch .entry)) st goal p cs (base, constrain c)
-        → TookAs P (now (program .entry)) (now (scratch .exit)) cs (take-constraint p cs (shift-constraint base c) (st .steps)) (r .way) (r .state)) ⌝ }
+    requires { (P : Program) × (p : Path) × (cs : List ChoicePoint) × (base : ℕ) × (c : Constraint) × GoalReady P program.now scratch.old st goal p cs (base, constrain c) }
+    ensures { (P : Program) (p : Path) (cs : List ChoicePoint) (base : ℕ) (c : Constraint) → GoalReady P program.now scratch.old st goal p cs (base, constrain c)
+        → TookAs P program.now scratch.new cs (take_constraint p cs (shift_constraint base c) st.steps) result.way result.state }
 {
     if MOST_CONSTRAINTS <= st.constraints {
         return Took {

@@ -1,30 +1,22 @@
 // Goals put to wait: a conjunction takes its goals apart.
-use crate::layout::CELL_GOAL;
-use crate::layout::CELL_NEXT;
-use crate::layout::MOST_GOALS;
+ghost use Rattle.std.specs.Prelude.{◌≡◌, List, ℕ, ◌+◌, ◌<◌, ◌≤◌, length};
+ghost use Rattle.rules.specs.Syntax.{Goals, conj, Program};
+ghost use Rattle.rules.specs.Settings.{scratch_words};
+ghost use Rattle.semantics.specs.Path.{Path, ChoicePoint, take_conj};
+ghost use Rattle.engine.specs.Layout.{most_goals};
+ghost use Rattle.engine.specs.Memory.{cell};
+ghost use Rattle.engine.specs.Take.{Taking, TookAs, one_goal_more};
+
+use crate::layout::{CELL_GOAL, CELL_NEXT, MOST_GOALS};
 use crate::report::Bound;
-use crate::search::state::State;
-use crate::search::state::Stop;
-use crate::search::state::Took;
-use crate::search::state::Way;
-use crate::terms::walk::part_at;
-use crate::terms::walk::part_end;
-ghost use mathlib.Core.Path.{_≡_};
-ghost use mathlib.Core.List.{List};
-ghost use Prim.Native.Nat.{ℕ, _+_, _<_, _≤_};
-ghost use lib.ListN.{length};
-ghost use Rattle·rules.specs.Syntax.{Goals, conj, Program};
-ghost use Rattle·rules.specs.Settings.{scratch-words};
-ghost use Rattle·semantics.specs.Path.{Path, ChoicePoint, take-conj};
-ghost use Rattle·engine·specs.specs.Layout.{most-goals};
-ghost use Rattle·engine·specs.specs.Memory.{cell};
-ghost use Rattle·engine·specs.specs.Take.{Taking, TookAs, one-goal-more};
+use crate::search::state::{State, Stop, Took, Way};
+use crate::terms::walk::{part_at, part_end};
 
 // A conjunction puts its goals to wait: in cells one after the other, each linked to the next and the last to the old head.
 pub(crate) fn take_conj(program: &[u32], scratch: &mut [u32], st: State, conjunction: u32) -> Took
-    requires { ⌜ ((P : Program) × (p : Path) × (cs : List ChoicePoint) × (base : ℕ) × (gs : Goals) × Taking P (now program) (now scratch) st conjunction p cs (base, conj gs)) ⌝ }
-    ensures { λ r. ⌜ ((P : Program) (p : Path) (cs : List ChoicePoint) (base : ℕ) (gs : Goals) → Taking P (now (program .entry)) (now (scratch .entry)) st conjunction p cs (base, conj gs)
-        → TookAs P (now (program .entry)) (now (scratch .exit)) cs (take-conj p cs base gs (st .steps)) (r .way) (r .state)) ⌝ }
+    requires { (P : Program) × (p : Path) × (cs : List ChoicePoint) × (base : ℕ) × (gs : Goals) × Taking P program.now scratch.old st conjunction p cs (base, conj gs) }
+    ensures { (P : Program) (p : Path) (cs : List ChoicePoint) (base : ℕ) (gs : Goals) → Taking P program.now scratch.old st conjunction p cs (base, conj gs)
+        → TookAs P program.now scratch.new cs (take_conj p cs base gs st.steps) result.way result.state }
 {
     let end = part_end(conjunction, part_at(program, conjunction).payload);
     let mut goal = conjunction + 1;
@@ -63,8 +55,8 @@ pub(crate) fn take_conj(program: &[u32], scratch: &mut [u32], st: State, conjunc
 
 // Puts a goal to wait: it stands ahead of all older ones.
 pub(crate) fn push_goal(scratch: &mut [u32], st: State, goal: u32) -> State
-    requires { ⌜ (scratch-words ≤ length (now scratch)) × (st .goals < most-goals) ⌝ }
-    ensures { λ r. ⌜ (r ≡ one-goal-more st) × (now (scratch .exit) ≡ cell (now (scratch .entry)) (st .goals + 1) goal (st .head)) ⌝ }
+    requires { (scratch_words ≤ length scratch.old) × (st.goals < most_goals) }
+    ensures { (result ≡ one_goal_more st) × (scratch.new ≡ cell scratch.old (st.goals + 1) goal st.head) }
 {
     let at = (CELL_GOAL + 2 * (st.goals + 1)) as usize;
     let next = (CELL_NEXT + 2 * (st.goals + 1)) as usize;

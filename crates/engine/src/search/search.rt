@@ -1,19 +1,17 @@
 // Turn after turn, until a path gives an answer or the round ends.
-use crate::search::state::Lead;
-use crate::search::state::Searched;
-use crate::search::state::State;
+ghost use Rattle.std.specs.Prelude.{◌≡◌, ℕ, ◌<◌};
+ghost use Rattle.rules.specs.Syntax.{Program};
+ghost use Rattle.semantics.specs.Round as definition;
+ghost use Rattle.semantics.specs.Invariant.{ProgramIn};
+ghost use Rattle.engine.specs.Search.{count_cuts, Searching, SearchedAs};
+
+use crate::search::state::{Lead, Searched, State};
 use crate::search::turn::turn;
-ghost use mathlib.Core.Path.{_≡_};
-ghost use Prim.Native.Nat.{ℕ, _<_};
-ghost use Rattle·rules.specs.Syntax.{Program};
-ghost use Rattle·semantics.specs.Round as definition;
-ghost use Rattle·semantics.specs.Invariant.{ProgramIn};
-ghost use Rattle·engine·specs.specs.Search.{count-cuts, Searching, SearchedAs};
 
 // One more if a branch was cut.
 fn count_cuts(cuts: u32, cut: u32) -> u32
-    requires { ⌜ cuts < 4294967295 ⌝ }
-    ensures { λ r. ⌜ r ≡ count-cuts cuts cut ⌝ }
+    requires { cuts < 4294967295 }
+    ensures { result ≡ count_cuts cuts cut }
 {
     if cut == 0 {
         return cuts;
@@ -29,10 +27,10 @@ pub(crate) fn search(
     round: u32,
     before: u32,
 ) -> Searched
-    requires { ⌜ ((P : Program) × (wf : ProgramIn P) × (n : ℕ) × (state : definition.State) × Searching P wf n round (now program) (now scratch) first task before state) ⌝ }
-    ensures { λ r. ⌜ ((P : Program) (wf : ProgramIn P) (n : ℕ) (state : definition.State) (fuel : ℕ)
-        → Searching P wf n round (now (program .entry)) (now (scratch .entry)) first task before state → state .tally .left < fuel
-        → SearchedAs P wf n round (now (program .entry)) (now (scratch .exit)) state fuel r) ⌝ }
+    requires { (P : Program) × (wf : ProgramIn P) × (n : ℕ) × (state : definition.State) × Searching P wf n round program.now scratch.old first task before state }
+    ensures { (P : Program) (wf : ProgramIn P) (n : ℕ) (state : definition.State) (fuel : ℕ)
+        → Searching P wf n round program.now scratch.old first task before state → state.tally.left < fuel
+        → SearchedAs P wf n round program.now scratch.new state fuel result }
 {
     let mut st = first;
     let mut goal = task;

@@ -1,26 +1,22 @@
 // Taking a goal, whatever its kind.
+ghost use Rattle.std.specs.Prelude.{List};
+ghost use Rattle.rules.specs.Syntax.{Program};
+ghost use Rattle.semantics.specs.Path.{Task, Path, ChoicePoint, take_goal};
+ghost use Rattle.engine.specs.Take.{Due, TookAs};
+
 use crate::search::call::take_call;
 use crate::search::choice::take_disj;
-use crate::search::constrain::take_constraint;
-use crate::search::constrain::take_equal;
-use crate::search::constrain::with_counts;
+use crate::search::constrain::{take_constraint, take_equal, with_counts};
 use crate::search::goal::take_conj;
-use crate::search::state::State;
-use crate::search::state::Stop;
-use crate::search::state::Took;
-use crate::search::state::Way;
+use crate::search::state::{State, Stop, Took, Way};
 use crate::terms::walk::part_at;
 use word::Word;
-ghost use mathlib.Core.List.{List};
-ghost use Rattle·rules.specs.Syntax.{Program};
-ghost use Rattle·semantics.specs.Path.{Task, Path, ChoicePoint, take-goal};
-ghost use Rattle·engine·specs.specs.Take.{Due, TookAs};
 
 // A step, and what the goal asks for; the round's number bounds its calls.
 pub(crate) fn take(program: &[u32], scratch: &mut [u32], st: State, goal: u32, round: u32) -> Took
-    requires { ⌜ ((P : Program) × (p : Path) × (cs : List ChoicePoint) × (task : Task) × Due P (now program) (now scratch) st goal p cs task) ⌝ }
-    ensures { λ r. ⌜ ((P : Program) (p : Path) (cs : List ChoicePoint) (task : Task) → Due P (now (program .entry)) (now (scratch .entry)) st goal p cs task
-        → TookAs P (now (program .entry)) (now (scratch .exit)) cs (take-goal round P p cs (task .0) (task .1) (st .steps)) (r .way) (r .state)) ⌝ }
+    requires { (P : Program) × (p : Path) × (cs : List ChoicePoint) × (task : Task) × Due P program.now scratch.old st goal p cs task }
+    ensures { (P : Program) (p : Path) (cs : List ChoicePoint) (task : Task) → Due P program.now scratch.old st goal p cs task
+        → TookAs P program.now scratch.new cs (take_goal round P p cs task.0 task.1 st.steps) result.way result.state }
 {
     if st.steps == 0 {
         return Took {

@@ -1,28 +1,23 @@
 // One turn of a round: a goal is taken, and the next one found.
-use crate::layout::CELL_GOAL;
-use crate::layout::CELL_NEXT;
+ghost use Rattle.std.specs.Prelude.{List, ℕ};
+ghost use Rattle.rules.specs.Syntax.{Program};
+ghost use Rattle.semantics.specs.Steps.{Outcome, done};
+ghost use Rattle.semantics.specs.Path.{Path, ChoicePoint, Taken, goes};
+ghost use Rattle.semantics.specs.Substitution.{argument};
+ghost use Rattle.semantics.specs.Round as definition;
+ghost use Rattle.engine.specs.Take.{PathHeld};
+ghost use Rattle.engine.specs.Turn.{Turning, took_goal, tallied, TurnedAs};
+
+use crate::layout::{CELL_GOAL, CELL_NEXT};
 use crate::search::choice::backtrack;
-use crate::search::state::Lead;
-use crate::search::state::Resumed;
-use crate::search::state::State;
-use crate::search::state::Turned;
-use crate::search::state::Way;
+use crate::search::state::{Lead, Resumed, State, Turned, Way};
 use crate::search::take::take;
-ghost use mathlib.Core.List.{List};
-ghost use Prim.Native.Nat.{ℕ};
-ghost use Rattle·rules.specs.Syntax.{Program};
-ghost use Rattle·semantics.specs.Steps.{Outcome, done};
-ghost use Rattle·semantics.specs.Path.{Path, ChoicePoint, Taken, goes};
-ghost use Rattle·semantics.specs.Substitution.{argument};
-ghost use Rattle·semantics.specs.Round as definition;
-ghost use Rattle·engine·specs.specs.Take.{PathHeld};
-ghost use Rattle·engine·specs.specs.Turn.{Turning, took-goal, tallied, TurnedAs};
 
 // The path is left; `cuts` is 1 if it was cut.
 fn leave_path(program: &[u32], scratch: &mut [u32], st: State, cuts: u32) -> Turned
-    requires { ⌜ ((P : Program) × (p : Path) × (cs : List ChoicePoint) × PathHeld P (now program) (now scratch) st p cs) ⌝ }
-    ensures { λ r. ⌜ ((P : Program) (n k : ℕ) (p : Path) (cs : List ChoicePoint) (t : definition.Tally) (o : Outcome Taken) → PathHeld P (now (program .entry)) (now (scratch .entry)) st p cs
-        → TurnedAs P n k (now (program .entry)) (now (scratch .exit)) t o (definition.backtrack cs (tallied t (st .steps) cuts)) r) ⌝ }
+    requires { (P : Program) × (p : Path) × (cs : List ChoicePoint) × PathHeld P program.now scratch.old st p cs }
+    ensures { (P : Program) (n k : ℕ) (p : Path) (cs : List ChoicePoint) (t : definition.Tally) (o : Outcome Taken) → PathHeld P program.now scratch.old st p cs
+        → TurnedAs P n k program.now scratch.new t o (definition.backtrack cs (tallied t st.steps cuts)) result }
 {
     match backtrack(program, scratch, st) {
         Resumed::Over => Turned {
@@ -42,9 +37,9 @@ fn leave_path(program: &[u32], scratch: &mut [u32], st: State, cuts: u32) -> Tur
 
 // The path goes on with its first waiting goal; with none it gives an answer, if it made as many calls as the round's number.
 fn go_on(program: &[u32], scratch: &mut [u32], st: State, round: u32) -> Turned
-    requires { ⌜ ((P : Program) × (p : Path) × (cs : List ChoicePoint) × PathHeld P (now program) (now scratch) st p cs) ⌝ }
-    ensures { λ r. ⌜ ((P : Program) (n : ℕ) (p : Path) (cs : List ChoicePoint) (t : definition.Tally) → PathHeld P (now (program .entry)) (now (scratch .entry)) st p cs
-        → TurnedAs P n round (now (program .entry)) (now (scratch .exit)) t (done (goes p cs) (st .steps)) (definition.go-on (definition.once argument) n round p (p .stack) cs (definition.spend t (st .steps))) r) ⌝ }
+    requires { (P : Program) × (p : Path) × (cs : List ChoicePoint) × PathHeld P program.now scratch.old st p cs }
+    ensures { (P : Program) (n : ℕ) (p : Path) (cs : List ChoicePoint) (t : definition.Tally) → PathHeld P program.now scratch.old st p cs
+        → TurnedAs P n round program.now scratch.new t (done (goes p cs) st.steps) (definition.go_on (definition.once argument) n round p p.stack cs (definition.spend t st.steps)) result }
 {
     if st.head == 0 {
         if st.calls == round {
@@ -78,9 +73,9 @@ fn go_on(program: &[u32], scratch: &mut [u32], st: State, round: u32) -> Turned
 }
 
 pub(crate) fn turn(program: &[u32], scratch: &mut [u32], st: State, goal: u32, round: u32) -> Turned
-    requires { ⌜ ((P : Program) × (state : definition.State) × Turning P (now program) (now scratch) st goal state) ⌝ }
-    ensures { λ r. ⌜ ((P : Program) (n : ℕ) (state : definition.State) → Turning P (now (program .entry)) (now (scratch .entry)) st goal state
-        → TurnedAs P n round (now (program .entry)) (now (scratch .exit)) (state .tally) (took-goal round P state (st .steps)) (definition.turn P n round state) r) ⌝ }
+    requires { (P : Program) × (state : definition.State) × Turning P program.now scratch.old st goal state }
+    ensures { (P : Program) (n : ℕ) (state : definition.State) → Turning P program.now scratch.old st goal state
+        → TurnedAs P n round program.now scratch.new state.tally (took_goal round P state st.steps) (definition.turn P n round state) result }
 {
     let took = take(program, scratch, st, goal, round);
     let way = took.way;

@@ -2,37 +2,33 @@
 //
 // The variables entered are marked, a bit for each, in words that are made for this check alone. Most checks enter no bound variable: a check begins without marks, and makes them where it
 // comes to the first value of a bound variable that is a pair.
+ghost use Rattle.std.specs.Prelude.{false, List, ◌≡◌, ℕ, ◌<◌, ◌≤◌, length};
+ghost use Rattle.std.proofs.Math.Option.{Option};
+ghost use Rattle.rules.specs.Syntax.{Term};
+ghost use Rattle.semantics.specs.Substitution.{Substitution};
+ghost use Rattle.engine.specs.Layout.{most_variables};
+ghost use Rattle.engine.specs.Walk.{Follows};
+ghost use Rattle.engine.specs.Occurs.{mark_words, marked, with_mark, Marks, Led, EnteredAs, CheckAs, UnmarkedAs, OccursAs};
+
 use crate::layout::MOST_NODES;
-use crate::terms::scan::Scanned;
-use crate::terms::scan::leaf_word;
+use crate::terms::scan::{Scanned, leaf_word};
 use crate::terms::walk::walk;
 use word::Word;
-ghost use mathlib.Core.Bool.{false};
-ghost use mathlib.Core.List.{List};
-ghost use mathlib.Core.Option.{Option};
-ghost use mathlib.Core.Path.{_≡_};
-ghost use Prim.Native.Nat.{ℕ, _<_, _≤_};
-ghost use lib.ListN.{length};
-ghost use Rattle·rules.specs.Syntax.{Term};
-ghost use Rattle·semantics.specs.Substitution.{Substitution};
-ghost use Rattle·engine·specs.specs.Layout.{most-variables};
-ghost use Rattle·engine·specs.specs.Walk.{Follows};
-ghost use Rattle·engine·specs.specs.Occurs.{mark-words, marked, with-mark, Marks, Led, EnteredAs, CheckAs, UnmarkedAs, OccursAs};
 
 // The words of a check's marks: a bit for each of a path's 2,048 variables.
 const MARK_WORDS: usize = 64;
 
 fn is_marked(marks: &[u32], variable: u32) -> bool
-    requires { ⌜ (variable < most-variables) × (mark-words ≤ length (now marks)) ⌝ }
-    ensures { λ r. ⌜ r ≡ marked (now (marks .entry)) variable ⌝ }
+    requires { (variable < most_variables) × (mark_words ≤ length marks.now) }
+    ensures { result ≡ marked marks.now variable }
 {
     let word = marks[(variable / 32) as usize];
     (word >> (variable % 32)) % 2 == 1
 }
 
 fn mark(marks: &mut [u32], variable: u32)
-    requires { ⌜ (variable < most-variables) × (mark-words ≤ length (now marks)) × (marked (now marks) variable ≡ false) ⌝ }
-    ensures { λ _. ⌜ now (marks .exit) ≡ with-mark (now (marks .entry)) variable ⌝ }
+    requires { (variable < most_variables) × (mark_words ≤ length marks.old) × (marked marks.old variable ≡ false) }
+    ensures { marks.new ≡ with_mark marks.old variable }
 {
     let at = (variable / 32) as usize;
     let word = marks[at];
@@ -41,8 +37,8 @@ fn mark(marks: &mut [u32], variable: u32)
 
 // Whether a pair that was come to this way is a value that was entered; if not, and the way led through a bound variable, it is entered now.
 fn entered_before(marks: &mut [u32], through: u32) -> bool
-    requires { ⌜ (mark-words ≤ length (now marks)) × ((z : Option ℕ) × Led through z) ⌝ }
-    ensures { λ r. ⌜ ((z : Option ℕ) (es : List ℕ) → Led through z → Marks (now (marks .entry)) es → EnteredAs (now (marks .exit)) z es r) ⌝ }
+    requires { (mark_words ≤ length marks.old) × ((z : Option ℕ) × Led through z) }
+    ensures { (z : Option ℕ) (es : List ℕ) → Led through z → Marks marks.old es → EnteredAs marks.new z es result }
 {
     if through == 0 {
         return false;
@@ -65,10 +61,10 @@ fn check(
     waiting: u32,
     steps: u32,
 ) -> Scanned
-    requires { ⌜ (sought < most-variables) × (mark-words ≤ length (now marks))
-        × ((bs : Substitution) × (es : List ℕ) × (t : Term) × Follows (now program) (now scratch) bs term t × Marks (now marks) es) ⌝ }
-    ensures { λ r. ⌜ ((bs : Substitution) (es : List ℕ) (t : Term) → Follows (now (program .entry)) (now (scratch .entry)) bs term t → Marks (now (marks .entry)) es
-        → CheckAs (now (marks .exit)) sought bs es t waiting steps r) ⌝ }
+    requires { (sought < most_variables) × (mark_words ≤ length marks.old)
+        × ((bs : Substitution) × (es : List ℕ) × (t : Term) × Follows program.now scratch.now bs term t × Marks marks.old es) }
+    ensures { (bs : Substitution) (es : List ℕ) (t : Term) → Follows program.now scratch.now bs term t → Marks marks.old es
+        → CheckAs marks.new sought bs es t waiting steps result }
 {
     let mut at = term;
     let mut left = steps;
@@ -133,14 +129,15 @@ fn check(
 
 // Goes on with marks, of which none is made yet.
 fn check_marking(program: &[u32], scratch: &[u32], sought: u32, term: u32, steps: u32) -> Scanned
-    requires { ⌜ (sought < most-variables) × ((bs : Substitution) × (t : Term) × Follows (now program) (now scratch) bs term t) ⌝ }
-    ensures { λ r. ⌜ ((bs : Substitution) (t : Term) → Follows (now (program .entry)) (now (scratch .entry)) bs term t → OccursAs sought bs t 0 steps r) ⌝ }
+    requires { (sought < most_variables) × ((bs : Substitution) × (t : Term) × Follows program.now scratch.now bs term t) }
+    ensures { (bs : Substitution) (t : Term) → Follows program.now scratch.now bs term t → OccursAs sought bs t 0 steps result }
 {
     let mut marks = [0u32; MARK_WORDS];
     check(&*program, &*scratch, &mut marks, sought, term, 0, steps)
 }
 
 // What is found without marks, with the steps left; or a bound variable is to be entered.
+#[derive(Clone, Copy)]
 pub enum Unmarked {
     Found(u32),
     Clear(u32),
@@ -158,8 +155,8 @@ fn check_unmarked(
     waiting: u32,
     steps: u32,
 ) -> Unmarked
-    requires { ⌜ (sought < most-variables) × ((bs : Substitution) × (t : Term) × Follows (now program) (now scratch) bs term t) ⌝ }
-    ensures { λ r. ⌜ ((bs : Substitution) (t : Term) → Follows (now (program .entry)) (now (scratch .entry)) bs term t → UnmarkedAs sought bs t waiting steps r) ⌝ }
+    requires { (sought < most_variables) × ((bs : Substitution) × (t : Term) × Follows program.now scratch.now bs term t) }
+    ensures { (bs : Substitution) (t : Term) → Follows program.now scratch.now bs term t → UnmarkedAs sought bs t waiting steps result }
 {
     let mut at = term;
     let mut left = steps;
@@ -225,8 +222,8 @@ pub(crate) fn occurs(
     term: u32,
     steps: u32,
 ) -> Scanned
-    requires { ⌜ (sought < most-variables) × ((bs : Substitution) × (t : Term) × Follows (now program) (now scratch) bs term t) ⌝ }
-    ensures { λ r. ⌜ ((bs : Substitution) (t : Term) → Follows (now (program .entry)) (now (scratch .entry)) bs term t → OccursAs sought bs t 0 steps r) ⌝ }
+    requires { (sought < most_variables) × ((bs : Substitution) × (t : Term) × Follows program.now scratch.now bs term t) }
+    ensures { (bs : Substitution) (t : Term) → Follows program.now scratch.now bs term t → OccursAs sought bs t 0 steps result }
 {
     let mut at = term;
     let mut left = steps;

@@ -1,26 +1,22 @@
 // Reviews of constraints: does one fail?
+ghost use Rattle.std.specs.Prelude.{◌≡◌, List, []};
+ghost use Rattle.rules.specs.Syntax.{Term, Sort, Atom, Constraint, absento};
+ghost use Rattle.semantics.specs.Substitution.{Substitution, walk};
+ghost use Rattle.semantics.specs.Steps.{and_then, done};
+ghost use Rattle.semantics.specs.Unify as unification;
+ghost use Rattle.semantics.specs.Review as definition;
+ghost use Rattle.engine.specs.Unify.{TwoTerms};
+ghost use Rattle.engine.specs.Review.{other_kind, ConstraintsHeld, Constrains, Reviews, Typing, review_says, ReviewedAs};
+
 use crate::layout::CONSTRAINTS;
-use crate::terms::scan::Scanned;
-use crate::terms::scan::scan;
+use crate::terms::scan::{Scanned, scan};
 use crate::terms::trail::undo;
-use crate::terms::unify::Unified;
-use crate::terms::unify::unify;
-use crate::terms::walk::part_at;
-use crate::terms::walk::skip;
-use crate::terms::walk::variable_at;
-use crate::terms::walk::walk;
+use crate::terms::unify::{Unified, unify};
+use crate::terms::walk::{part_at, skip, variable_at, walk};
 use word::Word;
-ghost use mathlib.Core.Path.{_≡_};
-ghost use mathlib.Core.List.{List, []};
-ghost use Rattle·rules.specs.Syntax.{Term, Sort, Atom, Constraint, absento};
-ghost use Rattle·semantics.specs.Substitution.{Substitution, walk};
-ghost use Rattle·semantics.specs.Steps.{and-then, done};
-ghost use Rattle·semantics.specs.Unify as unification;
-ghost use Rattle·semantics.specs.Review as definition;
-ghost use Rattle·engine·specs.specs.Unify.{TwoTerms};
-ghost use Rattle·engine·specs.specs.Review.{other-kind, ConstraintsHeld, Constrains, Reviews, Typing, review-says, ReviewedAs};
 
 // A number is the steps left.
+#[derive(Clone, Copy)]
 pub enum Reviewed {
     Fails(u32),
     Holds(u32),
@@ -30,9 +26,9 @@ pub enum Reviewed {
 
 // Is the constraint a type of this kind that reaches the open variable?
 fn reaches(program: &[u32], scratch: &[u32], constraint: u32, kind: u32, variable: u32) -> bool
-    requires { ⌜ ((bs : Substitution) × (c : Constraint) × (k : Sort) × Constrains (now program) (now scratch) bs constraint c × (kind ≡ other-kind k)) ⌝ }
-    ensures { λ r. ⌜ ((bs : Substitution) (c : Constraint) (k : Sort) → Constrains (now (program .entry)) (now (scratch .entry)) bs constraint c → kind ≡ other-kind k
-        → r ≡ definition.reaches bs k variable c) ⌝ }
+    requires { (bs : Substitution) × (c : Constraint) × (k : Sort) × Constrains program.now scratch.now bs constraint c × (kind ≡ other_kind k) }
+    ensures { (bs : Substitution) (c : Constraint) (k : Sort) → Constrains program.now scratch.now bs constraint c → kind ≡ other_kind k
+        → result ≡ definition.reaches bs k variable c }
 {
     if part_at(&*program, constraint).kind != kind {
         return false;
@@ -56,9 +52,9 @@ fn clashes(
     trail: u32,
     kept: u32,
 ) -> bool
-    requires { ⌜ ((bs : Substitution) × (cs : List Constraint) × (k : Sort) × ConstraintsHeld (now program) (now scratch) bs cs trail kept × (kind ≡ other-kind k)) ⌝ }
-    ensures { λ r. ⌜ ((bs : Substitution) (cs : List Constraint) (k : Sort) → ConstraintsHeld (now (program .entry)) (now (scratch .entry)) bs cs trail kept → kind ≡ other-kind k
-        → r ≡ definition.clashes bs k variable cs) ⌝ }
+    requires { (bs : Substitution) × (cs : List Constraint) × (k : Sort) × ConstraintsHeld program.now scratch.now bs cs trail kept × (kind ≡ other_kind k) }
+    ensures { (bs : Substitution) (cs : List Constraint) (k : Sort) → ConstraintsHeld program.now scratch.now bs cs trail kept → kind ≡ other_kind k
+        → result ≡ definition.clashes bs k variable cs }
 {
     let mut i = 0;
     while i < kept {
@@ -87,9 +83,9 @@ fn review_type(
     kept: u32,
     left: u32,
 ) -> Reviewed
-    requires { ⌜ ((bs : Substitution) × (cs : List Constraint) × (k : Sort) × (t : Term) × Typing (now program) (now scratch) bs cs trail kept k term t atom other) ⌝ }
-    ensures { λ r. ⌜ ((bs : Substitution) (cs : List Constraint) (k : Sort) (t : Term) → Typing (now (program .entry)) (now (scratch .entry)) bs cs trail kept k term t atom other
-        → done (definition.sort-fails bs cs k (walk bs t)) left ≡ review-says r) ⌝ }
+    requires { (bs : Substitution) × (cs : List Constraint) × (k : Sort) × (t : Term) × Typing program.now scratch.now bs cs trail kept k term t atom other }
+    ensures { (bs : Substitution) (cs : List Constraint) (k : Sort) (t : Term) → Typing program.now scratch.now bs cs trail kept k term t atom other
+        → done (definition.sort_fails bs cs k (walk bs t)) left ≡ review_says result }
 {
     let node = walk(&*program, &*scratch, term);
     let kind = node.kind;
@@ -114,9 +110,9 @@ fn review_type(
 
 // An absento's review: fails if the tag is in the term.
 fn review_absento(program: &[u32], scratch: &[u32], constraint: u32, left: u32) -> Reviewed
-    requires { ⌜ ((bs : Substitution) × (a : Atom) × (t : Term) × Constrains (now program) (now scratch) bs constraint (absento a t)) ⌝ }
-    ensures { λ r. ⌜ ((bs : Substitution) (a : Atom) (t : Term) → Constrains (now (program .entry)) (now (scratch .entry)) bs constraint (absento a t)
-        → unification.scan (unification.is-atom a) bs [] t left ≡ review-says r) ⌝ }
+    requires { (bs : Substitution) × (a : Atom) × (t : Term) × Constrains program.now scratch.now bs constraint (absento a t) }
+    ensures { (bs : Substitution) (a : Atom) (t : Term) → Constrains program.now scratch.now bs constraint (absento a t)
+        → unification.scan (unification.is_atom a) bs [] t left ≡ review_says result }
 {
     let tag = part_at(&*program, constraint + 1).bits;
     match scan(&*program, &*scratch, tag, constraint + 2, 0, left) {
@@ -136,9 +132,9 @@ fn review_differ(
     trail: u32,
     left: u32,
 ) -> Reviewed
-    requires { ⌜ ((bs : Substitution) × (u : Term) × (v : Term) × TwoTerms (now program) (now scratch) bs first u second v trail) ⌝ }
-    ensures { λ r. ⌜ ((bs : Substitution) (u v : Term) → TwoTerms (now (program .entry)) (now (scratch .entry)) bs first u second v trail
-        → ReviewedAs (now (program .entry)) (now (scratch .entry)) (now (scratch .exit)) bs (and-then (unification.unify-terms bs u v left) (λ o l. done (definition.trial-fails bs o) l)) r) ⌝ }
+    requires { (bs : Substitution) × (u : Term) × (v : Term) × TwoTerms program.now scratch.old bs first u second v trail }
+    ensures { (bs : Substitution) (u v : Term) → TwoTerms program.now scratch.old bs first u second v trail
+        → ReviewedAs program.now scratch.old scratch.new bs (and_then (unification.unify_terms bs u v left) (λ o l. done (definition.trial_fails bs o) l)) result }
 {
     match unify(&*program, scratch, first, second, trail, left) {
         Unified::Joined(grown, rest) => {
@@ -172,9 +168,9 @@ pub(crate) fn review(
     kept: u32,
     steps: u32,
 ) -> Reviewed
-    requires { ⌜ ((bs : Substitution) × (cs : List Constraint) × (c : Constraint) × Reviews (now program) (now scratch) bs cs trail kept constraint c) ⌝ }
-    ensures { λ r. ⌜ ((bs : Substitution) (cs : List Constraint) (c : Constraint) → Reviews (now (program .entry)) (now (scratch .entry)) bs cs trail kept constraint c
-        → ReviewedAs (now (program .entry)) (now (scratch .entry)) (now (scratch .exit)) bs (definition.review bs cs c steps) r) ⌝ }
+    requires { (bs : Substitution) × (cs : List Constraint) × (c : Constraint) × Reviews program.now scratch.old bs cs trail kept constraint c }
+    ensures { (bs : Substitution) (cs : List Constraint) (c : Constraint) → Reviews program.now scratch.old bs cs trail kept constraint c
+        → ReviewedAs program.now scratch.old scratch.new bs (definition.review bs cs c steps) result }
 {
     if steps == 0 {
         return Reviewed::StepsOut;
@@ -214,9 +210,9 @@ pub(crate) fn review_all(
     kept: u32,
     steps: u32,
 ) -> Reviewed
-    requires { ⌜ ((bs : Substitution) × (cs : List Constraint) × ConstraintsHeld (now program) (now scratch) bs cs trail kept) ⌝ }
-    ensures { λ r. ⌜ ((bs : Substitution) (cs : List Constraint) → ConstraintsHeld (now (program .entry)) (now (scratch .entry)) bs cs trail kept
-        → ReviewedAs (now (program .entry)) (now (scratch .entry)) (now (scratch .exit)) bs (definition.review-all bs cs cs steps) r) ⌝ }
+    requires { (bs : Substitution) × (cs : List Constraint) × ConstraintsHeld program.now scratch.old bs cs trail kept }
+    ensures { (bs : Substitution) (cs : List Constraint) → ConstraintsHeld program.now scratch.old bs cs trail kept
+        → ReviewedAs program.now scratch.old scratch.new bs (definition.review_all bs cs cs steps) result }
 {
     let mut i = 0;
     let mut left = steps;

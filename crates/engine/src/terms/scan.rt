@@ -1,17 +1,17 @@
 // The nodes of a followed term, first part before second, up to the first find: the traversal of an absento review and of the writer.
+ghost use Rattle.std.specs.Prelude.{◌+◌, ◌<◌};
+ghost use Rattle.rules.specs.Syntax.{Term};
+ghost use Rattle.semantics.specs.Substitution.{Substitution};
+ghost use Rattle.engine.specs.Reference.{base_of};
+ghost use Rattle.engine.specs.Walk.{Follows};
+ghost use Rattle.engine.specs.Scan.{LeafWord, ScanAs};
+
 use crate::layout::MOST_NODES;
-use crate::terms::walk::Walked;
-use crate::terms::walk::variable_at;
-use crate::terms::walk::walk;
+use crate::terms::walk::{Walked, variable_at, walk};
 use word::Word;
-ghost use Prim.Native.Nat.{_+_, _<_};
-ghost use Rattle·rules.specs.Syntax.{Term};
-ghost use Rattle·semantics.specs.Substitution.{Substitution};
-ghost use Rattle·engine·specs.specs.Reference.{base-of};
-ghost use Rattle·engine·specs.specs.Walk.{Follows};
-ghost use Rattle·engine·specs.specs.Scan.{LeafWord, ScanAs};
 
 // A number is the steps left.
+#[derive(Clone, Copy)]
 pub enum Scanned {
     Found(u32),
     Clear(u32),
@@ -21,8 +21,8 @@ pub enum Scanned {
 
 // The word by which a leaf is sought: an open variable has its number for a word, an atom its own.
 pub(crate) fn leaf_word(node: Walked) -> u32
-    requires { ⌜ base-of (node .at) + node .payload < 4294967296 ⌝ }
-    ensures { λ r. ⌜ LeafWord (node .at) (node .bits) (node .kind) (node .payload) r ⌝ }
+    requires { base_of node.at + node.payload < 4294967296 }
+    ensures { LeafWord node.at node.bits node.kind node.payload result }
 {
     if node.kind == Word::VARIABLE {
         return variable_at(node.at, node.payload);
@@ -40,8 +40,8 @@ pub(crate) fn scan(
     waiting: u32,
     steps: u32,
 ) -> Scanned
-    requires { ⌜ ((bs : Substitution) × (t : Term) × Follows (now program) (now scratch) bs term t) ⌝ }
-    ensures { λ r. ⌜ ((bs : Substitution) (t : Term) → Follows (now (program .entry)) (now (scratch .entry)) bs term t → ScanAs sought bs t waiting steps r) ⌝ }
+    requires { (bs : Substitution) × (t : Term) × Follows program.now scratch.now bs term t }
+    ensures { (bs : Substitution) (t : Term) → Follows program.now scratch.now bs term t → ScanAs sought bs t waiting steps result }
 {
     let mut at = term;
     let mut left = steps;

@@ -1,23 +1,21 @@
 // Unification: a pair of terms is looked at, and pairs of second parts wait in the scratch.
-use crate::layout::MOST_PAIRS;
-use crate::layout::PAIRS;
+ghost use Rattle.std.specs.Prelude.{List, ℕ, ◌<◌};
+ghost use Rattle.rules.specs.Syntax.{Term};
+ghost use Rattle.semantics.specs.Substitution.{Substitution};
+ghost use Rattle.semantics.specs.Unify as definition;
+ghost use Rattle.engine.specs.Reference.{Stands};
+ghost use Rattle.engine.specs.Walk.{IsNode};
+ghost use Rattle.engine.specs.Unify.{LookedAs, TwoTerms, PairUnifiedAs, UnifiedAs};
+
+use crate::layout::{MOST_PAIRS, PAIRS};
 use crate::terms::occurs::occurs;
 use crate::terms::scan::Scanned;
 use crate::terms::trail::bind;
-use crate::terms::walk::Walked;
-use crate::terms::walk::variable_at;
-use crate::terms::walk::walk;
+use crate::terms::walk::{Walked, variable_at, walk};
 use word::Word;
-ghost use mathlib.Core.List.{List};
-ghost use Prim.Native.Nat.{ℕ, _<_};
-ghost use Rattle·rules.specs.Syntax.{Term};
-ghost use Rattle·semantics.specs.Substitution.{Substitution};
-ghost use Rattle·semantics.specs.Unify as definition;
-ghost use Rattle·engine·specs.specs.Reference.{Stands};
-ghost use Rattle·engine·specs.specs.Walk.{IsNode};
-ghost use Rattle·engine·specs.specs.Unify.{LookedAs, TwoTerms, PairUnifiedAs, UnifiedAs};
 
 // What two followed terms come to: a variable is to be bound to a term, or the parts (first and second of the one, then of the other) are to be equal.
+#[derive(Clone, Copy)]
 pub enum Looked {
     Fails,
     Agrees,
@@ -26,6 +24,7 @@ pub enum Looked {
 }
 
 // What one pair comes to: it fails, unification goes on with so many entries on the trail, parts are to be equal, or a stop. The last number is the steps left.
+#[derive(Clone, Copy)]
 pub enum PairUnified {
     Fails(u32),
     Goes(u32, u32),
@@ -35,6 +34,7 @@ pub enum PairUnified {
 }
 
 // How unification ended, with the entries of the trail then, and the steps left.
+#[derive(Clone, Copy)]
 pub enum Unified {
     Joined(u32, u32),
     Failed(u32, u32),
@@ -44,8 +44,8 @@ pub enum Unified {
 
 // Two followed terms are looked at.
 fn look(a: Walked, b: Walked) -> Looked
-    requires { ⌜ ((ws : List ℕ) × (u : Term) × (v : Term) × IsNode ws a × IsNode ws b × Stands ws (a .at) u × Stands ws (b .at) v) ⌝ }
-    ensures { λ r. ⌜ ((ws : List ℕ) (u v : Term) → IsNode ws a → IsNode ws b → Stands ws (a .at) u → Stands ws (b .at) v → LookedAs ws (definition.look u v) r) ⌝ }
+    requires { (ws : List ℕ) × (u : Term) × (v : Term) × IsNode ws a × IsNode ws b × Stands ws a.at u × Stands ws b.at v }
+    ensures { (ws : List ℕ) (u v : Term) → IsNode ws a → IsNode ws b → Stands ws a.at u → Stands ws b.at v → LookedAs ws (definition.look u v) result }
 {
     let a_at = a.at;
     let b_at = b.at;
@@ -92,9 +92,9 @@ fn unify_pair(
     trail: u32,
     steps: u32,
 ) -> PairUnified
-    requires { ⌜ (0 < steps) × ((bs : Substitution) × (u : Term) × (v : Term) × TwoTerms (now program) (now scratch) bs first u second v trail) ⌝ }
-    ensures { λ r. ⌜ ((bs : Substitution) (u v : Term) → TwoTerms (now (program .entry)) (now (scratch .entry)) bs first u second v trail
-        → PairUnifiedAs (now (program .entry)) (now (scratch .entry)) (now (scratch .exit)) bs u v steps r) ⌝ }
+    requires { (0 < steps) × ((bs : Substitution) × (u : Term) × (v : Term) × TwoTerms program.now scratch.old bs first u second v trail) }
+    ensures { (bs : Substitution) (u v : Term) → TwoTerms program.now scratch.old bs first u second v trail
+        → PairUnifiedAs program.now scratch.old scratch.new bs u v steps result }
 {
     let a = walk(program, scratch, first);
     let b = walk(program, scratch, second);
@@ -129,9 +129,9 @@ pub(crate) fn unify(
     mark: u32,
     steps: u32,
 ) -> Unified
-    requires { ⌜ ((bs : Substitution) × (u : Term) × (v : Term) × TwoTerms (now program) (now scratch) bs first u second v mark) ⌝ }
-    ensures { λ r. ⌜ ((bs : Substitution) (u v : Term) → TwoTerms (now (program .entry)) (now (scratch .entry)) bs first u second v mark
-        → UnifiedAs (now (program .entry)) (now (scratch .entry)) (now (scratch .exit)) bs (definition.unify-terms bs u v steps) r) ⌝ }
+    requires { (bs : Substitution) × (u : Term) × (v : Term) × TwoTerms program.now scratch.old bs first u second v mark }
+    ensures { (bs : Substitution) (u v : Term) → TwoTerms program.now scratch.old bs first u second v mark
+        → UnifiedAs program.now scratch.old scratch.new bs (definition.unify_terms bs u v steps) result }
 {
     let mut a = first;
     let mut b = second;

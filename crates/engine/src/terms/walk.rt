@@ -1,15 +1,15 @@
 // Terms by reference: a position in the program and, 16,384 times, the base of its environment. Nothing is copied.
+ghost use Rattle.std.specs.Prelude.{◌≡◌, ◌+◌, ◌<◌, length};
+ghost use Rattle.rules.specs.Syntax.{Term};
+ghost use Rattle.semantics.specs.Substitution.{Substitution};
+ghost use Rattle.engine.specs.Reference.{base_of, pos_of, Stands};
+ghost use Rattle.engine.specs.Walk.{PartRead, Follows, WalkedTo, Resolves, Shaped};
+
 use crate::layout::POSITIONS;
 use word::Word;
-ghost use mathlib.Core.Path.{_≡_};
-ghost use Prim.Native.Nat.{_+_, _<_};
-ghost use lib.ListN.{length};
-ghost use Rattle·rules.specs.Syntax.{Term};
-ghost use Rattle·semantics.specs.Substitution.{Substitution};
-ghost use Rattle·engine·specs.specs.Reference.{base-of, pos-of, Stands};
-ghost use Rattle·engine·specs.specs.Walk.{PartRead, Follows, WalkedTo, Resolves, Shaped};
 
 // The part at a reference: its first word.
+#[derive(Clone, Copy)]
 pub struct Part {
     pub bits: u32,
     pub kind: u32,
@@ -17,8 +17,8 @@ pub struct Part {
 }
 
 pub(crate) fn part_at(program: &[u32], reference: u32) -> Part
-    requires { ⌜ pos-of reference < length (now program) ⌝ }
-    ensures { λ r. ⌜ PartRead (now (program .entry)) reference (r .bits) (r .kind) (r .payload) ⌝ }
+    requires { pos_of reference < length program.now }
+    ensures { PartRead program.now reference result.bits result.kind result.payload }
 {
     let bits = program[(reference % POSITIONS) as usize];
     let word = Word::from_bits(bits);
@@ -31,21 +31,22 @@ pub(crate) fn part_at(program: &[u32], reference: u32) -> Part
 
 // The path's variable that a variable's word stands for, by the environment of its reference.
 pub(crate) fn variable_at(reference: u32, payload: u32) -> u32
-    requires { ⌜ base-of reference + payload < 4294967296 ⌝ }
-    ensures { λ r. ⌜ r ≡ base-of reference + payload ⌝ }
+    requires { base_of reference + payload < 4294967296 }
+    ensures { result ≡ base_of reference + payload }
 {
     reference / POSITIONS + payload
 }
 
 // The position past the part at a reference: its own word, and as many after it as its size.
 pub(crate) fn part_end(reference: u32, size: u32) -> u32
-    requires { ⌜ pos-of reference + 1 + size < 4294967296 ⌝ }
-    ensures { λ r. ⌜ r ≡ pos-of reference + 1 + size ⌝ }
+    requires { pos_of reference + 1 + size < 4294967296 }
+    ensures { result ≡ pos_of reference + 1 + size }
 {
     reference % POSITIONS + 1 + size
 }
 
 // A term that was followed: its reference, and the word there, so that it is read once. `through` is the last bound variable on the way, plus 1, or 0 where the way led through none.
+#[derive(Clone, Copy)]
 pub struct Walked {
     pub at: u32,
     pub bits: u32,
@@ -56,8 +57,8 @@ pub struct Walked {
 
 // The term, followed through the bindings: up to an atom, a pair or an open variable. The position is held in sixteen bits (document 02, Note 4), apart from its base: the last of a program is 16,383.
 pub(crate) fn walk(program: &[u32], scratch: &[u32], term: u32) -> Walked
-    requires { ⌜ ((bs : Substitution) × (t : Term) × Follows (now program) (now scratch) bs term t) ⌝ }
-    ensures { λ r. ⌜ WalkedTo (now (program .entry)) (now (scratch .entry)) term r ⌝ }
+    requires { (bs : Substitution) × (t : Term) × Follows program.now scratch.now bs term t }
+    ensures { WalkedTo program.now scratch.now term result }
 {
     let mut position = (term % POSITIONS) as u16;
     let mut base = term / POSITIONS;
@@ -87,8 +88,8 @@ pub(crate) fn walk(program: &[u32], scratch: &[u32], term: u32) -> Walked
 
 // Past the term at a reference: from second part to second part, then past the last.
 pub(crate) fn skip(program: &[u32], term: u32) -> u32
-    requires { ⌜ ((t : Term) × Stands (now program) term t) ⌝ }
-    ensures { λ r. ⌜ ((t : Term) (h : Stands (now (program .entry)) term t) → r + pos-of term ≡ term + h .to) ⌝ }
+    requires { (t : Term) × Stands program.now term t }
+    ensures { (t : Term) (h : Stands program.now term t) → result + pos_of term ≡ term + h.to }
 {
     let mut at = term;
     loop {
@@ -100,6 +101,7 @@ pub(crate) fn skip(program: &[u32], term: u32) -> u32
     }
 }
 
+#[derive(Clone, Copy)]
 pub enum Shape {
     // An open variable.
     Open(u32),
@@ -110,8 +112,8 @@ pub enum Shape {
 }
 
 pub(crate) fn follow(program: &[u32], scratch: &[u32], term: u32) -> Shape
-    requires { ⌜ ((t : Term) × Resolves (now program) (now scratch) term t) ⌝ }
-    ensures { λ r. ⌜ ((t : Term) → Resolves (now (program .entry)) (now (scratch .entry)) term t → Shaped (now (program .entry)) (now (scratch .entry)) r t) ⌝ }
+    requires { (t : Term) × Resolves program.now scratch.now term t }
+    ensures { (t : Term) → Resolves program.now scratch.now term t → Shaped program.now scratch.now result t }
 {
     let node = walk(program, scratch, term);
     let at = node.at;

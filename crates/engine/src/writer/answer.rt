@@ -1,30 +1,26 @@
 // The writer: the answer of a path, behind those already in the output.
+ghost use Rattle.std.specs.Prelude.{List, [], ℕ, ◌≤◌, ◌+◌};
+ghost use Rattle.rules.specs.Syntax.{Program};
+ghost use Rattle.semantics.specs.Substitution.{Substitution};
+ghost use Rattle.semantics.specs.Path.{Path, ChoicePoint};
+ghost use Rattle.semantics.specs.Answer.{answer};
+ghost use Rattle.engine.specs.Layout.{most_variables};
+ghost use Rattle.engine.specs.Term.{Room};
+ghost use Rattle.engine.specs.Lines.{AnswerSoFar};
+ghost use Rattle.engine.specs.Query.{Query, query_words};
+ghost use Rattle.engine.specs.Answer.{Answering, AnsweredAs, Ends, EndedAs};
+
 use crate::layout::MOST_OUTPUT;
 use crate::search::state::State;
-use crate::writer::constraint::Added;
-use crate::writer::constraint::add_constraints;
+use crate::writer::constraint::{Added, add_constraints};
 use crate::writer::look::LookedThrough;
 use crate::writer::names::clear_names;
-use crate::writer::query::look_parameters;
-use crate::writer::query::name_parameters;
-use crate::writer::query::put_parameters;
-use crate::writer::term::Put;
-use crate::writer::term::put_head;
-use word::Word;
-use word::at_most;
-ghost use mathlib.Core.List.{List, []};
-ghost use Prim.Native.Nat.{ℕ, _≤_, _+_};
-ghost use Rattle·rules.specs.Syntax.{Program};
-ghost use Rattle·semantics.specs.Substitution.{Substitution};
-ghost use Rattle·semantics.specs.Path.{Path, ChoicePoint};
-ghost use Rattle·semantics.specs.Answer.{answer};
-ghost use Rattle·engine·specs.specs.Layout.{most-variables};
-ghost use Rattle·engine·specs.specs.Term.{Room};
-ghost use Rattle·engine·specs.specs.Lines.{AnswerSoFar};
-ghost use Rattle·engine·specs.specs.Query.{Query, query-words};
-ghost use Rattle·engine·specs.specs.Answer.{Answering, AnsweredAs, Ends, EndedAs};
+use crate::writer::query::{look_parameters, name_parameters, put_parameters};
+use crate::writer::term::{Put, put_head};
+use word::{Word, at_most};
 
 // The output words used then and the steps left; that it does not fit, with the steps left; or a stop.
+#[derive(Clone, Copy)]
 pub enum Answered {
     Written(u32, u32),
     Full(u32),
@@ -41,9 +37,9 @@ fn begin_answer(
     start: usize,
     end: usize,
 ) -> usize
-    requires { ⌜ Room (now output) end × (params ≤ most-variables) × ((bs : Substitution) × (names : List ℕ) × Query (now program) (now scratch) params bs names) ⌝ }
-    ensures { λ r. ⌜ ((bs : Substitution) (names : List ℕ) → Query (now (program .entry)) (now (scratch .entry)) params bs names
-        → AnswerSoFar (now (output .entry)) (now (output .exit)) (start + 1) r end r (query-words bs names 0 params) []) ⌝ }
+    requires { Room output.old end × (params ≤ most_variables) × ((bs : Substitution) × (names : List ℕ) × Query program.now scratch.now params bs names) }
+    ensures { (bs : Substitution) (names : List ℕ) → Query program.now scratch.now params bs names
+        → AnswerSoFar output.old output.new (start + 1) result end result (query_words bs names 0 params) [] }
 {
     if end <= start {
         return end + 1;
@@ -60,8 +56,8 @@ fn begin_answer(
 
 // The answer's own word, if all of it fits.
 fn end_answer(output: &mut [u32], start: usize, end: usize, added: Added) -> Answered
-    requires { ⌜ Room (now output) end × ((o : List ℕ) × (v : List ℕ) × Ends o (now output) start end v added) ⌝ }
-    ensures { λ r. ⌜ ((o : List ℕ) (v : List ℕ) → Ends o (now (output .entry)) start end v added → EndedAs o (now (output .entry)) (now (output .exit)) start end v added r) ⌝ }
+    requires { Room output.old end × ((o : List ℕ) × (v : List ℕ) × Ends o output.old start end v added) }
+    ensures { (o : List ℕ) (v : List ℕ) → Ends o output.old start end v added → EndedAs o output.old output.new start end v added result }
 {
     match added {
         Added::StepsOut => {
@@ -88,9 +84,9 @@ pub(crate) fn write_answer(
     params: u32,
     used: u32,
 ) -> Answered
-    requires { ⌜ ((P : Program) × (p : Path) × (cs : List ChoicePoint) × Answering P (now program) (now scratch) (now output) state p cs params used) ⌝ }
-    ensures { λ r. ⌜ ((P : Program) (p : Path) (cs : List ChoicePoint) → Answering P (now (program .entry)) (now (scratch .entry)) (now (output .entry)) state p cs params used
-        → AnsweredAs P (now (program .entry)) (now (scratch .entry)) (now (output .entry)) (now (scratch .exit)) (now (output .exit)) state p cs used (answer p params (state .steps)) r) ⌝ }
+    requires { (P : Program) × (p : Path) × (cs : List ChoicePoint) × Answering P program.now scratch.old output.old state p cs params used }
+    ensures { (P : Program) (p : Path) (cs : List ChoicePoint) → Answering P program.now scratch.old output.old state p cs params used
+        → AnsweredAs P program.now scratch.old output.old scratch.new output.new state p cs used (answer p params state.steps) result }
 {
     match look_parameters(program, scratch, params, state.steps) {
         LookedThrough::StepsOut => {

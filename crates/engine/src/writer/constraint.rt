@@ -1,34 +1,28 @@
 // The lines of the path's constraints, in order.
+ghost use Rattle.std.specs.Prelude.{◌≡◌, List, ℕ};
+ghost use Rattle.rules.specs.Syntax.{Atom, Term, Sort, Constraint, differ, typed, absento};
+ghost use Rattle.rules.specs.Written.{sort_kind};
+ghost use Rattle.semantics.specs.Substitution.{Substitution};
+ghost use Rattle.semantics.specs.Answer.{lines_of, all_lines};
+ghost use Rattle.semantics.specs.Invariant.{Sound};
+ghost use Rattle.engine.specs.Reference.{KeepsAt};
+ghost use Rattle.engine.specs.Walk.{Binds, Follows};
+ghost use Rattle.engine.specs.Review.{ConstraintsHeld};
+ghost use Rattle.engine.specs.Lines.{Writing};
+ghost use Rattle.engine.specs.Constraint.{AddedAs, Differs, Lists};
+
 use crate::layout::CONSTRAINTS;
 use crate::terms::trail::undo;
-use crate::terms::unify::Unified;
-use crate::terms::unify::unify;
-use crate::terms::walk::part_at;
-use crate::terms::walk::skip;
+use crate::terms::unify::{Unified, unify};
+use crate::terms::walk::{part_at, skip};
 use crate::writer::line::Listed;
-use crate::writer::lines::add_absent;
-use crate::writer::lines::add_line;
-use crate::writer::lines::add_typed;
-use crate::writer::look::LookedThrough;
-use crate::writer::look::look_equations;
-use crate::writer::look::look_through;
+use crate::writer::lines::{add_absent, add_line, add_typed};
+use crate::writer::look::{LookedThrough, look_equations, look_through};
 use crate::writer::trial::keep_equations;
 use word::Word;
-ghost use mathlib.Core.Path.{_≡_};
-ghost use mathlib.Core.List.{List};
-ghost use Prim.Native.Nat.{ℕ};
-ghost use Rattle·rules.specs.Syntax.{Atom, Term, Sort, Constraint, differ, typed, absento};
-ghost use Rattle·rules.specs.Written.{sort-kind};
-ghost use Rattle·semantics.specs.Substitution.{Substitution};
-ghost use Rattle·semantics.specs.Answer.{lines-of, all-lines};
-ghost use Rattle·semantics.specs.Invariant.{Sound};
-ghost use Rattle·engine·specs.specs.Reference.{KeepsAt};
-ghost use Rattle·engine·specs.specs.Walk.{Binds, Follows};
-ghost use Rattle·engine·specs.specs.Review.{ConstraintsHeld};
-ghost use Rattle·engine·specs.specs.Lines.{Writing};
-ghost use Rattle·engine·specs.specs.Constraint.{AddedAs, Differs, Lists};
 
 // How the lines of constraints end: where the next one goes with the steps left, or a stop.
+#[derive(Clone, Copy)]
 pub enum Added {
     Done(usize, u32),
     StepsOut,
@@ -48,11 +42,11 @@ fn differ_lines(
     at: usize,
     steps: u32,
 ) -> Added
-    requires { ⌜ Writing (now scratch) (now output) first end at
-        × ((bs : Substitution) × (u : Term) × (v : Term) × Differs (now program) (now scratch) bs one u other v trail) ⌝ }
-    ensures { λ r. ⌜ ((g : Writing (now (scratch .entry)) (now (output .entry)) first end at) (bs : Substitution) (u v : Term)
-        → Differs (now (program .entry)) (now (scratch .entry)) bs one u other v trail
-        → AddedAs (now (program .entry)) (now (scratch .entry)) (now (scratch .exit)) g (now (output .exit)) bs (lines-of bs (differ u v) steps) r) ⌝ }
+    requires { Writing scratch.old output.old first end at
+        × ((bs : Substitution) × (u : Term) × (v : Term) × Differs program.now scratch.old bs one u other v trail) }
+    ensures { (g : Writing scratch.old output.old first end at) (bs : Substitution) (u v : Term)
+        → Differs program.now scratch.old bs one u other v trail
+        → AddedAs program.now scratch.old scratch.new g output.new bs (lines_of bs (differ u v) steps) result }
 {
     match unify(&*program, scratch, one, other, trail, steps) {
         Unified::Failed(top, rest) => {
@@ -99,11 +93,11 @@ fn absence_lines(
     at: usize,
     steps: u32,
 ) -> Added
-    requires { ⌜ Writing (now scratch) (now output) first end at
-        × ((bs : Substitution) × (a : Atom) × (t : Term) × Binds (now program) (now scratch) bs × KeepsAt (now program) constraint (absento a t)) ⌝ }
-    ensures { λ r. ⌜ ((g : Writing (now (scratch .entry)) (now (output .entry)) first end at) (bs : Substitution) (a : Atom) (t : Term)
-        → Binds (now (program .entry)) (now (scratch .entry)) bs → KeepsAt (now (program .entry)) constraint (absento a t)
-        → AddedAs (now (program .entry)) (now (scratch .entry)) (now (scratch .entry)) g (now (output .exit)) bs (lines-of bs (absento a t) steps) r) ⌝ }
+    requires { Writing scratch.now output.old first end at
+        × ((bs : Substitution) × (a : Atom) × (t : Term) × Binds program.now scratch.now bs × KeepsAt program.now constraint (absento a t)) }
+    ensures { (g : Writing scratch.now output.old first end at) (bs : Substitution) (a : Atom) (t : Term)
+        → Binds program.now scratch.now bs → KeepsAt program.now constraint (absento a t)
+        → AddedAs program.now scratch.now scratch.now g output.new bs (lines_of bs (absento a t) steps) result }
 {
     let term = constraint + 2;
     match look_through(program, scratch, term, steps) {
@@ -133,11 +127,11 @@ fn type_lines(
     at: usize,
     steps: u32,
 ) -> Added
-    requires { ⌜ Writing (now scratch) (now output) first end at
-        × ((bs : Substitution) × (k : Sort) × (t : Term) × Follows (now program) (now scratch) bs term t × (kind ≡ sort-kind k)) ⌝ }
-    ensures { λ r. ⌜ ((g : Writing (now (scratch .entry)) (now (output .entry)) first end at) (bs : Substitution) (k : Sort) (t : Term)
-        → Follows (now (program .entry)) (now (scratch .entry)) bs term t → kind ≡ sort-kind k
-        → AddedAs (now (program .entry)) (now (scratch .entry)) (now (scratch .entry)) g (now (output .exit)) bs (lines-of bs (typed k t) steps) r) ⌝ }
+    requires { Writing scratch.now output.old first end at
+        × ((bs : Substitution) × (k : Sort) × (t : Term) × Follows program.now scratch.now bs term t × (kind ≡ sort_kind k)) }
+    ensures { (g : Writing scratch.now output.old first end at) (bs : Substitution) (k : Sort) (t : Term)
+        → Follows program.now scratch.now bs term t → kind ≡ sort_kind k
+        → AddedAs program.now scratch.now scratch.now g output.new bs (lines_of bs (typed k t) steps) result }
 {
     match look_through(program, scratch, term, steps) {
         LookedThrough::StepsOut => {
@@ -165,11 +159,11 @@ fn add_constraint(
     at: usize,
     steps: u32,
 ) -> Added
-    requires { ⌜ Writing (now scratch) (now output) first end at
-        × ((bs : Substitution) × (cs : List Constraint) × (c : Constraint) × Lists (now program) (now scratch) bs cs constraint c trail) ⌝ }
-    ensures { λ r. ⌜ ((g : Writing (now (scratch .entry)) (now (output .entry)) first end at) (bs : Substitution) (cs : List Constraint) (c : Constraint)
-        → Lists (now (program .entry)) (now (scratch .entry)) bs cs constraint c trail
-        → AddedAs (now (program .entry)) (now (scratch .entry)) (now (scratch .exit)) g (now (output .exit)) bs (lines-of bs c steps) r) ⌝ }
+    requires { Writing scratch.old output.old first end at
+        × ((bs : Substitution) × (cs : List Constraint) × (c : Constraint) × Lists program.now scratch.old bs cs constraint c trail) }
+    ensures { (g : Writing scratch.old output.old first end at) (bs : Substitution) (cs : List Constraint) (c : Constraint)
+        → Lists program.now scratch.old bs cs constraint c trail
+        → AddedAs program.now scratch.old scratch.new g output.new bs (lines_of bs c steps) result }
 {
     let kind = part_at(program, constraint).kind;
     if kind == Word::DIFFER {
@@ -215,11 +209,11 @@ pub(crate) fn add_constraints(
     at: usize,
     steps: u32,
 ) -> Added
-    requires { ⌜ Writing (now scratch) (now output) first end at
-        × ((bs : Substitution) × (cs : List Constraint) × (made : ℕ) × ConstraintsHeld (now program) (now scratch) bs cs trail kept × Sound bs cs made) ⌝ }
-    ensures { λ r. ⌜ ((g : Writing (now (scratch .entry)) (now (output .entry)) first end at) (bs : Substitution) (cs : List Constraint) (made : ℕ)
-        → ConstraintsHeld (now (program .entry)) (now (scratch .entry)) bs cs trail kept → Sound bs cs made
-        → AddedAs (now (program .entry)) (now (scratch .entry)) (now (scratch .exit)) g (now (output .exit)) bs (all-lines bs cs steps) r) ⌝ }
+    requires { Writing scratch.old output.old first end at
+        × ((bs : Substitution) × (cs : List Constraint) × (made : ℕ) × ConstraintsHeld program.now scratch.old bs cs trail kept × Sound bs cs made) }
+    ensures { (g : Writing scratch.old output.old first end at) (bs : Substitution) (cs : List Constraint) (made : ℕ)
+        → ConstraintsHeld program.now scratch.old bs cs trail kept → Sound bs cs made
+        → AddedAs program.now scratch.old scratch.new g output.new bs (all_lines bs cs steps) result }
 {
     let mut place = at;
     let mut left = steps;
@@ -227,15 +221,7 @@ pub(crate) fn add_constraints(
     while i < kept {
         let constraint = scratch[CONSTRAINTS + i as usize];
         match add_constraint(
-            program,
-            scratch,
-            output,
-            constraint,
-            trail,
-            first,
-            end,
-            place,
-            left,
+            program, scratch, output, constraint, trail, first, end, place, left,
         ) {
             Added::Done(next, rest) => {
                 place = next;

@@ -1,29 +1,22 @@
 // One line of an answer.
-use crate::layout::NAMES;
-use crate::layout::PAIRS;
-use crate::layout::TRAIL;
+ghost use Rattle.std.specs.Prelude.{◌≡◌, List, ◌∷◌, ℕ, ◌≤◌, ◌<◌, ◌+◌, length};
+ghost use Rattle.rules.specs.Syntax.{Term, var};
+ghost use Rattle.rules.specs.Written.{part, term_words};
+ghost use Rattle.rules.specs.Settings.{scratch_words};
+ghost use Rattle.semantics.specs.Answer.{index, bindings_in, line_in, line_words, Line, not_all};
+ghost use Rattle.semantics.specs.Unify.{member};
+ghost use Rattle.engine.specs.Layout.{most_variables};
+ghost use Rattle.engine.specs.Names.{NamesGiven};
+ghost use Rattle.engine.specs.Term.{Puts, Placed};
+ghost use Rattle.engine.specs.Line.{half, Equation, EquationsIn, equation_in, equation_words, equations_words, LineAs};
+
+use crate::layout::{NAMES, PAIRS, TRAIL};
 use crate::writer::names::all_named;
-use crate::writer::term::Put;
-use crate::writer::term::put_head;
-use crate::writer::term::put_one;
-use crate::writer::term::put_term;
-use crate::writer::term::put_variable;
+use crate::writer::term::{Put, put_head, put_one, put_term, put_variable};
 use word::Word;
-ghost use mathlib.Core.Path.{_≡_};
-ghost use mathlib.Core.List.{List, _∷_};
-ghost use Prim.Native.Nat.{ℕ, _≤_, _<_, _+_};
-ghost use lib.ListN.{length};
-ghost use Rattle·rules.specs.Syntax.{Term, var};
-ghost use Rattle·rules.specs.Written.{part, term-words};
-ghost use Rattle·rules.specs.Settings.{scratch-words};
-ghost use Rattle·semantics.specs.Answer.{index, bindings-in, line-in, line-words, Line, not-all};
-ghost use Rattle·semantics.specs.Unify.{member};
-ghost use Rattle·engine·specs.specs.Layout.{most-variables};
-ghost use Rattle·engine·specs.specs.Names.{NamesGiven};
-ghost use Rattle·engine·specs.specs.Term.{Puts, Placed};
-ghost use Rattle·engine·specs.specs.Line.{half, Equation, EquationsIn, equation-in, equation-words, equations-words, LineAs};
 
 // A type's kind and the variable; absento's tag and the variable; a trial's mark and how many equations it has.
+#[derive(Clone, Copy)]
 pub enum Listed {
     Typed(u32, u32),
     Lacks(u32, u32),
@@ -32,8 +25,8 @@ pub enum Listed {
 
 // The variable of equation `i`.
 pub(crate) fn equation_variable(scratch: &[u32], i: usize) -> u32
-    requires { ⌜ (scratch-words ≤ length (now scratch)) × (i < most-variables) ⌝ }
-    ensures { λ r. ⌜ r ≡ half (now (scratch .entry)) i ⌝ }
+    requires { (scratch_words ≤ length scratch.now) × (i < most_variables) }
+    ensures { result ≡ half scratch.now i }
 {
     let bits = scratch[PAIRS + i / 2];
     if i % 2 == 0 {
@@ -53,11 +46,11 @@ pub(crate) fn put_equation(
     end: usize,
     write: bool,
 ) -> Put
-    requires { ⌜ (mark + i < most-variables) × ((b : ℕ × Term) × (names : List ℕ) × Equation (now program) (now scratch) mark i b
-        × Puts (now scratch) (now output) start end names (equation-in names b)) ⌝ }
-    ensures { λ r. ⌜ ((b : ℕ × Term) (names : List ℕ) → Equation (now (program .entry)) (now (scratch .entry)) mark i b
-        → Puts (now (scratch .entry)) (now (output .entry)) start end names (equation-in names b)
-        → Placed (now (output .entry)) (now (output .exit)) start end write (equation-words names b) r) ⌝ }
+    requires { (mark + i < most_variables) × ((b : ℕ × Term) × (names : List ℕ) × Equation program.now scratch.now mark i b
+        × Puts scratch.now output.old start end names (equation_in names b)) }
+    ensures { (b : ℕ × Term) (names : List ℕ) → Equation program.now scratch.now mark i b
+        → Puts scratch.now output.old start end names (equation_in names b)
+        → Placed output.old output.new start end write (equation_words names b) result }
 {
     if end <= start {
         return Put::Missed;
@@ -92,11 +85,11 @@ pub(crate) fn put_equations(
     end: usize,
     write: bool,
 ) -> Put
-    requires { ⌜ ((cs : List (ℕ × Term)) × (names : List ℕ) × EquationsIn (now program) (now scratch) mark count cs
-        × Puts (now scratch) (now output) start end names (bindings-in names cs)) ⌝ }
-    ensures { λ r. ⌜ ((cs : List (ℕ × Term)) (names : List ℕ) → EquationsIn (now (program .entry)) (now (scratch .entry)) mark count cs
-        → Puts (now (scratch .entry)) (now (output .entry)) start end names (bindings-in names cs)
-        → Placed (now (output .entry)) (now (output .exit)) start end write (equations-words names cs) r) ⌝ }
+    requires { (cs : List (ℕ × Term)) × (names : List ℕ) × EquationsIn program.now scratch.now mark count cs
+        × Puts scratch.now output.old start end names (bindings_in names cs) }
+    ensures { (cs : List (ℕ × Term)) (names : List ℕ) → EquationsIn program.now scratch.now mark count cs
+        → Puts scratch.now output.old start end names (bindings_in names cs)
+        → Placed output.old output.new start end write (equations_words names cs) result }
 {
     let mut at = start;
     let mut i = 0;
@@ -124,9 +117,9 @@ pub(crate) fn put_typed(
     end: usize,
     write: bool,
 ) -> Put
-    requires { ⌜ (x < most-variables) × (kind < 16) × ((names : List ℕ) × Puts (now scratch) (now output) start end names (member x names)) ⌝ }
-    ensures { λ r. ⌜ ((names : List ℕ) → Puts (now (scratch .entry)) (now (output .entry)) start end names (member x names)
-        → Placed (now (output .entry)) (now (output .exit)) start end write (part kind (term-words (var (index x names)))) r) ⌝ }
+    requires { (x < most_variables) × (kind < 16) × ((names : List ℕ) × Puts scratch.now output.old start end names (member x names)) }
+    ensures { (names : List ℕ) → Puts scratch.now output.old start end names (member x names)
+        → Placed output.old output.new start end write (part kind (term_words (var (index x names)))) result }
 {
     match put_one(output, start, end, Word::new(kind, 1).bits, write) {
         Put::Missed => {
@@ -148,9 +141,9 @@ pub(crate) fn put_lacks(
     end: usize,
     write: bool,
 ) -> Put
-    requires { ⌜ (x < most-variables) × ((names : List ℕ) × Puts (now scratch) (now output) start end names (member x names)) ⌝ }
-    ensures { λ r. ⌜ ((names : List ℕ) → Puts (now (scratch .entry)) (now (output .entry)) start end names (member x names)
-        → Placed (now (output .entry)) (now (output .exit)) start end write (part 9 (tag ∷ term-words (var (index x names)))) r) ⌝ }
+    requires { (x < most_variables) × ((names : List ℕ) × Puts scratch.now output.old start end names (member x names)) }
+    ensures { (names : List ℕ) → Puts scratch.now output.old start end names (member x names)
+        → Placed output.old output.new start end write (part 9 (tag ∷ term_words (var (index x names)))) result }
 {
     match put_one(output, start, end, Word::new(Word::ABSENTO, 2).bits, write) {
         Put::Missed => {
@@ -178,11 +171,11 @@ pub(crate) fn put_differ(
     end: usize,
     write: bool,
 ) -> Put
-    requires { ⌜ ((b : ℕ × Term) × (cs : List (ℕ × Term)) × (names : List ℕ) × EquationsIn (now program) (now scratch) mark count (b ∷ cs)
-        × Puts (now scratch) (now output) start end names (bindings-in names (b ∷ cs))) ⌝ }
-    ensures { λ r. ⌜ ((b : ℕ × Term) (cs : List (ℕ × Term)) (names : List ℕ) → EquationsIn (now (program .entry)) (now (scratch .entry)) mark count (b ∷ cs)
-        → Puts (now (scratch .entry)) (now (output .entry)) start end names (bindings-in names (b ∷ cs))
-        → Placed (now (output .entry)) (now (output .exit)) start end write (line-words names (not-all (b ∷ cs))) r) ⌝ }
+    requires { (b : ℕ × Term) × (cs : List (ℕ × Term)) × (names : List ℕ) × EquationsIn program.now scratch.now mark count (b ∷ cs)
+        × Puts scratch.now output.old start end names (bindings_in names (b ∷ cs)) }
+    ensures { (b : ℕ × Term) (cs : List (ℕ × Term)) (names : List ℕ) → EquationsIn program.now scratch.now mark count (b ∷ cs)
+        → Puts scratch.now output.old start end names (bindings_in names (b ∷ cs))
+        → Placed output.old output.new start end write (line_words names (not_all (b ∷ cs))) result }
 {
     if count == 1 {
         return put_equations(program, scratch, output, mark, count, start, end, write);
@@ -210,10 +203,10 @@ pub(crate) fn put_line(
     end: usize,
     write: bool,
 ) -> Put
-    requires { ⌜ ((l : Line) × (names : List ℕ) × LineAs (now program) (now scratch) line l × Puts (now scratch) (now output) start end names (line-in names l)) ⌝ }
-    ensures { λ r. ⌜ ((l : Line) (names : List ℕ) → LineAs (now (program .entry)) (now (scratch .entry)) line l
-        → Puts (now (scratch .entry)) (now (output .entry)) start end names (line-in names l)
-        → Placed (now (output .entry)) (now (output .exit)) start end write (line-words names l) r) ⌝ }
+    requires { (l : Line) × (names : List ℕ) × LineAs program.now scratch.now line l × Puts scratch.now output.old start end names (line_in names l) }
+    ensures { (l : Line) (names : List ℕ) → LineAs program.now scratch.now line l
+        → Puts scratch.now output.old start end names (line_in names l)
+        → Placed output.old output.new start end write (line_words names l) result }
 {
     match line {
         Listed::Typed(kind, x) => {
@@ -229,8 +222,8 @@ pub(crate) fn put_line(
 }
 
 pub(crate) fn has_name(scratch: &[u32], x: u32) -> bool
-    requires { ⌜ (scratch-words ≤ length (now scratch)) × (x < most-variables) ⌝ }
-    ensures { λ r. ⌜ ((names : List ℕ) → NamesGiven (now (scratch .entry)) names → r ≡ member x names) ⌝ }
+    requires { (scratch_words ≤ length scratch.now) × (x < most_variables) }
+    ensures { (names : List ℕ) → NamesGiven scratch.now names → result ≡ member x names }
 {
     if scratch[NAMES + x as usize] == 0 {
         return false;
@@ -240,9 +233,9 @@ pub(crate) fn has_name(scratch: &[u32], x: u32) -> bool
 
 // Whether every variable of equation `i` has a name.
 pub(crate) fn equation_named(program: &[u32], scratch: &[u32], mark: usize, i: usize) -> bool
-    requires { ⌜ (mark + i < most-variables) × ((b : ℕ × Term) × (names : List ℕ) × Equation (now program) (now scratch) mark i b × NamesGiven (now scratch) names) ⌝ }
-    ensures { λ r. ⌜ ((b : ℕ × Term) (names : List ℕ) → Equation (now (program .entry)) (now (scratch .entry)) mark i b → NamesGiven (now (scratch .entry)) names
-        → r ≡ equation-in names b) ⌝ }
+    requires { (mark + i < most_variables) × ((b : ℕ × Term) × (names : List ℕ) × Equation program.now scratch.now mark i b × NamesGiven scratch.now names) }
+    ensures { (b : ℕ × Term) (names : List ℕ) → Equation program.now scratch.now mark i b → NamesGiven scratch.now names
+        → result ≡ equation_in names b }
 {
     let x = equation_variable(scratch, i);
     if has_name(scratch, x) {
@@ -254,9 +247,9 @@ pub(crate) fn equation_named(program: &[u32], scratch: &[u32], mark: usize, i: u
 
 // Of the first `count` equations.
 pub(crate) fn equations_named(program: &[u32], scratch: &[u32], mark: usize, count: usize) -> bool
-    requires { ⌜ ((cs : List (ℕ × Term)) × (names : List ℕ) × EquationsIn (now program) (now scratch) mark count cs × NamesGiven (now scratch) names) ⌝ }
-    ensures { λ r. ⌜ ((cs : List (ℕ × Term)) (names : List ℕ) → EquationsIn (now (program .entry)) (now (scratch .entry)) mark count cs → NamesGiven (now (scratch .entry)) names
-        → r ≡ bindings-in names cs) ⌝ }
+    requires { (cs : List (ℕ × Term)) × (names : List ℕ) × EquationsIn program.now scratch.now mark count cs × NamesGiven scratch.now names }
+    ensures { (cs : List (ℕ × Term)) (names : List ℕ) → EquationsIn program.now scratch.now mark count cs → NamesGiven scratch.now names
+        → result ≡ bindings_in names cs }
 {
     let mut i = 0;
     while i < count {
@@ -271,9 +264,9 @@ pub(crate) fn equations_named(program: &[u32], scratch: &[u32], mark: usize, cou
 
 // Of a line. One that mentions a variable with no name is dropped.
 pub(crate) fn line_named(program: &[u32], scratch: &[u32], line: Listed) -> bool
-    requires { ⌜ ((l : Line) × (names : List ℕ) × LineAs (now program) (now scratch) line l × NamesGiven (now scratch) names) ⌝ }
-    ensures { λ r. ⌜ ((l : Line) (names : List ℕ) → LineAs (now (program .entry)) (now (scratch .entry)) line l → NamesGiven (now (scratch .entry)) names
-        → r ≡ line-in names l) ⌝ }
+    requires { (l : Line) × (names : List ℕ) × LineAs program.now scratch.now line l × NamesGiven scratch.now names }
+    ensures { (l : Line) (names : List ℕ) → LineAs program.now scratch.now line l → NamesGiven scratch.now names
+        → result ≡ line_in names l }
 {
     match line {
         Listed::Typed(_, x) => {

@@ -1,19 +1,15 @@
 // The lines of one answer: which of them stay. A dropped or repeated line needs no room, not even for a moment.
 // How far an answer is written is one number, `at`: where its next line goes, beyond `end` once a line did not fit.
-use crate::terms::walk::Shape;
-use crate::terms::walk::follow;
-use crate::writer::line::Listed;
-use crate::writer::line::line_named;
-use crate::writer::line::put_line;
+ghost use Rattle.std.specs.Prelude.{◌≡◌, List, [], ◌∷◌, ℕ};
+ghost use Rattle.semantics.specs.Answer.{line_in, line_words, same_words, any_same, Line, typed_lines, lacks_each};
+ghost use Rattle.engine.specs.Term.{Puts};
+ghost use Rattle.engine.specs.Line.{LineAs};
+ghost use Rattle.engine.specs.Lines.{Stretch, Rows, Writing, Extended, occurrences, AddsAbsent, AddsTyped};
+
+use crate::terms::walk::{Shape, follow};
+use crate::writer::line::{Listed, line_named, put_line};
 use crate::writer::term::Put;
 use word::Word;
-ghost use mathlib.Core.Path.{_≡_};
-ghost use mathlib.Core.List.{List, [], _∷_};
-ghost use Prim.Native.Nat.{ℕ};
-ghost use Rattle·semantics.specs.Answer.{line-in, line-words, same-words, any-same, Line, typed-lines, lacks-each};
-ghost use Rattle·engine·specs.specs.Term.{Puts};
-ghost use Rattle·engine·specs.specs.Line.{LineAs};
-ghost use Rattle·engine·specs.specs.Lines.{Stretch, Rows, Writing, Extended, occurrences, AddsAbsent, AddsTyped};
 
 // Whether the line has the words from `place` up to `next`.
 pub(crate) fn same_line(
@@ -24,9 +20,9 @@ pub(crate) fn same_line(
     place: usize,
     next: usize,
 ) -> bool
-    requires { ⌜ ((l : Line) × (names : List ℕ) × LineAs (now program) (now scratch) line l × Puts (now scratch) (now output) place next names (line-in names l)) ⌝ }
-    ensures { λ r. ⌜ (now (output .exit) ≡ now (output .entry)) × ((l : Line) (names w : List ℕ) → LineAs (now (program .entry)) (now (scratch .entry)) line l
-        → Puts (now (scratch .entry)) (now (output .entry)) place next names (line-in names l) → Stretch (now (output .entry)) place next w → r ≡ same-words (line-words names l) w) ⌝ }
+    requires { (l : Line) × (names : List ℕ) × LineAs program.now scratch.now line l × Puts scratch.now output.old place next names (line_in names l) }
+    ensures { (output.new ≡ output.old) × ((l : Line) (names w : List ℕ) → LineAs program.now scratch.now line l
+        → Puts scratch.now output.old place next names (line_in names l) → Stretch output.old place next w → result ≡ same_words (line_words names l) w) }
 {
     match put_line(program, scratch, output, line, place, next, false) {
         Put::Missed => {
@@ -50,11 +46,11 @@ pub(crate) fn line_repeated(
     first: usize,
     at: usize,
 ) -> bool
-    requires { ⌜ ((ws : List (List ℕ)) × (l : Line) × (names : List ℕ) × Rows (now output) first at ws × LineAs (now program) (now scratch) line l
-        × Puts (now scratch) (now output) first at names (line-in names l)) ⌝ }
-    ensures { λ r. ⌜ (now (output .exit) ≡ now (output .entry)) × ((ws : List (List ℕ)) (l : Line) (names : List ℕ) → Rows (now (output .entry)) first at ws
-        → LineAs (now (program .entry)) (now (scratch .entry)) line l → Puts (now (scratch .entry)) (now (output .entry)) first at names (line-in names l)
-        → r ≡ any-same (line-words names l) ws) ⌝ }
+    requires { (ws : List (List ℕ)) × (l : Line) × (names : List ℕ) × Rows output.old first at ws × LineAs program.now scratch.now line l
+        × Puts scratch.now output.old first at names (line_in names l) }
+    ensures { (output.new ≡ output.old) × ((ws : List (List ℕ)) (l : Line) (names : List ℕ) → Rows output.old first at ws
+        → LineAs program.now scratch.now line l → Puts scratch.now output.old first at names (line_in names l)
+        → result ≡ any_same (line_words names l) ws) }
 {
     let mut place = first;
     while place < at {
@@ -78,9 +74,9 @@ pub(crate) fn add_line(
     end: usize,
     at: usize,
 ) -> usize
-    requires { ⌜ Writing (now scratch) (now output) first end at × ((l : Line) × LineAs (now program) (now scratch) line l) ⌝ }
-    ensures { λ r. ⌜ ((g : Writing (now (scratch .entry)) (now (output .entry)) first end at) (l : Line)
-        → LineAs (now (program .entry)) (now (scratch .entry)) line l → Extended g (now (output .exit)) r (l ∷ [])) ⌝ }
+    requires { Writing scratch.now output.old first end at × ((l : Line) × LineAs program.now scratch.now line l) }
+    ensures { (g : Writing scratch.now output.old first end at) (l : Line)
+        → LineAs program.now scratch.now line l → Extended g output.new result (l ∷ []) }
 {
     if end < at {
         return at;
@@ -112,9 +108,9 @@ pub(crate) fn add_typed(
     end: usize,
     at: usize,
 ) -> usize
-    requires { ⌜ AddsTyped (now program) (now scratch) (now output) kind term first end at ⌝ }
-    ensures { λ r. ⌜ ((g : AddsTyped (now (program .entry)) (now (scratch .entry)) (now (output .entry)) kind term first end at)
-        → Extended (g .writing) (now (output .exit)) r (typed-lines (g .sort) (g .term))) ⌝ }
+    requires { AddsTyped program.now scratch.now output.old kind term first end at }
+    ensures { (g : AddsTyped program.now scratch.now output.old kind term first end at)
+        → Extended g.writing output.new result (typed_lines g.sort g.term) }
 {
     match follow(program, scratch, term) {
         Shape::Open(x) => {
@@ -148,9 +144,9 @@ pub(crate) fn add_absent(
     end: usize,
     at: usize,
 ) -> usize
-    requires { ⌜ AddsAbsent (now program) (now scratch) (now output) tag term first end at ⌝ }
-    ensures { λ r. ⌜ ((g : AddsAbsent (now (program .entry)) (now (scratch .entry)) (now (output .entry)) tag term first end at)
-        → Extended (g .writing) (now (output .exit)) r (lacks-each (g .tag-of) (occurrences (g .term)))) ⌝ }
+    requires { AddsAbsent program.now scratch.now output.old tag term first end at }
+    ensures { (g : AddsAbsent program.now scratch.now output.old tag term first end at)
+        → Extended g.writing output.new result (lacks_each g.tag_of (occurrences g.term)) }
 {
     let mut from = term;
     let mut place = at;

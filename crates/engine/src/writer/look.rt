@@ -1,16 +1,15 @@
 // The writer's steps: it looks at all nodes of a term.
-use crate::layout::PAIR_WORD;
-use crate::layout::TRAIL;
-use crate::terms::scan::Scanned;
-use crate::terms::scan::scan;
-ghost use mathlib.Core.List.{List};
-ghost use Prim.Native.Nat.{ℕ};
-ghost use Rattle·rules.specs.Syntax.{Term};
-ghost use Rattle·semantics.specs.Substitution.{Substitution};
-ghost use Rattle·engine·specs.specs.Walk.{Follows};
-ghost use Rattle·engine·specs.specs.Look.{LookedThroughAs, Looks, rights, ThroughAs};
+ghost use Rattle.std.specs.Prelude.{List, ℕ};
+ghost use Rattle.rules.specs.Syntax.{Term};
+ghost use Rattle.semantics.specs.Substitution.{Substitution};
+ghost use Rattle.engine.specs.Walk.{Follows};
+ghost use Rattle.engine.specs.Look.{LookedThroughAs, Looks, rights, ThroughAs};
+
+use crate::layout::{PAIR_WORD, TRAIL};
+use crate::terms::scan::{Scanned, scan};
 
 // A number is the steps left.
+#[derive(Clone, Copy)]
 pub enum LookedThrough {
     Done(u32),
     StepsOut,
@@ -19,8 +18,8 @@ pub enum LookedThrough {
 
 // The word sought is no leaf's, so the scan finds nothing and goes on to the end.
 pub(crate) fn look_through(program: &[u32], scratch: &[u32], term: u32, steps: u32) -> LookedThrough
-    requires { ⌜ ((bs : Substitution) × (t : Term) × Follows (now program) (now scratch) bs term t) ⌝ }
-    ensures { λ r. ⌜ ((bs : Substitution) (t : Term) → Follows (now (program .entry)) (now (scratch .entry)) bs term t → LookedThroughAs bs t steps r) ⌝ }
+    requires { (bs : Substitution) × (t : Term) × Follows program.now scratch.now bs term t }
+    ensures { (bs : Substitution) (t : Term) → Follows program.now scratch.now bs term t → LookedThroughAs bs t steps result }
 {
     match scan(&*program, &*scratch, PAIR_WORD, term, 0, steps) {
         Scanned::Found(left) | Scanned::Clear(left) => {
@@ -43,8 +42,8 @@ pub(crate) fn look_equations(
     count: usize,
     steps: u32,
 ) -> LookedThrough
-    requires { ⌜ ((bs : Substitution) × (cs : List (ℕ × Term)) × Looks (now program) (now scratch) bs cs mark count) ⌝ }
-    ensures { λ r. ⌜ ((bs : Substitution) (cs : List (ℕ × Term)) → Looks (now (program .entry)) (now (scratch .entry)) bs cs mark count → ThroughAs bs (rights cs) steps r) ⌝ }
+    requires { (bs : Substitution) × (cs : List (ℕ × Term)) × Looks program.now scratch.now bs cs mark count }
+    ensures { (bs : Substitution) (cs : List (ℕ × Term)) → Looks program.now scratch.now bs cs mark count → ThroughAs bs (rights cs) steps result }
 {
     let mut left = steps;
     let mut i = 0;

@@ -1,28 +1,23 @@
 // Query terms. A parameter's word need not stand in the program, so it is known by its number: it is open, or what it is bound to is its term.
-use crate::writer::look::LookedThrough;
-use crate::writer::look::look_through;
-use crate::writer::names::name_term;
-use crate::writer::names::name_variable;
-use crate::writer::term::Put;
-use crate::writer::term::put_term;
-use crate::writer::term::put_variable;
-ghost use mathlib.Core.Bool.{true};
-ghost use mathlib.Core.List.{List, []};
-ghost use Prim.Native.Nat.{ℕ, _≤_, _<_};
-ghost use Rattle·rules.specs.Syntax.{var};
-ghost use Rattle·rules.specs.Written.{term-words};
-ghost use Rattle·semantics.specs.Substitution.{Substitution, resolve};
-ghost use Rattle·semantics.specs.Answer.{appear, reify, vars-in, names-of, parameters};
-ghost use Rattle·engine·specs.specs.Layout.{most-variables};
-ghost use Rattle·engine·specs.specs.Walk.{Binds};
-ghost use Rattle·engine·specs.specs.Names.{Names, Named};
-ghost use Rattle·engine·specs.specs.Term.{Room, Puts, Placed};
-ghost use Rattle·engine·specs.specs.Look.{LookedThroughAs, ThroughAs};
-ghost use Rattle·engine·specs.specs.Query.{Query, query-words};
+ghost use Rattle.std.specs.Prelude.{true, List, [], ℕ, ◌≤◌, ◌<◌};
+ghost use Rattle.rules.specs.Syntax.{var};
+ghost use Rattle.rules.specs.Written.{term_words};
+ghost use Rattle.semantics.specs.Substitution.{Substitution, resolve};
+ghost use Rattle.semantics.specs.Answer.{appear, reify, vars_in, names_of, parameters};
+ghost use Rattle.engine.specs.Layout.{most_variables};
+ghost use Rattle.engine.specs.Walk.{Binds};
+ghost use Rattle.engine.specs.Names.{Names, Named};
+ghost use Rattle.engine.specs.Term.{Room, Puts, Placed};
+ghost use Rattle.engine.specs.Look.{LookedThroughAs, ThroughAs};
+ghost use Rattle.engine.specs.Query.{Query, query_words};
+
+use crate::writer::look::{LookedThrough, look_through};
+use crate::writer::names::{name_term, name_variable};
+use crate::writer::term::{Put, put_term, put_variable};
 
 pub(crate) fn look_parameter(program: &[u32], scratch: &[u32], x: u32, steps: u32) -> LookedThrough
-    requires { ⌜ (x < most-variables) × ((bs : Substitution) × Binds (now program) (now scratch) bs) ⌝ }
-    ensures { λ r. ⌜ ((bs : Substitution) → Binds (now (program .entry)) (now (scratch .entry)) bs → LookedThroughAs bs (var x) steps r) ⌝ }
+    requires { (x < most_variables) × ((bs : Substitution) × Binds program.now scratch.now bs) }
+    ensures { (bs : Substitution) → Binds program.now scratch.now bs → LookedThroughAs bs (var x) steps result }
 {
     let entry = scratch[x as usize];
     if entry != 0 {
@@ -35,9 +30,9 @@ pub(crate) fn look_parameter(program: &[u32], scratch: &[u32], x: u32, steps: u3
 }
 
 pub(crate) fn name_parameter(program: &[u32], scratch: &mut [u32], x: u32, top: u32) -> u32
-    requires { ⌜ (x < most-variables) × ((bs : Substitution) × (names : List ℕ) × Binds (now program) (now scratch) bs × Names (now scratch) top names) ⌝ }
-    ensures { λ r. ⌜ ((bs : Substitution) (names : List ℕ) → Binds (now (program .entry)) (now (scratch .entry)) bs → Names (now (scratch .entry)) top names
-        → Named (now (scratch .entry)) (now (scratch .exit)) r (appear names (resolve bs (var x)))) ⌝ }
+    requires { (x < most_variables) × ((bs : Substitution) × (names : List ℕ) × Binds program.now scratch.old bs × Names scratch.old top names) }
+    ensures { (bs : Substitution) (names : List ℕ) → Binds program.now scratch.old bs → Names scratch.old top names
+        → Named scratch.old scratch.new result (appear names (resolve bs (var x))) }
 {
     let entry = scratch[x as usize];
     if entry == 0 {
@@ -54,11 +49,11 @@ pub(crate) fn put_parameter(
     start: usize,
     end: usize,
 ) -> Put
-    requires { ⌜ (x < most-variables) × ((bs : Substitution) × (names : List ℕ) × Binds (now program) (now scratch) bs
-        × Puts (now scratch) (now output) start end names (vars-in names (resolve bs (var x)))) ⌝ }
-    ensures { λ r. ⌜ ((bs : Substitution) (names : List ℕ) → Binds (now (program .entry)) (now (scratch .entry)) bs
-        → Puts (now (scratch .entry)) (now (output .entry)) start end names (vars-in names (resolve bs (var x)))
-        → Placed (now (output .entry)) (now (output .exit)) start end true (term-words (reify names (resolve bs (var x)))) r) ⌝ }
+    requires { (x < most_variables) × ((bs : Substitution) × (names : List ℕ) × Binds program.now scratch.now bs
+        × Puts scratch.now output.old start end names (vars_in names (resolve bs (var x)))) }
+    ensures { (bs : Substitution) (names : List ℕ) → Binds program.now scratch.now bs
+        → Puts scratch.now output.old start end names (vars_in names (resolve bs (var x)))
+        → Placed output.old output.new start end true (term_words (reify names (resolve bs (var x)))) result }
 {
     let entry = scratch[x as usize];
     if entry == 0 {
@@ -74,8 +69,8 @@ pub(crate) fn look_parameters(
     count: u32,
     steps: u32,
 ) -> LookedThrough
-    requires { ⌜ (count ≤ most-variables) × ((bs : Substitution) × Binds (now program) (now scratch) bs) ⌝ }
-    ensures { λ r. ⌜ ((bs : Substitution) → Binds (now (program .entry)) (now (scratch .entry)) bs → ThroughAs bs (parameters 0 count) steps r) ⌝ }
+    requires { (count ≤ most_variables) × ((bs : Substitution) × Binds program.now scratch.now bs) }
+    ensures { (bs : Substitution) → Binds program.now scratch.now bs → ThroughAs bs (parameters 0 count) steps result }
 {
     let mut left = steps;
     let mut x = 0;
@@ -97,9 +92,9 @@ pub(crate) fn look_parameters(
 }
 
 pub(crate) fn name_parameters(program: &[u32], scratch: &mut [u32], count: u32) -> u32
-    requires { ⌜ (count ≤ most-variables) × ((bs : Substitution) × Binds (now program) (now scratch) bs × Names (now scratch) 0 []) ⌝ }
-    ensures { λ r. ⌜ ((bs : Substitution) → Binds (now (program .entry)) (now (scratch .entry)) bs → Names (now (scratch .entry)) 0 []
-        → Named (now (scratch .entry)) (now (scratch .exit)) r (names-of bs count)) ⌝ }
+    requires { (count ≤ most_variables) × ((bs : Substitution) × Binds program.now scratch.old bs × Names scratch.old 0 []) }
+    ensures { (bs : Substitution) → Binds program.now scratch.old bs → Names scratch.old 0 []
+        → Named scratch.old scratch.new result (names_of bs count) }
 {
     let mut top = 0;
     let mut x = 0;
@@ -118,9 +113,9 @@ pub(crate) fn put_parameters(
     start: usize,
     end: usize,
 ) -> Put
-    requires { ⌜ (start ≤ end) × Room (now output) end × (count ≤ most-variables) × ((bs : Substitution) × (names : List ℕ) × Query (now program) (now scratch) count bs names) ⌝ }
-    ensures { λ r. ⌜ ((bs : Substitution) (names : List ℕ) → Query (now (program .entry)) (now (scratch .entry)) count bs names
-        → Placed (now (output .entry)) (now (output .exit)) start end true (query-words bs names 0 count) r) ⌝ }
+    requires { (start ≤ end) × Room output.old end × (count ≤ most_variables) × ((bs : Substitution) × (names : List ℕ) × Query program.now scratch.now count bs names) }
+    ensures { (bs : Substitution) (names : List ℕ) → Query program.now scratch.now count bs names
+        → Placed output.old output.new start end true (query_words bs names 0 count) result }
 {
     let mut at = start;
     let mut x = 0;

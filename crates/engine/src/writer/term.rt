@@ -1,29 +1,28 @@
 // Words of an answer. With `write` they are stored; without it they are compared with those that are there already, and nothing is stored.
 // A place is always below `end`, so that what does not fit is missed and never counted.
+ghost use Rattle.std.specs.Prelude.{List, [], ◌∷◌, ℕ, ◌≤◌, ◌<◌, ◌+◌, length};
+ghost use Rattle.rules.specs.Syntax.{Term, var};
+ghost use Rattle.rules.specs.Written.{part, term_words};
+ghost use Rattle.semantics.specs.Answer.{index, reify, vars_in};
+ghost use Rattle.semantics.specs.Unify.{member};
+ghost use Rattle.engine.specs.Layout.{most_variables};
+ghost use Rattle.engine.specs.Walk.{Resolves};
+ghost use Rattle.engine.specs.Term.{Room, Puts, WordPut, Laid, Placed};
+
 use crate::layout::NAMES;
-use crate::terms::walk::Shape;
-use crate::terms::walk::follow;
+use crate::terms::walk::{Shape, follow};
 use word::Word;
-ghost use mathlib.Core.List.{List, [], _∷_};
-ghost use Prim.Native.Nat.{ℕ, _≤_, _<_, _+_};
-ghost use lib.ListN.{length};
-ghost use Rattle·rules.specs.Syntax.{Term, var};
-ghost use Rattle·rules.specs.Written.{part, term-words};
-ghost use Rattle·semantics.specs.Answer.{index, reify, vars-in};
-ghost use Rattle·semantics.specs.Unify.{member};
-ghost use Rattle·engine·specs.specs.Layout.{most-variables};
-ghost use Rattle·engine·specs.specs.Walk.{Resolves};
-ghost use Rattle·engine·specs.specs.Term.{Room, Puts, WordPut, Laid, Placed};
 
 // The place after the words, or that they do not fit, or are not there.
+#[derive(Clone, Copy)]
 pub enum Put {
     End(usize),
     Missed,
 }
 
 pub(crate) fn put_word(output: &mut [u32], at: usize, bits: u32, write: bool) -> bool
-    requires { ⌜ at < length (now output) ⌝ }
-    ensures { λ r. ⌜ WordPut (now (output .entry)) (now (output .exit)) at bits write r ⌝ }
+    requires { at < length output.old }
+    ensures { WordPut output.old output.new at bits write result }
 {
     if write {
         output[at] = bits;
@@ -36,8 +35,8 @@ pub(crate) fn put_word(output: &mut [u32], at: usize, bits: u32, write: bool) ->
 }
 
 pub(crate) fn put_last(output: &mut [u32], at: usize, end: usize, bits: u32, write: bool) -> Put
-    requires { ⌜ (at < end) × (end ≤ length (now output)) ⌝ }
-    ensures { λ r. ⌜ Placed (now (output .entry)) (now (output .exit)) at end write (bits ∷ []) r ⌝ }
+    requires { (at < end) × (end ≤ length output.old) }
+    ensures { Placed output.old output.new at end write (bits ∷ []) result }
 {
     if put_word(output, at, bits, write) {
         return Put::End(at + 1);
@@ -47,8 +46,8 @@ pub(crate) fn put_last(output: &mut [u32], at: usize, end: usize, bits: u32, wri
 
 // One word, if there is room.
 pub(crate) fn put_one(output: &mut [u32], at: usize, end: usize, bits: u32, write: bool) -> Put
-    requires { ⌜ end ≤ length (now output) ⌝ }
-    ensures { λ r. ⌜ (at ≤ end → Placed (now (output .entry)) (now (output .exit)) at end write (bits ∷ []) r) ⌝ }
+    requires { end ≤ length output.old }
+    ensures { at ≤ end → Placed output.old output.new at end write (bits ∷ []) result }
 {
     if end <= at {
         return Put::Missed;
@@ -58,9 +57,9 @@ pub(crate) fn put_one(output: &mut [u32], at: usize, end: usize, bits: u32, writ
 
 // The word of a part that ends at `next`, once what it counts is put.
 pub(crate) fn put_head(output: &mut [u32], start: usize, next: usize, kind: u32, write: bool) -> Put
-    requires { ⌜ (start < next) × Room (now output) next × (kind < 16) ⌝ }
-    ensures { λ r. ⌜ ((o : List ℕ) (end : ℕ) (v : List ℕ) → Laid o (now (output .entry)) (start + 1) end write v next
-        → Placed o (now (output .exit)) start end write (part kind v) r) ⌝ }
+    requires { (start < next) × Room output.old next × (kind < 16) }
+    ensures { (o : List ℕ) (end : ℕ) (v : List ℕ) → Laid o output.old (start + 1) end write v next
+        → Placed o output.new start end write (part kind v) result }
 {
     let size = (next - start - 1) as u32;
     if put_word(output, start, Word::new(kind, size).bits, write) {
@@ -78,9 +77,9 @@ pub(crate) fn put_variable(
     end: usize,
     write: bool,
 ) -> Put
-    requires { ⌜ (x < most-variables) × ((names : List ℕ) × Puts (now scratch) (now output) at end names (member x names)) ⌝ }
-    ensures { λ r. ⌜ ((names : List ℕ) → Puts (now (scratch .entry)) (now (output .entry)) at end names (member x names)
-        → Placed (now (output .entry)) (now (output .exit)) at end write (term-words (var (index x names))) r) ⌝ }
+    requires { (x < most_variables) × ((names : List ℕ) × Puts scratch.now output.old at end names (member x names)) }
+    ensures { (names : List ℕ) → Puts scratch.now output.old at end names (member x names)
+        → Placed output.old output.new at end write (term_words (var (index x names))) result }
 {
     let number = scratch[NAMES + x as usize] % 4096 - 1;
     put_one(
@@ -102,10 +101,10 @@ pub(crate) fn put_term(
     end: usize,
     write: bool,
 ) -> Put
-    requires { ⌜ ((t : Term) × (names : List ℕ) × Resolves (now program) (now scratch) term t × Puts (now scratch) (now output) start end names (vars-in names t)) ⌝ }
-    ensures { λ r. ⌜ ((t : Term) (names : List ℕ) → Resolves (now (program .entry)) (now (scratch .entry)) term t
-        → Puts (now (scratch .entry)) (now (output .entry)) start end names (vars-in names t)
-        → Placed (now (output .entry)) (now (output .exit)) start end write (term-words (reify names t)) r) ⌝ }
+    requires { (t : Term) × (names : List ℕ) × Resolves program.now scratch.now term t × Puts scratch.now output.old start end names (vars_in names t) }
+    ensures { (t : Term) (names : List ℕ) → Resolves program.now scratch.now term t
+        → Puts scratch.now output.old start end names (vars_in names t)
+        → Placed output.old output.new start end write (term_words (reify names t)) result }
 {
     let mut from = term;
     let mut at = start;

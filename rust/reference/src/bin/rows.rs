@@ -20,19 +20,16 @@ use std::process::ExitCode;
 const ROWS: usize = 50;
 
 const HEADER: &str = "\
-use Prim.Native.Nat.{ℕ}
-use mathlib.Core.Path.{_≡_, refl}
-use mathlib.Core.List.{List, [], _∷_}
-use Rattle·semantics.specs.Steps.{variables, goals, disjunctions, constraints, waiting}
-use Rattle·semantics.specs.Round.{finished, rounds-used, steps-used, output-full, path-limit, once}
-use Rattle·semantics.specs.Path.{as-written}
-use Rattle·semantics.specs.Run.{refusal, ran, returns-by}
+use Rattle.std.specs.Prelude.{[], ◌∷◌, ◌≡◌, refl}
+use Rattle.semantics.specs.Steps.{variables, goals, disjunctions, constraints, waiting}
+use Rattle.semantics.specs.Round.{finished, rounds_used, steps_used, output_full, path_limit, once}
+use Rattle.semantics.specs.Path.{as_written}
+use Rattle.semantics.specs.Run.{refusal, ran, returns_by}
 ";
 
 const PAGES_HEADER: &str = "\
-use mathlib.Core.Path.{_≡_, refl}
-use mathlib.Core.List.{[], _∷_}
-use Rattle·page.specs.Page.{find, part, refused}
+use Rattle.std.specs.Prelude.{[], ◌∷◌, ◌≡◌, refl}
+use Rattle.page.specs.Page.{find, part, refused}
 ";
 
 /// The definitions of crate rules that a row computes through, as the crate's own rows name them.
@@ -46,7 +43,7 @@ impl Unfolded {
         let text = fs::read_to_string(folder.join("crates/semantics/proofs/RowsHold.antt"))?;
         let lines = |start| text.lines().filter(move |line| line.starts_with(start));
         Ok(Unfolded {
-            imports: lines("use Rattle·rules.")
+            imports: lines("use Rattle.rules.")
                 .map(|line| format!("{line}\n"))
                 .collect(),
             unfolding: lines("unfolding ")
@@ -156,7 +153,7 @@ fn row(number: usize, case: &Case, result: &Result<Outcome, Refusal>, unfolding:
         ),
     };
     format!(
-        "\nrow-{number} : returns-by (once as-written) ({}) {} {} {} {} ≡ {report}\n{unfolding}\nrow-{number} = refl\n",
+        "\nrow_{number} : returns_by (once as_written) ({}) {} {} {} {} ≡ {report}\n{unfolding}\nrow_{number} = refl\n",
         list(&case.words),
         case.rounds,
         case.steps,
@@ -171,7 +168,7 @@ fn page_row(number: usize, case: &PageCase) -> String {
         Ok(place) => format!("part {} {}", place.start, place.end),
     };
     format!(
-        "\npage-{number} : find ({}) {} ≡ {found}\npage-{number} = refl\n",
+        "\npage_{number} : find ({}) {} ≡ {found}\npage_{number} = refl\n",
         list(&case.page),
         case.answer
     )
@@ -187,10 +184,10 @@ fn end(end: End) -> String {
     ];
     match end {
         End::Finished => "finished".to_string(),
-        End::Rounds => "rounds-used".to_string(),
-        End::Steps => "steps-used".to_string(),
-        End::Output => "output-full".to_string(),
-        End::Path(bound) => format!("path-limit {}", bounds[bound as usize - 1]),
+        End::Rounds => "rounds_used".to_string(),
+        End::Steps => "steps_used".to_string(),
+        End::Output => "output_full".to_string(),
+        End::Path(bound) => format!("path_limit {}", bounds[bound as usize - 1]),
     }
 }
 

@@ -1,0 +1,5 @@
+-- The digits before the last, then the last.
+use Rattle.list_text.proofs.put.+put_number.Given as goal
+
+abbrev pub decreases-put_number : goal.decreases-put_number
+decreases-put_number l = l.n

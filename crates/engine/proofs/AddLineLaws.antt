@@ -4,7 +4,10 @@ use mathlib.Core.Path.{◌≡◌, refl, sym, ap, subst, ◌∙◌}
 use mathlib.Core.Bool.{Bool, true, false, ◌&&◌, ◌||◌, not}
 use mathlib.Core.List.{List, [], ◌∷◌, ◌++◌, append_assoc, append-nil}
 use native.Mathlib.Omega.{arith}
+use lib.Dec.{eqb}
 use lib.ListN.{length, length-append}
+use Rattle.std.specs.Prelude.{Option, Some}
+use Rattle.std.specs.Option.{option_eq, unwrap_or}
 use Rattle.rules.specs.Lists.{joined}
 use Rattle.rules.specs.Reading.{choose}
 use Rattle.rules.specs.Syntax.{empty, var, atom}
@@ -13,36 +16,34 @@ use Rattle.rules.specs.Inner.{Spells}
 use Rattle.rules.proofs.Spelled.{stands_at as Spells_at, stands_split as spells_split}
 use Rattle.semantics.specs.Answer.{index, reify, reify_bindings, differ_goals, Line, is_sort, lacks, not_all, line_in, line_words, lines_words, same_words, any_same, listed, stays}
 use Rattle.semantics.proofs.Repeats.{same_refl, same_true}
-use Rattle.semantics.proofs.Basics.{by_choose, joined_more}
-use Rattle.engine.specs.Term.{Puts, Touched, Laid, Placed, all_laid, some_missing}
+use Rattle.semantics.proofs.Basics.{by_choose, compared, same, other, joined_more}
+use Rattle.engine.specs.Term.{Puts, Touched, Laid, Missing, Placed, all_laid, some_missing}
 use Rattle.engine.specs.Lines.{add_line, add_lines, Wholes, Stretch, Rows, AnswerSoFar, Writing, Extended}
-use Rattle.engine.specs.declared.writer.term.Put.{Put}
-use Rattle.engine.specs.declared.writer.term.Put.TheVariants.{End, Missed}
-use Rattle.engine.proofs.TermLaws.{room_same, laid_of, missing_of, laid_then, touched_then}
+use Rattle.engine.proofs.TermLaws.{room_same, laid_then, touched_then}
 use Rattle.engine.proofs.RowLaws.{spells_one, wholes_snoc}
 
-module _ {o o' : List ℕ} {place next : ℕ} {v : List ℕ} {r : Put} (w : List ℕ) (p : Placed o o' place next false v r) (there : Stretch o place next w) where
-  pub same_missed : r ≡ Missed → false ≡ same_words v w
-  same_missed e = go (same_words v w) refl
-    where
-      go : (b : Bool) → same_words v w ≡ b → false ≡ same_words v w
-      go false q = sym q
-      go true q = let z : v ≡ w = same_true v w q in absurd ((missing_of p e).differs refl (omega (arith, ap length z, there.ends)) (subst (Spells o place) (sym z) there.words))
-
-  pub same_found : {e : ℕ} → r ≡ End e → e ≡ next → true ≡ same_words v w
-  same_found {e} q k =
-      let d = laid_of p q in
+-- words are compared with those that stand there
+pub same_said : {o o' : List ℕ} {place next : ℕ} {v : List ℕ} {r : Option ℕ} (w : List ℕ) → Placed o o' place next false v r → Stretch o place next w → option_eq eqb r (Some next) ≡ same_words v w
+same_said {o} {o'} {place} {next} {v} w (all_laid {e = e} d) there = elim (compared e next) [
+  | same q r ↦
       let z : v ≡ w = spells_one o place v w (subst (λ x. Spells x place v) (d.read_only refl) d.words) there.words (omega (arith, d.is, there.ends)) in
-      subst (λ x. true ≡ same_words x w) (sym z) (sym (same_refl w))
+      r ∙ sym (subst (λ x. same_words x w ≡ true) (sym z) (same_refl w))
+  | other n r ↦ r ∙ differs (λ z. n (omega (arith, d.is, there.ends, ap length z)))
+]
+  where
+    differs : ¬ (v ≡ w) → false ≡ same_words v w
+    differs n = go (same_words v w) refl
+      where
+        go : (b : Bool) → same_words v w ≡ b → false ≡ same_words v w
+        go false z = sym z
+        go true z = absurd (n (same_true v w z))
+same_said {o} {o'} {place} {next} {v} w (some_missing m) there = go (same_words v w) refl
+  where
+    go : (b : Bool) → same_words v w ≡ b → false ≡ same_words v w
+    go false q = sym q
+    go true q = let z : v ≡ w = same_true v w q in absurd (m.differs refl (omega (arith, ap length z, there.ends)) (subst (Spells o place) (sym z) there.words))
 
-  pub same_short : {e : ℕ} → r ≡ End e → ¬ (e ≡ next) → false ≡ same_words v w
-  same_short {e} q n = go (same_words v w) refl
-    where
-      go : (b : Bool) → same_words v w ≡ b → false ≡ same_words v w
-      go false z = sym z
-      go true z = absurd (n (omega (arith, (laid_of p q).is, there.ends, ap length (same_true v w z))))
-
-pub read_back : {o o' : List ℕ} {place next : ℕ} {v : List ℕ} {r : Put} → Placed o o' place next false v r → o' ≡ o
+pub read_back : {o o' : List ℕ} {place next : ℕ} {v : List ℕ} {r : Option ℕ} → Placed o o' place next false v r → o' ≡ o
 read_back (all_laid h) = h.read_only refl
 read_back (some_missing h) = h.read_only refl
 
@@ -121,28 +122,27 @@ module _ {s out : List ℕ} {first end place : ℕ} (g : Writing s out first end
       pub page_repeated : again ≡ true → Extended g o₁ place (l ∷ [])
       page_repeated k = subst (λ x. Extended g x place (l ∷ [])) (sym unread) (as_before (line_repeats g.names g.lines l (sym f ∙ n) (sym i ∙ k)))
 
-      module _ {o₂ : List ℕ} {r : Put} (e : place ≤ end) (k : again ≡ false) (p : Placed o₁ o₂ place end true (line_words g.names l) r) where
+      module _ (e : place ≤ end) (k : again ≡ false) where
         added : add_line g.names g.lines l ≡ g.lines ++ (line_words g.names l ∷ [])
         added = line_added g.names g.lines l (sym f ∙ n) (sym i ∙ k)
 
         longer : g.head ++ joined (add_line g.names g.lines l) ≡ (g.head ++ joined g.lines) ++ line_words g.names l
         longer = ap (λ x. g.head ++ joined x) added ∙ ap (λ x. g.head ++ x) (joined_more g.lines (line_words g.names l)) ∙ sym (append_assoc g.head (joined g.lines) (line_words g.names l))
 
-        pub page_missed : r ≡ Missed → Extended g o₂ (end + 1) (l ∷ [])
+        page_missed : {o₂ : List ℕ} → Missing o₁ o₂ place end true (line_words g.names l) → Extended g o₂ (end + 1) (l ∷ [])
         unfolding add_lines
-        page_missed q =
+        page_missed {o₂} m =
             let d = g.page.stands e in
-            let m = missing_of p q in
             let c : place ≡ g.begin + length (g.head ++ joined g.lines) = d.is in
             let z = m.no_room refl in
             page_over (omega arith) (omega (arith, ap length longer, length-append (g.head ++ joined g.lines) (line_words g.names l)))
             (touched_then g.begin end place end g.begin end (omega arith) (omega arith) (omega arith) (omega arith) g.page.touched (subst (λ x. Touched x o₂ place end) unread m.touched))
 
-        pub page_put : {next : ℕ} → r ≡ End next → Extended g o₂ next (l ∷ [])
+        page_put : {o₂ : List ℕ} {next : ℕ} → Laid o₁ o₂ place end true (line_words g.names l) next → Extended g o₂ next (l ∷ [])
         unfolding add_lines
-        page_put {next} q =
+        page_put {o₂} {next} q =
             let d = g.page.stands e in
-            let u = subst (λ x. Laid x o₂ place end true (line_words g.names l) next) unread (laid_of p q) in
+            let u = subst (λ x. Laid x o₂ place end true (line_words g.names l) next) unread q in
             let lp = line_part g.names l in
             let c : place ≡ g.begin + length (g.head ++ joined g.lines) = d.is in
             let z : next ≡ place + length (line_words g.names l) = u.is in
@@ -155,6 +155,10 @@ module _ {s out : List ℕ} {first end place : ℕ} (g : Writing s out first end
               over = λ z. absurd (omega arith);
               touched = touched_then g.begin end place next g.begin end (omega arith) (omega arith) (omega arith) (omega arith) g.page.touched u.touched;
             }
+
+        pub page_next : {o₂ : List ℕ} {r : Option ℕ} → Placed o₁ o₂ place end true (line_words g.names l) r → Extended g o₂ (unwrap_or r (end + 1)) (l ∷ [])
+        page_next (all_laid u) = page_put u
+        page_next (some_missing m) = page_missed m
 
 -- what the definition lists
 pub any_snoc : (v w : List ℕ) (ws : List (List ℕ)) → any_same v (ws ++ (w ∷ [])) ≡ (same_words v w || any_same v ws)

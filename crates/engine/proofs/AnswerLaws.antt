@@ -8,7 +8,8 @@ use native.Mathlib.Nat.{zero-add, suc-add}
 use native.Mathlib.Decide.{dec_lt}
 use lib.Dec.{ltb}
 use lib.ListN.{length, take}
-use borrow.Author.Tests.{ltb-true, lt-ltb, le-ltb}
+use borrow.Author.Tests.{ltb-true, le-ltb}
+use Rattle.std.specs.Prelude.{Result, Ok, Err, Option, Some, None, unwrap_or}
 use Rattle.rules.specs.Lists.{Each, joined}
 use Rattle.rules.specs.Reading.{choose}
 use Rattle.rules.specs.Syntax.{Term, var, Constraint, Program}
@@ -16,12 +17,12 @@ use Rattle.rules.specs.Written.{part}
 use Rattle.rules.specs.Inner.{Spells}
 use Rattle.rules.proofs.Spelled.{stands_getD as spells_getD}
 use Rattle.semantics.specs.Substitution.{Substitution, resolve}
-use Rattle.semantics.specs.Steps.{waiting, no_steps, at_bound, Outcome, done, stop, and_then}
+use Rattle.semantics.specs.Steps.{Outcome, done, and_then}
 use Rattle.semantics.specs.Path.{Path, ChoicePoint}
 use Rattle.semantics.specs.Run.{usable}
-use Rattle.semantics.specs.Answer.{vars_in, Line, parameters, query_terms, names_of, answer_words, look_through, all_lines, answer}
+use Rattle.semantics.specs.Answer.{vars_in, Line, parameters, query_terms, names_of, answer_words, all_lines, answer}
 use Rattle.semantics.specs.Invariant.{Sound}
-use Rattle.semantics.proofs.Basics.{clash, compared, same, other, by_choose}
+use Rattle.semantics.proofs.Basics.{clash, compared, same, other}
 use Rattle.semantics.proofs.Names.{appear_all_has}
 use Rattle.engine.specs.Reference.{at}
 use Rattle.engine.specs.Memory.{BindingsIn, Nameless, Stored}
@@ -35,21 +36,14 @@ use Rattle.engine.specs.Query.{Known, query_words, Query}
 use Rattle.engine.specs.Look.{ThroughAs}
 use Rattle.engine.specs.Constraint.{added_says, AddedAs}
 use Rattle.engine.specs.Take.{PathHeld, registers}
-use Rattle.engine.specs.Answer.{Answering, AnswerLeft, answer_says, AnswerStands, AnsweredAs, Ends, answer_end, EndedAs}
+use Rattle.engine.specs.Answer.{Answering, AnswerLeft, AnswerStands, AnsweredAs, Ends, answer_end, EndedAs}
 use Rattle.engine.specs.declared.search.state.State.{State}
-use Rattle.engine.specs.declared.writer.term.Put.{Put}
-use Rattle.engine.specs.declared.writer.term.Put.TheVariants.{End, Missed}
-use Rattle.engine.specs.declared.writer.look.LookedThrough.{LookedThrough}
-use Rattle.engine.specs.declared.writer.look.LookedThrough.TheVariants as looked
-use Rattle.engine.specs.declared.writer.constraint.Added.{Added}
-use Rattle.engine.specs.declared.writer.constraint.Added.TheVariants as added
-use Rattle.engine.specs.declared.writer.answer.Answered.{Answered}
-use Rattle.engine.specs.declared.writer.answer.Answered.TheVariants as answered
+use Rattle.engine.specs.declared.steps.Stopped.{Stopped}
 use Rattle.engine.proofs.TrailLaws.{fresh_few}
 use Rattle.engine.proofs.FrameLaws.{bindings_same, kept_same}
 use Rattle.engine.proofs.StoredLaws.{trailed, rebound, stored_binds}
 use Rattle.engine.proofs.NameLaws.{names_apart}
-use Rattle.engine.proofs.TermLaws.{room_same, untouched, touched_wide, laid_of, missing_of}
+use Rattle.engine.proofs.TermLaws.{room_same, touched_wide}
 use Rattle.engine.proofs.AddLineLaws.{page_over, lines_listed}
 use Rattle.engine.proofs.QueryLaws.{binds_named}
 
@@ -79,70 +73,43 @@ take_spelled n o ws l h = take_behind n o ws l (λ i k. spells_getD o n ws i h k
 bare : (head : List ℕ) → length (head ++ joined []) ≡ length head
 bare head = ap length (append-nil head)
 
-module _ {o : List ℕ} (start : ℕ) {end : ℕ} {head : List ℕ} where
-  pub begin_none : end ≤ start → AnswerSoFar o o (start + 1) (end + 1) end (end + 1) head []
-  begin_none l = page_over (omega arith) (omega arith) (untouched o (start + 1) end)
-
-  module _ {o' : List ℕ} {r : Put} (p : Placed o o' (start + 1) end true head r) where
-    pub begin_missed : r ≡ Missed → AnswerSoFar o o' (start + 1) (end + 1) end (end + 1) head []
-    begin_missed e = let m = missing_of p e in page_over (omega arith) (omega (arith, m.no_room refl, bare head)) m.touched
-
-    pub begin_put : {next : ℕ} → r ≡ End next → AnswerSoFar o o' (start + 1) next end next head []
-    unfolding Wholes
-    begin_put {next} e =
-        let d = laid_of p e in
-        let n : next ≡ start + 1 + length head = d.is in
-        let f : next ≤ end = d.fits in
-        record {
-          stands = λ _. subst (λ v. Laid o o' (start + 1) end true v next) (sym (append-nil head)) d;
-          whole = λ _. tt;
-          begins = λ _. d.is;
-          over = λ q. absurd (omega arith);
-          touched = touched_wide (start + 1) end (omega arith) (omega arith) d.touched;
-        }
+pub begin_put : {o o' : List ℕ} {from end : ℕ} {head : List ℕ} {r : Option ℕ} → Placed o o' from end true head r → AnswerSoFar o o' from (unwrap_or r (end + 1)) end (unwrap_or r (end + 1)) head []
+unfolding Wholes
+begin_put {o} {o'} {from} {end} {head} (all_laid {e = next} d) = record {
+  stands = λ _. subst (λ v. Laid o o' from end true v next) (sym (append-nil head)) d;
+  whole = λ _. tt;
+  begins = λ _. d.is;
+  over = λ q. absurd (omega (arith, d.fits));
+  touched = touched_wide from end (omega arith) (omega (arith, d.fits)) d.touched;
+}
+begin_put {head = head} (some_missing m) = page_over (omega arith) (omega (arith, m.no_room refl, bare head)) m.touched
 
 -- the page ends
 wider : {o₀ o : List ℕ} {start end : ℕ} → Touched o₀ o (start + 1) end → Touched o₀ o start end
 wider {o₀} {o} {start} {end} t = touched_wide start end (omega arith) (omega arith) t
 
-module _ (o₀ o : List ℕ) (start end : ℕ) (v : List ℕ) (r : Added) where
-  pub ended_steps : r ≡ added.StepsOut → EndedAs o₀ o o start end v r answered.StepsOut
-  ended_steps e = record { says = rw e refl; written = λ n l q. clash (cc); touched = λ t. wider t }
-
-  pub ended_path : {left : ℕ} → r ≡ added.WaitingOut left → EndedAs o₀ o o start end v r (answered.WaitingOut left)
-  ended_path e = record { says = rw e refl; written = λ n l q. clash (cc); touched = λ t. wider t }
-
-  pub ended_full : {place left : ℕ} → r ≡ added.Done place left → end < place → EndedAs o₀ o o start end v r (answered.Full left)
-  ended_full {place} e f = record { says = rw (e, lt-ltb end place f) refl; written = λ n l q. clash (cc); touched = λ t. wider t }
-
-  pub ended_written : {o' : List ℕ} {place left : ℕ} {q : Put} → Ends o₀ o start end v r → r ≡ added.Done place left → place ≤ end → Placed o₀ o' start end true (part 15 v) q → EndedAs o₀ o o' start end v r (answered.Written place left)
-  ended_written {o'} {place} {left} h e f p = record {
-    says = rw (e, le-ltb end place f) refl;
-    written = λ n l z. let k : place ≡ n = cc in subst (Laid o₀ o' start end true (part 15 v)) k laid;
+module _ (o₀ o : List ℕ) (start end : ℕ) (v : List ℕ) (place : ℕ) where
+  pub ended_written : {o' : List ℕ} {q : Option ℕ} → Ends o₀ o start end v place → place ≤ end → Placed o₀ o' start end true (part 15 v) q → EndedAs o₀ o o' start end v place (Some place)
+  ended_written {o'} h f p = record {
+    says = rw (le-ltb end place f) refl;
+    written = λ n z. let k : place ≡ n = cc in subst (Laid o₀ o' start end true (part 15 v)) k laid;
     touched = λ _. touched_wide start end (omega arith) (omega arith) laid.touched;
   }
     where
-      placed : {q : Put} → Placed o₀ o' start end true (part 15 v) q → place ≡ start + 1 + length v → Laid o₀ o' start end true (part 15 v) place
+      placed : {q : Option ℕ} → Placed o₀ o' start end true (part 15 v) q → place ≡ start + 1 + length v → Laid o₀ o' start end true (part 15 v) place
       placed (all_laid {e = k} l) a = let z : k ≡ place = omega (arith, l.is) in subst (Laid o₀ o' start end true (part 15 v)) z l
       placed (some_missing m) a = absurd (omega (arith, m.no_room refl))
 
       laid : Laid o₀ o' start end true (part 15 v) place
-      laid = placed p (h place left e f).is
+      laid = placed p (h f).is
 
 -- no room: the lines end behind the page's end
-record Overrun (end : ℕ) (r : Added) (left : ℕ) : Type 0 where
-  pub place : ℕ
-  pub is : r ≡ added.Done place left
-  pub beyond : end < place
-
-overrun : (end : ℕ) (r : Added) (l : ℕ) → answered.Full l ≡ answer_end end r → Overrun end r l
-overrun end (added.Done place left) l e = go (ltb end place) refl e
+overrun : (end place : ℕ) → None ≡ answer_end end place → end < place
+overrun end place e = go (ltb end place) refl e
   where
-    go : (b : Bool) → ltb end place ≡ b → answered.Full l ≡ choose b (λ _. answered.Full left) (λ _. answered.Written place left) → Overrun end (added.Done place left) l
-    go true q f = let z : left ≡ l = cc in record { place = place; is = ap (added.Done place) z; beyond = ltb-true end place q }
+    go : (b : Bool) → ltb end place ≡ b → None ≡ choose b (λ _. None) (λ _. Some place) → end < place
+    go true q f = ltb-true end place q
     go false q f = clash (cc)
-overrun end added.StepsOut l e = clash (cc)
-overrun end (added.WaitingOut left) l e = clash (cc)
 
 -- names: none before, none after
 pub unnamed : {s : List ℕ} → Nameless s → Names s 0 []
@@ -175,12 +142,6 @@ page_words bs n ls = query_words bs (names_of bs n) 0 n ++ joined (add_lines (na
 words_are : (bs : Substitution) (n : ℕ) (ls : List Line) → part 15 (page_words bs n ls) ≡ answer_words bs n ls
 words_are bs n ls = ap (λ v. part 15 (query_words bs (names_of bs n) 0 n ++ v)) (lines_listed (names_of bs n) [] [] ls (λ v. refl))
 
--- the end of the lines says what the answer does
-ends_said : (bs : Substitution) (n end : ℕ) (ls : List Line) (r : Added) → and_then (added_says ls r) (λ ls k. done (answer_words bs n ls) k) ≡ answer_says (answer_words bs n ls) (answer_end end r)
-ends_said bs n end ls (added.Done place left) = by_choose (λ q. done (answer_words bs n ls) left ≡ answer_says (answer_words bs n ls) q) (ltb end place) (λ _. answered.Full left) (λ _. answered.Written place left) (λ _. refl) (λ _. refl)
-ends_said bs n end ls added.StepsOut = refl
-ends_said bs n end ls (added.WaitingOut left) = refl
-
 -- Answering, in the order of the code's calls.
 module _ {P : Program} {ws s output : List ℕ} {st : State} {p : Path} {cs : List ChoicePoint} {params used : ℕ} (a : Answering P ws s output st p cs params used) where
   abbrev bs : Substitution
@@ -199,24 +160,13 @@ module _ {P : Program} {ws s output : List ℕ} {st : State} {p : Path} {cs : Li
   as_before = record { stored = a.stored; scratch_length = refl; output_length = refl; before = refl }
 
   -- the steps of the query terms
-  module _ (r : LookedThrough) (h : ThroughAs bs (parameters 0 params) st.steps r) where
-    pub answer_steps : r ≡ looked.StepsOut → AnsweredAs P ws s output s output st p cs used (answer p params st.steps) answered.StepsOut
-    unfolding ThroughAs
-    answer_steps e =
-        let d : look_through bs (parameters 0 params) st.steps ≡ stop no_steps 0 = rw e at h in
-        record { leaves_lent = as_before; words = []; says = rw d refl; written = λ n l q. clash (cc); full = λ l q. clash (cc) }
+  pub answer_stops : (e : Stopped) → ThroughAs bs (parameters 0 params) st.steps (Err e) → AnsweredAs P ws s output s output st p cs used (answer p params st.steps) (Err e)
+  unfolding ThroughAs
+  answer_stops e h = record { leaves_lent = as_before; words = []; says = rw h; written = λ n l q. clash (cc); full = λ l q. clash (cc) }
 
-    pub answer_path : {left : ℕ} → r ≡ looked.WaitingOut left → AnsweredAs P ws s output s output st p cs used (answer p params st.steps) (answered.WaitingOut left)
-    unfolding ThroughAs
-    answer_path {left} e =
-        let d : look_through bs (parameters 0 params) st.steps ≡ stop (at_bound waiting) left = rw e at h in
-        record { leaves_lent = as_before; words = []; says = rw d refl; written = λ n l q. clash (cc); full = λ l q. clash (cc) }
-
-    pub answer_on : {left : ℕ} → r ≡ looked.Done left → answer p params st.steps ≡ and_then (all_lines bs p.kept left) (λ ls m. done (answer_words bs params ls) m)
-    unfolding ThroughAs
-    answer_on {left} e =
-        let d : ThroughAs bs (parameters 0 params) st.steps (looked.Done left) = rw e at h in
-        ap (λ o. and_then o (λ _ l. and_then (all_lines bs p.kept l) (λ ls m. done (answer_words bs params ls) m))) d
+  pub answer_on : (left : ℕ) → ThroughAs bs (parameters 0 params) st.steps (Ok left) → answer p params st.steps ≡ and_then (all_lines bs p.kept left) (λ ls m. done (answer_words bs params ls) m)
+  unfolding ThroughAs
+  answer_on left h = ap (λ o. and_then o (λ _ l. and_then (all_lines bs p.kept l) (λ ls m. done (answer_words bs params ls) m))) h
 
   -- with names
   module _ {s₁ : List ℕ} {top : ℕ} (m : Named s s₁ top names) where
@@ -243,11 +193,11 @@ module _ {P : Program} {ws s output : List ℕ} {st : State} {p : Path} {cs : Li
       answer_writing = record { before = output; begin = used + 1; head = query_words bs names 0 params; lines = []; names = names; page = page; given = answer_given; room = room_same page.touched.long room }
 
       -- with the lines of the constraints
-      module _ {s₂ out₂ : List ℕ} (o : Outcome (List Line)) (r : Added) (d : AddedAs ws s₁ s₂ answer_writing out₂ bs o r) where
+      module _ {s₂ out₂ : List ℕ} (o : Outcome (List Line)) (r : Result (ℕ × ℕ) Stopped) (d : AddedAs ws s₁ s₂ answer_writing out₂ bs o r) where
         pub answer_named : Names s₂ top names
         answer_named = names_apart d.apart m.given
 
-        pub answer_ends : Ends output out₂ used end (page_words bs params d.lines) r
+        pub answer_ends : (next left : ℕ) → r ≡ Ok (next, left) → Ends output out₂ used end (page_words bs params d.lines) next
         answer_ends next left e = (d.page next left e).stands
 
         -- without names again
@@ -269,17 +219,36 @@ module _ {P : Program} {ws s output : List ℕ} {st : State} {p : Path} {cs : Li
               | no q ↦ c.above i (omega arith) ∙ d.apart.middle i lo hi ∙ m.above i (omega arith)
             ]
 
+        answer_left : {s₃ out₃ : List ℕ} → Named s₂ s₃ 0 [] → Touched output out₃ used end → AnswerLeft P ws s output s₃ out₃ st p cs used
+        answer_left {s₃} {out₃} c t = record {
+          stored = answer_stored c;
+          scratch_length = c.long ∙ d.apart.long ∙ m.long;
+          output_length = t.long;
+          before = take_same used output out₃ t.long t.below;
+        }
+
+        -- a stop
+        pub answer_halted : {s₃ : List ℕ} → Named s₂ s₃ 0 [] → answer p params st.steps ≡ and_then o (λ ls k. done (answer_words bs params ls) k)
+            → (e : Stopped) → r ≡ Err e → AnsweredAs P ws s output s₃ out₂ st p cs used (answer p params st.steps) (Err e)
+        answer_halted c f e i = record {
+          leaves_lent = answer_left c (wider d.touched);
+          words = [];
+          says = rw (f, d.says, i);
+          written = λ n l q. clash (cc);
+          full = λ l q. clash (cc);
+        }
+
         -- and the definition's words
-        module _ (out₃ : List ℕ) (q : Answered) (e : EndedAs output out₂ out₃ used end (page_words bs params d.lines) r q) (is_end : end ≡ usable (length output)) where
+        module _ {next rest : ℕ} (i : r ≡ Ok (next, rest)) {out₃ : List ℕ} {q : Option ℕ} (e : EndedAs output out₂ out₃ used end (page_words bs params d.lines) next q) (is_end : end ≡ usable (length output)) where
           abbrev words : List ℕ
           words = answer_words bs params d.lines
 
           end_touched : Touched output out₃ used end
           end_touched = e.touched d.touched
 
-          answer_stands : (n left : ℕ) → q ≡ answered.Written n left → AnswerStands output out₃ used words n
-          answer_stands n left z =
-              let g : Laid output out₃ used end true words n = subst (λ v. Laid output out₃ used end true v n) (words_are bs params d.lines) (e.written n left z) in
+          answer_stands : (n : ℕ) → q ≡ Some n → AnswerStands output out₃ used words n
+          answer_stands n z =
+              let g : Laid output out₃ used end true words n = subst (λ v. Laid output out₃ used end true v n) (words_are bs params d.lines) (e.written n z) in
               let x : n ≡ used + length words = g.is in
               let y : n ≤ end = g.fits in
               let u : length out₃ ≡ length output = end_touched.long in
@@ -291,35 +260,28 @@ module _ {P : Program} {ws s output : List ℕ} {st : State} {p : Path} {cs : Li
                 behind = g.touched.above;
               }
 
-          answer_full : (left : ℕ) → q ≡ answered.Full left → usable (length output) < used + length words
-          answer_full left z =
-              let v = overrun end r left (sym z ∙ e.says) in
+          answer_full : q ≡ None → usable (length output) < used + length words
+          answer_full z =
               let x : length (part 15 (page_words bs params d.lines)) ≡ length words = ap length (words_are bs params d.lines) in
-              omega (arith, (d.page v.place left v.is).over v.beyond)
+              omega (arith, (d.page next rest i).over (overrun end next (sym z ∙ e.says)))
 
           pub answer_done : {s₃ : List ℕ} → Named s₂ s₃ 0 [] → answer p params st.steps ≡ and_then o (λ ls k. done (answer_words bs params ls) k)
-              → AnsweredAs P ws s output s₃ out₃ st p cs used (answer p params st.steps) q
-          answer_done {s₃} c f = record {
-            leaves_lent = record {
-              stored = answer_stored c;
-              scratch_length = c.long ∙ d.apart.long ∙ m.long;
-              output_length = end_touched.long;
-              before = take_same used output out₃ end_touched.long end_touched.below;
-            };
+              → AnsweredAs P ws s output s₃ out₃ st p cs used (answer p params st.steps) (Ok (q, rest))
+          answer_done c f = record {
+            leaves_lent = answer_left c end_touched;
             words = words;
-            says = f ∙ ap (λ o. and_then o (λ ls k. done (answer_words bs params ls) k)) d.says ∙ ends_said bs params end d.lines r ∙ ap (answer_says words) (sym e.says);
-            written = answer_stands;
-            full = answer_full;
+            says = f ∙ ap (λ o. and_then o (λ ls k. done (answer_words bs params ls) k)) d.says ∙ ap (λ y. and_then (added_says d.lines y) (λ ls k. done (answer_words bs params ls) k)) i;
+            written = λ n left z. answer_stands n (first_of z);
+            full = λ left z. answer_full (first_of z);
           }
+            where
+              first_of : {w : Option ℕ} {left : ℕ} → ◌≡◌ {A = Result (Option ℕ × ℕ) Stopped} (Ok (q, rest)) (Ok (w, left)) → q ≡ w
+              first_of {w} {left} z = let y : ◌≡◌ {A = Option ℕ × ℕ} (q, rest) (w, left) = cc in ap (λ (y : Option ℕ × ℕ). y.0) y
 
 -- The same from what the calls promise, one after the other.
 module _ {P : Program} {ws s output : List ℕ} {st : State} {p : Path} {cs : List ChoicePoint} {params used : ℕ} (a : Answering P ws s output st p cs params used) where
-  module _ (r : LookedThrough) (look : (bs : Substitution) → Binds ws s bs → ThroughAs bs (parameters 0 params) st.steps r) where
-    pub steps_out_now : r ≡ looked.StepsOut → AnsweredAs P ws s output s output st p cs used (answer p params st.steps) answered.StepsOut
-    steps_out_now e = answer_steps a r (look p.bindings (answer_binds a)) e
-
-    pub path_out_now : {left : ℕ} → r ≡ looked.WaitingOut left → AnsweredAs P ws s output s output st p cs used (answer p params st.steps) (answered.WaitingOut left)
-    path_out_now e = answer_path a r (look p.bindings (answer_binds a)) e
+  pub stops_now : (e : Stopped) → ((bs : Substitution) → Binds ws s bs → ThroughAs bs (parameters 0 params) st.steps (Err e)) → AnsweredAs P ws s output s output st p cs used (answer p params st.steps) (Err e)
+  stops_now e look = answer_stops a e (look p.bindings (answer_binds a))
 
   module _ {s₁ : List ℕ} {top : ℕ} (name : (bs : Substitution) → Binds ws s bs → Names s 0 [] → Named s s₁ top (names_of bs params)) where
     pub named_now : Named s s₁ top (names_of p.bindings params)
@@ -335,7 +297,7 @@ module _ {P : Program} {ws s output : List ℕ} {st : State} {p : Path} {cs : Li
       abbrev pub writing_now : Writing s₁ out₁ place end place
       writing_now = answer_writing a named_now room page_now
 
-      module _ {s₂ out₂ : List ℕ} {left : ℕ} (d : Added)
+      module _ {s₂ out₂ : List ℕ} {left : ℕ} (d : Result (ℕ × ℕ) Stopped)
           (add : (g : Writing s₁ out₁ place end place) (bs : Substitution) (ks : List Constraint) (made : ℕ) → ConstraintsHeld ws s₁ bs ks st.trail st.constraints → Sound bs ks made → AddedAs ws s₁ s₂ g out₂ bs (all_lines bs ks left) d) where
         pub added_now : AddedAs ws s₁ s₂ writing_now out₂ p.bindings (all_lines p.bindings p.kept left) d
         added_now = add writing_now p.bindings p.kept p.made (answer_kept a named_now) a.sound
@@ -349,12 +311,15 @@ module _ {P : Program} {ws s output : List ℕ} {st : State} {p : Path} {cs : Li
         pub names_now : Names s₂ top (names_of p.bindings params)
         names_now = answer_named a named_now room page_now _ d added_now
 
-        pub ends_now : Ends output out₂ used end (page_words p.bindings params added_now.lines) d
-        ends_now = answer_ends a named_now room page_now _ d added_now
+        module _ (look : (bs : Substitution) → Binds ws s bs → ThroughAs bs (parameters 0 params) st.steps (Ok left)) {s₃ : List ℕ} (clear : (names : List ℕ) → Names s₂ top names → Named s₂ s₃ 0 []) where
+          pub halted_now : (e : Stopped) → d ≡ Err e → AnsweredAs P ws s output s₃ out₂ st p cs used (answer p params st.steps) (Err e)
+          halted_now e i = answer_halted a named_now room page_now _ d added_now (clear _ names_now) (answer_on a left (look p.bindings (answer_binds a))) e i
 
-        pub answered_now : (r : LookedThrough) → ((bs : Substitution) → Binds ws s bs → ThroughAs bs (parameters 0 params) st.steps r) → r ≡ looked.Done left
-            → {s₃ : List ℕ} (out₃ : List ℕ) (q : Answered) → end ≡ usable (length output) → ((names : List ℕ) → Names s₂ top names → Named s₂ s₃ 0 [])
-            → ((o : List ℕ) (v : List ℕ) → Ends o out₂ used end v d → EndedAs o out₂ out₃ used end v d q)
-            → AnsweredAs P ws s output s₃ out₃ st p cs used (answer p params st.steps) q
-        answered_now r look e out₃ q is_end clear finish =
-            answer_done a named_now room page_now _ d added_now out₃ q (finish output _ ends_now) is_end (clear _ names_now) (answer_on a r (look p.bindings (answer_binds a)) e)
+          module _ {next rest : ℕ} (i : d ≡ Ok (next, rest)) where
+            pub ends_now : Ends output out₂ used end (page_words p.bindings params added_now.lines) next
+            ends_now = answer_ends a named_now room page_now _ d added_now next rest i
+
+            pub answered_now : {out₃ : List ℕ} {q : Option ℕ} → end ≡ usable (length output) → ((o : List ℕ) (v : List ℕ) → Ends o out₂ used end v next → EndedAs o out₂ out₃ used end v next q)
+                → AnsweredAs P ws s output s₃ out₃ st p cs used (answer p params st.steps) (Ok (q, rest))
+            answered_now is_end finish =
+                answer_done a named_now room page_now _ d added_now i (finish output _ ends_now) is_end (clear _ names_now) (answer_on a left (look p.bindings (answer_binds a)))

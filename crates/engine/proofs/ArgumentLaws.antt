@@ -5,9 +5,12 @@ use mathlib.Core.Option.{some-injective, some}
 use mathlib.Core.List.{List, [], ◌∷◌}
 use native.Mathlib.Omega.{arith}
 use lib.ListN.{length}
+use Rattle.word.specs.Kind.{kind_number}
+use Rattle.word.specs.declared.kind.Kind.{Kind}
+use Rattle.word.specs.declared.kind.Kind.TheVariants.{Variable}
+use Rattle.word.proofs.KindLaws.{kind_number_other}
 use Rattle.rules.specs.Lists.{Each}
 use Rattle.rules.specs.Syntax.{Term, var, atom, pair}
-use Rattle.rules.specs.Reading.{payload_at}
 use Rattle.semantics.specs.Substitution.{shift, Substitution, lookup, argument}
 use Rattle.semantics.specs.Path.{bind_params}
 use Rattle.semantics.specs.Invariant.{TermIn, Vars}
@@ -28,38 +31,28 @@ use Rattle.engine.proofs.TrailLaws.{fresh_room, bind_in, apart_trans, bound_apar
 
 -- The last variable.
 
--- the variable that a reference to a variable's word stands for
-abbrev pub var_of : List ℕ → ℕ → ℕ
-var_of ws w = base_of w + payload_at ws (pos_of w)
-
 argument_here : (bs : Substitution) (x : ℕ) → Last bs x → argument bs (var x) ≡ var x
 argument_here bs x l = ap var (last_here (length bs) bs x l)
 
--- the loop stops at an atom or a pair ..
-pub last_other : (ws : List ℕ) (bs : Substitution) (w b k p : ℕ) (t : Term) → Stands ws w t → PartRead ws w b k p → (k ≡ 0 → ⊥) → Stands ws w (argument bs t)
-last_other ws bs w b k p (var x) h i n = absurd (n (i.is_kind ∙ h.reads.0))
-last_other ws bs w b k p (atom a) h i n = h
-last_other ws bs w b k p (pair u v) h i n = h
-
--- .. at an open variable ..
-pub last_open : (ws s : List ℕ) (bs : Substitution) (w b k p x : ℕ) (t : Term) → Follows ws s bs w t → PartRead ws w b k p → k ≡ 0 → x ≡ base_of w + p → at s x ≡ 0 → Stands ws w (argument bs t)
-last_open ws s bs w b k p x (var y) f i e q z = subst (Stands ws w) (sym (argument_here bs y (λ u l. go u l))) f.stands
+-- the loop stops at an open variable ..
+pub last_open : {ws s : List ℕ} {bs : Substitution} {w b k p x : ℕ} {t : Term} → Follows ws s bs w t → PartRead ws w b k p → x ≡ base_of w + p → at s x ≡ 0 → Stands ws w (argument bs t)
+last_open {ws} {s} {bs} {w} {x = x} {t = var y} f i is_x z = subst (Stands ws w) (sym (argument_here bs y (λ u l. go u l))) f.stands
   where
-    is_x : x ≡ y
-    is_x = omega (arith, q, f.stands.reads.1, i.is_payload)
+    same_x : x ≡ y
+    same_x = omega (arith, is_x, f.stands.reads.1, i.is_payload)
 
     go : (u : ℕ) → lookup bs y ≡ some (var u) → ⊥
     go u l =
         let entry : BoundTo ws (at s y) (var u) = subst (λ o. Entry ws (at s y) o) l (f.binds.bindings_in.words y f.stands.in_range) in
-        let zero_there : at s y ≡ 0 = subst (λ v. at s v ≡ 0) is_x z in
+        let zero_there : at s y ≡ 0 = subst (λ v. at s v ≡ 0) same_x z in
         omega (arith, entry.some_word)
-last_open ws s bs w b k p x (atom a) f i e q z = f.stands
-last_open ws s bs w b k p x (pair u v) f i e q z = f.stands
+last_open {t = atom a} f i is_x z = f.stands
+last_open {t = pair u v} f i is_x z = f.stands
 
 -- .. and at a variable that is bound to none
-pub last_stop : (ws s : List ℕ) (bs : Substitution) (w b k p x c l q : ℕ) (t : Term) → Follows ws s bs w t → PartRead ws w b k p → k ≡ 0 → x ≡ base_of w + p → (at s x ≡ 0 → ⊥)
-    → PartRead ws (at s x - 1) c l q → (l ≡ 0 → ⊥) → Stands ws w (argument bs t)
-last_stop ws s bs w b k p x c l q (var y) f i e is_x n j m = subst (Stands ws w) (sym (argument_here bs y (λ u lk. go u lk))) f.stands
+pub last_stop : {ws s : List ℕ} {bs : Substitution} {w b k p x c q : ℕ} {t : Term} (l : Kind) → Follows ws s bs w t → PartRead ws w b k p → x ≡ base_of w + p → ¬ (at s x ≡ 0)
+    → PartRead ws (at s x - 1) c (kind_number l) q → ¬ (l ≡ Variable) → Stands ws w (argument bs t)
+last_stop {ws} {s} {bs} {w} {x = x} {t = var y} l f i is_x n j m = subst (Stands ws w) (sym (argument_here bs y (λ u lk. go u lk))) f.stands
   where
     same_x : x ≡ y
     same_x = omega (arith, is_x, f.stands.reads.1, i.is_payload)
@@ -69,36 +62,36 @@ last_stop ws s bs w b k p x c l q (var y) f i e is_x n j m = subst (Stands ws w)
         let h : Binding ws s bs x = binding_at x f.binds.bindings_in (omega (arith, same_x, f.stands.in_range)) n in
         let same_u : h.term ≡ var u = some-injective _ _ (sym h.is ∙ ap (lookup bs) same_x ∙ lk) in
         let st : Stands ws (at s x - 1) (var u) = subst (Stands ws (at s x - 1)) same_u h.stands in
-        m (j.is_kind ∙ st.reads.0)
-last_stop ws s bs w b k p x c l q (atom a) f i e is_x n j m = f.stands
-last_stop ws s bs w b k p x c l q (pair u v) f i e is_x n j m = f.stands
+        kind_number_other l Variable m (j.is_kind ∙ st.reads.0)
+last_stop {t = atom a} l f i is_x n j m = f.stands
+last_stop {t = pair u v} l f i is_x n j m = f.stands
 
 -- else it goes on
-pub record Onward (ws s : List ℕ) (bs : Substitution) (w : ℕ) (t : Term) : Type 0 where
-  pub next : Term
-  pub there : Follows ws s bs w next
-  pub same : argument bs next ≡ argument bs t
-
-pub last_onward : (ws s : List ℕ) (bs : Substitution) (w b k p x c l q : ℕ) (t : Term) → Follows ws s bs w t → PartRead ws w b k p → k ≡ 0 → x ≡ base_of w + p → (at s x ≡ 0 → ⊥)
-    → PartRead ws (at s x - 1) c l q → l ≡ 0 → Onward ws s bs (at s x - 1) t
-last_onward ws s bs w b k p x c l q (atom a) f i e is_x n j m = absurd (omega (arith, (atom_low (at ws (pos_of w)) a f.stands.reads.0).0, i.is_kind))
-last_onward ws s bs w b k p x c l q (pair u v) f i e is_x n j m = absurd (omega (arith, f.stands.reads.0, i.is_kind))
-last_onward ws s bs w b k p x c l q (var y) f i e is_x n j m = go h.term h.is h.stands
+pub last_onward : {ws s : List ℕ} {bs : Substitution} {w b p x c q : ℕ} {t a : Term} (k l : Kind) → Follows ws s bs w t → argument bs t ≡ a → PartRead ws w b (kind_number k) p → k ≡ Variable
+    → x ≡ base_of w + p → ¬ (at s x ≡ 0) → PartRead ws (at s x - 1) c (kind_number l) q → l ≡ Variable → (u : Term) × Follows ws s bs (at s x - 1) u × (argument bs u ≡ a)
+last_onward {ws} {s} {bs} {w} {x = x} {t = t₁} {a = last} k l f same i e is_x n j m = start t₁ f same
   where
-    same_x : x ≡ y
-    same_x = omega (arith, is_x, f.stands.reads.1, i.is_payload)
+    is_variable : kind_number k ≡ 0
+    is_variable = ap kind_number e
 
-    h : Binding ws s bs x
-    h = binding_at x f.binds.bindings_in (omega (arith, same_x, f.stands.in_range)) n
+    is_next : kind_number l ≡ 0
+    is_next = ap kind_number m
 
-    go : (u : Term) → lookup bs x ≡ some u → Stands ws (at s x - 1) u → Onward ws s bs (at s x - 1) (var y)
-    go (var z) lk st = record {
-      next = var z;
-      there = record { binds = f.binds; stands = st };
-      same = ap var (sym (last_some bs f.binds.good y z (ap (lookup bs) (sym same_x) ∙ lk)));
-    }
-    go (atom a) lk st = absurd (omega (arith, (atom_low (at ws (pos_of (at s x - 1))) a st.reads.0).0, j.is_kind))
-    go (pair u v) lk st = absurd (omega (arith, st.reads.0, j.is_kind))
+    start : (t : Term) → Follows ws s bs w t → argument bs t ≡ last → (u : Term) × Follows ws s bs (at s x - 1) u × (argument bs u ≡ last)
+    start (atom a) f same = absurd (omega (arith, (atom_low (at ws (pos_of w)) a f.stands.reads.0).0, i.is_kind, is_variable))
+    start (pair u v) f same = absurd (omega (arith, f.stands.reads.0, i.is_kind, is_variable))
+    start (var y) f same = go h.term h.is h.stands
+      where
+        same_x : x ≡ y
+        same_x = omega (arith, is_x, f.stands.reads.1, i.is_payload)
+
+        h : Binding ws s bs x
+        h = binding_at x f.binds.bindings_in (omega (arith, same_x, f.stands.in_range)) n
+
+        go : (u : Term) → lookup bs x ≡ some u → Stands ws (at s x - 1) u → (u : Term) × Follows ws s bs (at s x - 1) u × (argument bs u ≡ last)
+        go (var z) lk st = (var z, record { binds = f.binds; stands = st }, ap var (sym (last_some bs f.binds.good y z (ap (lookup bs) (sym same_x) ∙ lk))) ∙ same)
+        go (atom a) lk st = absurd (omega (arith, (atom_low (at ws (pos_of (at s x - 1))) a st.reads.0).0, j.is_kind, is_next))
+        go (pair u v) lk st = absurd (omega (arith, st.reads.0, j.is_kind, is_next))
 
 -- Parameters bound, one after the other.
 
@@ -123,15 +116,15 @@ pub record First (ws s : List ℕ) (base to : ℕ) (x n w : ℕ) (ts : List Term
   pub is_new : x < 2048
   pub room : n < 2048
 
-pub pass_first : (ws s₀ s : List ℕ) (base to : ℕ) (whole : Substitution) (x n w count : ℕ) (p : BindingParameters ws s₀ s base to whole x n w count) → (count ≡ 0 → ⊥) → First ws s base to x n w p.args
+pub pass_first : {ws s₀ s : List ℕ} {base to : ℕ} {whole : Substitution} {x n w count : ℕ} (p : BindingParameters ws s₀ s base to whole x n w count) → 0 < count → First ws s base to x n w p.args
 unfolding stands_at
-pass_first ws s₀ s base to whole x n w count p some_left = go p.args p.many p.terms p.in_range
+pass_first {ws} {s = s} {base = base} {to = to} {x = x} {n = n} {w = w} {count = count} p some_left = go p.args p.many p.terms p.in_range
   where
     bs : Substitution
     bs = p.now_bound
 
     go : (ts : List Term) → length ts ≡ count → TermsAt ws 0 p.from to ts → Each (λ t. TermIn x (shift base t)) ts → First ws s base to x n w ts
-    go [] e h i = absurd (some_left (sym e))
+    go [] e h i = absurd (omega (arith, e))
     go (t ∷ ts) e h i =
         let from : ℕ = p.from in
         let mid : ℕ = h.0 in
@@ -159,12 +152,12 @@ pass_first ws s₀ s base to whole x n w count p some_left = go p.args p.many p.
           room = omega (arith, p.is_n, fresh_room bs x t p.bindings_in.fresh x_new (in_open x bs p.sound.scope x (omega arith)));
         }
 
-pub pass_step : (ws s₀ s : List ℕ) (base to : ℕ) (whole : Substitution) (x n w count v next n' : ℕ) (s' : List ℕ) → BindingParameters ws s₀ s base to whole x n w count → (count ≡ 0 → ⊥)
+pub pass_step : {ws s₀ s : List ℕ} {base to : ℕ} {whole : Substitution} {x n w count v next n' x' left : ℕ} {s' : List ℕ} → BindingParameters ws s₀ s base to whole x n w count → x' ≡ x + 1 → count ≡ left + 1
     → ((bs : Substitution) (t : Term) → Follows ws s bs w t → Stands ws v (argument bs t)) → ((t : Term) (h : Stands ws w t) → next + pos_of w ≡ w + h.to)
-    → n' ≡ n + 1 → s' ≡ bound s x v n → BindingParameters ws s₀ s' base to whole (x + 1) n' next (count - 1)
-pass_step ws s₀ s base to whole x n w count v next n' s' p some_left last-is next_is is-n' is-s' =
+    → n' ≡ n + 1 → s' ≡ bound s x v n → BindingParameters ws s₀ s' base to whole x' n' next left
+pass_step {ws} {s₀} {s} {base} {to} {whole} {x} {n} {w} {count} {v} {next} {n'} {x'} {left} {s'} p is-x' is-left last-is next_is is-n' is-s' =
     let bs : Substitution = p.now_bound in
-    let first : First ws s base to x n w p.args = pass_first ws s₀ s base to whole x n w count p some_left in
+    let first : First ws s base to x n w p.args = pass_first p (omega arith) in
     let t : Term = first.term in
     let u : Term = argument bs (shift base t) in
     let fits : x + count ≤ 2048 = p.fits in
@@ -174,7 +167,7 @@ pass_step ws s₀ s base to whole x n w count v next n' s' p some_left last-is n
     let apart_here : Apart s (bound s x v n) = bound_apart s x v n lt first.room in
     let f : Follows ws s bs w (shift base t) = record { binds = record { short = p.short; long = p.long; bindings_in = p.bindings_in; good = p.sound.good }; stands = first.follows.stands } in
     let leads : bind_params (suc x) base first.later ((x, u) ∷ bs) ≡ whole = ap (λ ts. bind_params x base ts bs) (sym first.are) ∙ p.leads in
-    rw (is-n', is-s') (record {
+    rw (is-x', is-n', is-s') (record {
       from = first.mid;
       is_w = first.ends next next_is;
       args = first.later;
@@ -196,8 +189,8 @@ pass_step ws s₀ s base to whole x n w count v next n' s' p some_left last-is n
     })
 
 -- all are passed
-pub pass_end : (ws s₀ s : List ℕ) (base to : ℕ) (whole : Substitution) (x n w count : ℕ) → BindingParameters ws s₀ s base to whole x n w count → count ≡ 0 → ParametersBound ws s₀ s whole n
-pass_end ws s₀ s base to whole x n w count p none_left = go p.args p.many p.leads
+pub pass_end : {ws s₀ s : List ℕ} {base to : ℕ} {whole : Substitution} {x n w count : ℕ} → BindingParameters ws s₀ s base to whole x n w count → count ≡ 0 → ParametersBound ws s₀ s whole n
+pass_end {ws} {s₀} {s} {base} {whole = whole} {x = x} {n = n} {count = count} p none_left = go p.args p.many p.leads
   where
     go : (ts : List Term) → length ts ≡ count → bind_params x base ts p.now_bound ≡ whole → ParametersBound ws s₀ s whole n
     go [] e l = record { bindings_in = subst (BindingsIn ws s) l p.bindings_in; apart = p.apart; is_n = p.is_n ∙ ap length l }

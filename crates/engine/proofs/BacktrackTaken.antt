@@ -1,4 +1,5 @@
 -- Backtracking, as the code does it: one law for each way in which `backtrack` returns, and what it needs on the way.
+use Rattle.std.specs.Prelude.{None, Some}
 use Prim.Native.Nat.{ℕ, suc, ◌+◌, ◌-◌, ◌≤◌, ◌<◌}
 use mathlib.Core.Path.{◌≡◌, refl, sym, ap, subst, ◌∙◌}
 use mathlib.Core.List.{List, [], ◌∷◌}
@@ -16,14 +17,13 @@ use Rattle.engine.specs.Walk.{PartRead}
 use Rattle.engine.specs.Trail.{Trailed, Undone}
 use Rattle.engine.specs.Take.{registers, PathHeld, BacktrackAs, resumed}
 use Rattle.engine.specs.declared.search.state.State.{State}
-use Rattle.engine.specs.declared.search.state.Resumed.TheVariants.{Over, Goal}
 use Rattle.engine.proofs.FrameLaws.{saved_same}
 use Rattle.engine.proofs.ClaimLaws.{counted}
 use Rattle.engine.proofs.StepLaws.{Restored, marked, restore, resume_last, resume_next}
 use Rattle.engine.proofs.ConjLaws.{Next, next_goal}
 
 -- no choice point is left
-pub back_none : {P : Program} {ws s : List ℕ} {p : Path} {cs : List ChoicePoint} (st : State) (t : Tally) → PathHeld P ws s st p cs → st.choices ≡ 0 → BacktrackAs P ws s st t (backtrack cs t) Over
+pub back_none : {P : Program} {ws s : List ℕ} {p : Path} {cs : List ChoicePoint} (st : State) (t : Tally) → PathHeld P ws s st p cs → st.choices ≡ 0 → BacktrackAs P ws s st t (backtrack cs t) None
 unfolding BacktrackAs
 back_none {P} {ws} {s} {p} {cs} st t h e = go cs h.choices_are
   where
@@ -31,7 +31,7 @@ back_none {P} {ws} {s} {p} {cs} st t h e = go cs h.choices_are
     none_left [] q = refl
     none_left (d ∷ ds) q = absurd (omega (arith, q))
 
-    go : (ds : List ChoicePoint) → st.choices ≡ length ds → BacktrackAs P ws s st t (backtrack ds t) Over
+    go : (ds : List ChoicePoint) → st.choices ≡ length ds → BacktrackAs P ws s st t (backtrack ds t) None
     go [] q = record { path = p; says = refl; held = subst (λ ds. PathHeld P ws s st p ds) (none_left cs h.choices_are) h }
     go (d ∷ ds) q = absurd (omega (arith, q))
 
@@ -92,18 +92,18 @@ module _ {P : Program} {ws s s' : List ℕ} {st : State} {cs : List ChoicePoint}
 
   -- the last alternative
   pub back_last : {b l z here : ℕ} {r : State} (t : Tally) → PartRead ws (at s (point_at (st.choices - 1))) b l z → here ≡ pos_of (at s (point_at (st.choices - 1))) + 1 + z → here ≡ at s (point_at (st.choices - 1) + 1)
-      → r ≡ resumed s' st (st.choices - 1) → BacktrackAs P ws s' st t (backtrack cs t) (Goal r (at s (point_at (st.choices - 1))))
+      → r ≡ resumed s' st (st.choices - 1) → BacktrackAs P ws s' st t (backtrack cs t) (Some (r, at s (point_at (st.choices - 1))))
   unfolding BacktrackAs
-  back_last {r = r} t i is-here e q = subst (λ ds. BacktrackAs P ws s' st t (backtrack ds t) (Goal r w)) (sym k.are) (subst (λ x. BacktrackAs P ws s' st t (backtrack (k.point ∷ k.others) t) (Goal x w)) (sym q) (go k.point k.restored))
+  back_last {r = r} t i is-here e q = subst (λ ds. BacktrackAs P ws s' st t (backtrack ds t) (Some (r, w))) (sym k.are) (subst (λ x. BacktrackAs P ws s' st t (backtrack (k.point ∷ k.others) t) (Some (x, w))) (sym q) (go k.point k.restored))
     where
       w : ℕ
       w = at s (point_at (st.choices - 1))
 
-      go : (c : ChoicePoint) → Restored P ws s s' (st.choices - 1) c k.others → BacktrackAs P ws s' st t (backtrack (c ∷ k.others) t) (Goal (resumed s' st (st.choices - 1)) w)
+      go : (c : ChoicePoint) → Restored P ws s s' (st.choices - 1) c k.others → BacktrackAs P ws s' st t (backtrack (c ∷ k.others) t) (Some (resumed s' st (st.choices - 1), w))
       go c j = inside c.rest j
         where
           inside : (gs : Goals) → Restored P ws s s' (st.choices - 1) (record { path = c.path; base = c.base; rest = gs }) k.others
-              → BacktrackAs P ws s' st t (backtrack (record { path = c.path; base = c.base; rest = gs } ∷ k.others) t) (Goal (resumed s' st (st.choices - 1)) w)
+              → BacktrackAs P ws s' st t (backtrack (record { path = c.path; base = c.base; rest = gs } ∷ k.others) t) (Some (resumed s' st (st.choices - 1), w))
           inside (one g) j =
               let o = resume_last (st.choices - 1) j in
               let q' : Path = waiting_on c.path c.path.stack (suc c.path.put) in
@@ -113,9 +113,9 @@ module _ {P : Program} {ws s s' : List ℕ} {st : State} {cs : List ChoicePoint}
   -- another one is left
   pub back_more : {b l z here : ℕ} {r : State} (t : Tally) → (st.choices ≡ 0 → ⊥) → PartRead ws (at s (point_at (st.choices - 1))) b l z → here ≡ pos_of (at s (point_at (st.choices - 1))) + 1 + z → (here ≡ at s (point_at (st.choices - 1) + 1) → ⊥)
       → r ≡ resumed (set s' (point_at (st.choices - 1)) (at s (point_at (st.choices - 1)) + 1 + z)) st st.choices
-      → BacktrackAs P ws (set s' (point_at (st.choices - 1)) (at s (point_at (st.choices - 1)) + 1 + z)) st t (backtrack cs t) (Goal r (at s (point_at (st.choices - 1))))
+      → BacktrackAs P ws (set s' (point_at (st.choices - 1)) (at s (point_at (st.choices - 1)) + 1 + z)) st t (backtrack cs t) (Some (r, at s (point_at (st.choices - 1))))
   unfolding BacktrackAs
-  back_more {z = z} {r = r} t some_left i is-here e q = subst (λ ds. BacktrackAs P ws s'' st t (backtrack ds t) (Goal r w)) (sym k.are) (subst (λ x. BacktrackAs P ws s'' st t (backtrack (k.point ∷ k.others) t) (Goal x w)) (sym q) (go k.point k.restored))
+  back_more {z = z} {r = r} t some_left i is-here e q = subst (λ ds. BacktrackAs P ws s'' st t (backtrack ds t) (Some (r, w))) (sym k.are) (subst (λ x. BacktrackAs P ws s'' st t (backtrack (k.point ∷ k.others) t) (Some (x, w))) (sym q) (go k.point k.restored))
     where
       w : ℕ
       w = at s (point_at (st.choices - 1))
@@ -126,11 +126,11 @@ module _ {P : Program} {ws s s' : List ℕ} {st : State} {cs : List ChoicePoint}
       count : st.choices - 1 + 1 ≡ st.choices
       count = omega (arith, some_left)
 
-      go : (c : ChoicePoint) → Restored P ws s s' (st.choices - 1) c k.others → BacktrackAs P ws s'' st t (backtrack (c ∷ k.others) t) (Goal (resumed s'' st st.choices) w)
+      go : (c : ChoicePoint) → Restored P ws s s' (st.choices - 1) c k.others → BacktrackAs P ws s'' st t (backtrack (c ∷ k.others) t) (Some (resumed s'' st st.choices, w))
       go c j = inside c.rest j
         where
           inside : (gs : Goals) → Restored P ws s s' (st.choices - 1) (record { path = c.path; base = c.base; rest = gs }) k.others
-              → BacktrackAs P ws s'' st t (backtrack (record { path = c.path; base = c.base; rest = gs } ∷ k.others) t) (Goal (resumed s'' st st.choices) w)
+              → BacktrackAs P ws s'' st t (backtrack (record { path = c.path; base = c.base; rest = gs } ∷ k.others) t) (Some (resumed s'' st st.choices, w))
           inside (one g) j = absurd (e (is-here ∙ ap (λ y. pos_of w + 1 + y) i.is_payload ∙ (resume_last (st.choices - 1) j).0))
           inside (more g gs) j =
               let o = resume_next (st.choices - 1) k.few j in

@@ -20,13 +20,13 @@ use Rattle.engine.specs.Layout.{positions}
 use Rattle.engine.specs.Reference.{pos_of, base_of, TaskAt}
 use Rattle.engine.specs.Memory.{Registers, TableIn, Stored, cell}
 use Rattle.engine.specs.Walk.{PartRead}
-use Rattle.engine.specs.Take.{registers, GoalReady, TookAs, one_goal_more, RelationIs}
+use Rattle.engine.specs.Take.{registers, GoalReady, TookAs, took_stopped, one_goal_more, RelationIs}
 use Rattle.engine.specs.Call.{BindingParameters, ParametersBound}
 use Rattle.engine.specs.declared.search.state.State.{State}
+use Rattle.engine.specs.declared.search.state.Took.{Took}
 use Rattle.engine.specs.declared.report.Bound.TheVariants.{Variables, Goals as GoalsBound}
-use Rattle.engine.specs.declared.search.state.Stop.TheVariants.{Path as PathLimit}
-use Rattle.engine.specs.declared.search.state.Way.TheVariants.{Cut, Goes, Stops}
-use Rattle.engine.proofs.TookLaws.{took_goes, took_cut, took_bound}
+use Rattle.engine.specs.declared.search.state.Way.TheVariants.{Cut, Goes}
+use Rattle.engine.proofs.TookLaws.{took_goes, took_cut, took_at}
 use Rattle.engine.proofs.ReferenceLaws.{terms_longer, pos_refer, base_refer}
 use Rattle.engine.proofs.ClaimLaws.{stays, claim}
 use Rattle.engine.proofs.StepLaws.{wait_one}
@@ -84,9 +84,6 @@ module _ {P : Program} {ws s : List ℕ} {st : State} {w : ℕ} {p : Path} {cs :
   next_word = omega (arith, long_args, task.small)
 
   -- its number is the call's first word
-  pub call_inside : pos_of (w + 1) < length ws
-  call_inside = omega (arith, next_word, long_args, task.inside)
-
   pub call_number : {b l m : ℕ} → PartRead ws (w + 1) b l m → m ≡ n
   call_number i = i.is_payload ∙ (rw next_word task.goal.1.1)
 
@@ -103,18 +100,18 @@ module _ {P : Program} {ws s : List ℕ} {st : State} {w : ℕ} {p : Path} {cs :
       took_cut stored (rw e refl)
 
   module _ {a v c : ℕ} (is : RelationIs ws a v c callee) where
-    pub call_variables : {round : ℕ} (s' : List ℕ) → st.calls < round → 2048 < st.variables + v → TookAs P ws s' cs (take_call round P p cs base n ts st.steps) (Stops (PathLimit Variables) (st.steps + 1)) st
-    call_variables {round} s' lt full =
+    pub call_variables : {round : ℕ} {r : Took} (s' : List ℕ) → st.calls < round → 2048 < st.variables + v → r ≡ took_stopped Variables st → TookAs P ws s' cs (take_call round P p cs base n ts st.steps) r.way r.state
+    call_variables {round} s' lt full q =
         let e : ltb p.calls round ≡ true = lt-ltb p.calls round (omega (arith, stored.path_in.calls)) in
         let f : leb (p.made + callee.vars) 2048 ≡ false = lt-leb (p.made + callee.vars) 2048 (omega (arith, stored.path_in.made, is.vars_is)) in
-        took_bound p (rw (e, is_callee, f) refl)
+        took_at p q (rw (e, is_callee, f) refl)
 
-    pub call_goals : {round : ℕ} (s' : List ℕ) → st.calls < round → st.variables + v ≤ 2048 → 1024 ≤ st.goals → TookAs P ws s' cs (take_call round P p cs base n ts st.steps) (Stops (PathLimit GoalsBound) (st.steps + 1)) st
-    call_goals {round} s' lt fits full =
+    pub call_goals : {round : ℕ} {r : Took} (s' : List ℕ) → st.calls < round → st.variables + v ≤ 2048 → 1024 ≤ st.goals → r ≡ took_stopped GoalsBound st → TookAs P ws s' cs (take_call round P p cs base n ts st.steps) r.way r.state
+    call_goals {round} s' lt fits full q =
         let e : ltb p.calls round ≡ true = lt-ltb p.calls round (omega (arith, stored.path_in.calls)) in
         let f : leb (p.made + callee.vars) 2048 ≡ true = le-leb (p.made + callee.vars) 2048 (omega (arith, stored.path_in.made, is.vars_is)) in
         let g : leb (suc p.put) 1024 ≡ false = lt-leb (suc p.put) 1024 (omega (arith, stored.path_in.put)) in
-        took_bound p (rw (e, is_callee, f, g) refl)
+        took_at p q (rw (e, is_callee, f, g) refl)
 
     -- its arguments are passed
     pub call_passes : st.variables + v ≤ 2048 → BindingParameters ws s s base (after ws (pos_of w)) (bind_params p.made base ts p.bindings) st.variables st.trail (w + 2) a

@@ -1,13 +1,12 @@
--- Words set to 0 one after the other: to clear what is left leads to the same.
-use Prim.Native.Nat.{ℕ, suc, ◌+◌, ◌-◌, min, ◌<◌, ◌≤◌}
+-- Words set to 0.
+use Prim.Native.Nat.{ℕ, ◌+◌, ◌-◌, min, ◌<◌, ◌≤◌}
 use mathlib.Core.Path.{◌≡◌, refl, sym, ap, subst, ◌∙◌}
 use mathlib.Core.Bool.{Bool, true, false}
-use mathlib.Core.List.{List, [], ◌∷◌, ◌++◌, append_assoc, append-nil}
+use mathlib.Core.List.{List, ◌++◌}
 use native.Mathlib.Omega.{arith}
-use native.Mathlib.Numerals.{add-one}
 use lib.Dec.{leb}
-use lib.ListN.{length, set, take, drop, replicate, length-drop, take-append-drop, drop_of_length-le, length-append, get_or-append}
-use lib.Seq.{take_all, take-nil, drop-nil, take-suc-set, drop-set-lt, drop-cons, get_or-take, get_or-drop, get_or-append-add, length-take-le}
+use lib.ListN.{length, take, drop, replicate, length-drop, take-append-drop, drop_of_length-le, length-append, get_or-append}
+use lib.Seq.{take_all, get_or-take, get_or-drop, get_or-append-add, length-take-le}
 use borrow.Author.Tests.{leb-true, leb-false}
 use Rattle.semantics.specs.Run.{zeroed}
 use Rattle.semantics.proofs.ZeroedLaws.{zeroed_all, zeroed_length, zeroed_below, zeroed_beyond}
@@ -15,26 +14,30 @@ use Rattle.engine.specs.Reference.{at}
 use Rattle.engine.specs.Term.{Touched}
 use Rattle.engine.specs.Run.{cleared}
 
-pub clear_step : (ws : List ℕ) (at to : ℕ) → at < to → at < length ws → cleared (set ws at 0) (at + 1) to ≡ cleared ws at to
+-- no more words are set to 0 than there are
+zeroed_min : (n : ℕ) (ws : List ℕ) → zeroed (min n (length ws)) ws ≡ zeroed n ws
 unfolding zeroed
-clear_step ws at to h l =
-    let n : to - at ≡ suc (to - suc at) = omega arith in
-    let rest : drop (suc at) (set ws at 0) ≡ drop (suc at) ws = drop-set-lt (suc at) ws at 0 (omega arith) in
-    rw add-one (ap (λ x. take (suc at) (set ws at 0) ++ zeroed (to - suc at) x) rest
-    ∙ ap (λ x. x ++ zeroed (to - suc at) (drop (suc at) ws)) (take-suc-set ws at 0 l)
-    ∙ append_assoc (take at ws) (0 ∷ []) (zeroed (to - suc at) (drop (suc at) ws))
-    ∙ sym (rw n (ap (λ x. take at ws ++ zeroed (suc (to - suc at)) x) (drop-cons ws at 0 l))))
-
--- nothing is left
-pub clear_done : (ws : List ℕ) (at to : ℕ) → min to (length ws) ≤ at → cleared ws at to ≡ ws
-unfolding zeroed
-clear_done ws at to h = go (leb to at) refl
+zeroed_min n ws = go (leb n (length ws)) refl
   where
-    go : (b : Bool) → leb to at ≡ b → cleared ws at to ≡ ws
-    go true e = let n : to - at ≡ 0 = omega (arith, leb-true to at e) in rw n (take-append-drop at ws)
+    go : (b : Bool) → leb n (length ws) ≡ b → zeroed (min n (length ws)) ws ≡ zeroed n ws
+    go true e = let m : min n (length ws) ≡ n = omega (arith, leb-true n (length ws) e) in rw m refl
     go false e =
-        let l : length ws ≤ at = omega (arith, leb-false to at e) in
-        ap (λ x. take at ws ++ zeroed (to - at) x) (drop_of_length-le ws l) ∙ ap (λ x. take at ws ++ x) (simp (take-nil, drop-nil)) ∙ append-nil (take at ws) ∙ take_all at ws l
+        let l : length ws ≤ n = omega (arith, leb-false n (length ws) e) in
+        let m : min n (length ws) ≡ length ws = omega arith in
+        let whole : length ws ≤ length ws = omega arith in
+        rw (m, take_all (length ws) ws whole, take_all n ws l, drop_of_length-le ws whole, drop_of_length-le ws l) refl
+
+-- words filled with 0 up to the end, or to where they end
+pub clear_filled : (ws : List ℕ) (from to k : ℕ) → k ≡ min (to - from) (length (drop from ws)) → take from ws ++ (replicate (length (take k (drop from ws))) 0 ++ drop k (drop from ws)) ≡ cleared ws from to
+unfolding zeroed
+clear_filled ws from to k e = rw e (ap (λ x. take from ws ++ x) (zeroed_min (to - from) (drop from ws)))
+
+-- or none, where there are none
+pub clear_done : (ws : List ℕ) (from to : ℕ) → min to (length ws) ≤ from → cleared ws from to ≡ ws
+unfolding zeroed
+clear_done ws from to h =
+    let none : min (to - from) (length (drop from ws)) ≡ 0 = omega (arith, h, length-drop from ws) in
+    ap (λ x. take from ws ++ x) (sym (zeroed_min (to - from) (drop from ws)) ∙ rw none refl) ∙ take-append-drop from ws
 
 -- up to the end
 pub cleared_rest : (ws : List ℕ) (from : ℕ) → cleared ws from (length ws) ≡ take from ws ++ replicate (length ws - from) 0

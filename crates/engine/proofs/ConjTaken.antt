@@ -5,33 +5,25 @@ use mathlib.Core.Bool.{true, false}
 use mathlib.Core.List.{List}
 use native.Mathlib.Omega.{arith}
 use lib.Dec.{leb}
-use lib.ListN.{length, set}
+use lib.ListN.{set}
 use borrow.Author.Tests.{le-leb, lt-leb}
 use Rattle.rules.specs.Syntax.{Goals, conj, Program}
-use Rattle.semantics.specs.Path.{Task, Path, ChoicePoint, goals_count, take_conj, waiting_on, wait_all}
-use Rattle.engine.specs.Reference.{pos_of, TaskAt, RestAt}
+use Rattle.semantics.specs.Path.{Path, ChoicePoint, goals_count, take_conj, waiting_on, wait_all}
+use Rattle.engine.specs.Reference.{pos_of, RestAt}
 use Rattle.engine.specs.Memory.{goal_at, Stored, cell}
 use Rattle.engine.specs.Walk.{PartRead}
-use Rattle.engine.specs.Take.{Taking, TookAs}
-use Rattle.rules.specs.Settings.{most_words}
+use Rattle.engine.specs.Take.{Taking, TookAs, took_stopped}
 use Rattle.engine.specs.declared.search.state.State.{State}
+use Rattle.engine.specs.declared.search.state.Took.{Took}
 use Rattle.engine.specs.declared.report.Bound.TheVariants.{Goals as GoalsBound}
-use Rattle.engine.specs.declared.search.state.Stop.TheVariants.{Path as PathLimit}
-use Rattle.engine.specs.declared.search.state.Way.TheVariants.{Goes, Stops}
-use Rattle.engine.proofs.TookLaws.{took_goes, took_bound}
+use Rattle.engine.specs.declared.search.state.Way.TheVariants.{Goes}
+use Rattle.engine.proofs.TookLaws.{took_goes, took_at}
 use Rattle.engine.proofs.GoalLaws.{conj_rest}
 use Rattle.engine.proofs.ConjLaws.{Lining, lining_start, lining_full, lining_last, lining_more, conj_all, Rowed}
 
 -- the two stores of a cell as the code writes them
 pub cell_stores : (s : List ℕ) (h w next : ℕ) → set (set s (goal_at h) w) (goal_at h + 1) next ≡ cell s h w next
 cell_stores s h w next = ap (λ i. set (set s (goal_at h) w) i next) (omega arith)
-
--- a task's word is there, and its part ends in the program
-pub task_inside : (ws : List ℕ) (w : ℕ) (task : Task) → TaskAt ws w task → pos_of w < length ws
-task_inside ws w task h = omega (arith, h.inside)
-
-pub task_end : (ws : List ℕ) (w b k n : ℕ) (task : Task) → TaskAt ws w task → PartRead ws w b k n → (pos_of w + 1 + n ≤ most_words) × (pos_of w + 1 + n ≤ length ws) × (w + 1 < 33570817)
-task_end ws w b k n task h i = (omega (arith, h.small, i.is_payload), omega (arith, h.inside, i.is_payload), omega (arith, h.below))
 
 module _ {P : Program} {ws s₀ : List ℕ} {st : State} {w : ℕ} {p : Path} {cs : List ChoicePoint} {base : ℕ} {gs : Goals} (t : Taking P ws s₀ st w p cs (base, conj gs)) where
   conj_goals : {b k n to : ℕ} → PartRead ws w b k n → to ≡ pos_of w + 1 + n → RestAt ws (w + 1) to base gs
@@ -40,12 +32,12 @@ module _ {P : Program} {ws s₀ : List ℕ} {st : State} {w : ℕ} {p : Path} {c
   pub conj_starts : {b k n to : ℕ} → PartRead ws w b k n → to ≡ pos_of w + 1 + n → Lining ws s₀ s₀ st.goals st.head (w + 1) to base gs (w + 1) st.goals
   conj_starts i is-to = lining_start ws s₀ st.goals st.head (w + 1) _ base gs (conj_goals i is-to) t.stored.roomy.put t.stored.roomy.long
 
-  pub conj_stops : {s : List ℕ} {to goal filled : ℕ} (s' : List ℕ) → Lining ws s₀ s st.goals st.head (w + 1) to base gs goal filled → 1024 ≤ filled
-      → TookAs P ws s' cs (take_conj p cs base gs st.steps) (Stops (PathLimit GoalsBound) (st.steps + 1)) st
-  conj_stops {s} {to} {goal} {filled} s' l full =
+  pub conj_stops : {s : List ℕ} {to goal filled : ℕ} {r : Took} (s' : List ℕ) → Lining ws s₀ s st.goals st.head (w + 1) to base gs goal filled → 1024 ≤ filled → r ≡ took_stopped GoalsBound st
+      → TookAs P ws s' cs (take_conj p cs base gs st.steps) r.way r.state
+  conj_stops {s} {to} {goal} {filled} s' l full q =
       let e : st.goals ≡ p.put = t.stored.path_in.put in
       let f : leb (p.put + goals_count gs) 1024 ≡ false = lt-leb (p.put + goals_count gs) 1024 (omega (arith, lining_full ws s₀ s st.goals st.head (w + 1) to base gs goal filled l full)) in
-      took_bound p (rw f refl)
+      took_at p q (rw f refl)
 
   pub conj_goes : {s : List ℕ} {b k n to goal filled c l m here : ℕ} → PartRead ws w b k n → to ≡ pos_of w + 1 + n → Lining ws s₀ s st.goals st.head (w + 1) to base gs goal filled → filled < 1024
       → PartRead ws goal c l m → here ≡ pos_of goal + 1 + m → here ≡ to

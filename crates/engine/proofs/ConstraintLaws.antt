@@ -1,17 +1,18 @@
 -- The lines of constraints, in the shape of the code's tests: a trial's, those of a term that was looked through, and of all constraints kept.
 use Prim.Native.Nat.{ℕ, suc, ◌+◌, ◌-◌, ◌≤◌, ◌<◌}
 use mathlib.Core.Path.{◌≡◌, refl, sym, ap, subst, ◌∙◌}
-use mathlib.Core.Bool.{false}
-use mathlib.Core.Option.{Option, none, some}
+use mathlib.Core.Bool.{Bool, true, false}
+use mathlib.Core.Option.{some}
 use mathlib.Core.List.{List, [], ◌∷◌, ◌++◌, reverse, append_assoc, append-nil}
 use native.Mathlib.Omega.{arith}
 use lib.ListN.{length, length-append, length-reverse}
+use Rattle.std.specs.Prelude.{Result, Ok, Err}
 use Rattle.rules.specs.Lists.{Each}
 use Rattle.rules.specs.Syntax.{Atom, Term, var, atom, pair, Sort, Constraint, differ, absento}
 use Rattle.rules.specs.Written.{sort_kind}
 use Rattle.rules.specs.Settings.{scratch_words}
 use Rattle.semantics.specs.Substitution.{Substitution, resolve, walk}
-use Rattle.semantics.specs.Steps.{waiting, no_steps, at_bound, Outcome, done, stop, and_then}
+use Rattle.semantics.specs.Steps.{Outcome, done, stop, and_then}
 use Rattle.semantics.specs.Unify.{scan, never, unify_terms}
 use Rattle.semantics.specs.Answer.{appear, Line, not_all, resolve_right, look_through, trial_lines, typed_lines, lacks_each, lines_of, all_lines}
 use Rattle.semantics.specs.Invariant.{Good, Passes, Sound}
@@ -24,19 +25,16 @@ use Rattle.engine.specs.Walk.{PartRead, Binds, Follows}
 use Rattle.engine.specs.Trail.{Trailed, Undone, Apart}
 use Rattle.engine.specs.Unify.{Went, UnifiedAs}
 use Rattle.engine.specs.Trial.{AllKept}
-use Rattle.engine.specs.Look.{look_says, LookedThroughAs, Looks, rights, ThroughAs}
+use Rattle.engine.specs.Steps.{stops, outcome_of}
+use Rattle.engine.specs.Look.{LookedThroughAs, Looks, rights, ThroughAs}
 use Rattle.engine.specs.Line.{EquationsIn, LineAs, as_differ}
 use Rattle.engine.specs.Term.{Touched}
 use Rattle.engine.specs.Lines.{AnswerSoFar, add_lines, Writing, Extended, occurrences, AddsAbsent, AddsTyped}
 use Rattle.engine.specs.Constraint.{added_says, AddedAs, Differs, Lists}
 use Rattle.engine.specs.Review.{ConstraintsHeld}
 use Rattle.engine.specs.declared.writer.line.Listed.TheVariants.{Differ}
-use Rattle.engine.specs.declared.writer.look.LookedThrough.{LookedThrough}
-use Rattle.engine.specs.declared.writer.look.LookedThrough.TheVariants as looked
+use Rattle.engine.specs.declared.steps.Stopped.{Stopped}
 use Rattle.engine.specs.declared.terms.unify.Unified.{Unified}
-use Rattle.engine.specs.declared.terms.unify.Unified.TheVariants as unified
-use Rattle.engine.specs.declared.writer.constraint.Added.{Added}
-use Rattle.engine.specs.declared.writer.constraint.Added.TheVariants.{Done, StepsOut, WaitingOut}
 use Rattle.engine.proofs.ReferenceLaws.{atom_word_is}
 use Rattle.engine.proofs.FrameLaws.{kept_same}
 use Rattle.engine.proofs.TrailLaws.{fresh_few, apart_same, apart_trans, undone_apart}
@@ -44,50 +42,42 @@ use Rattle.engine.proofs.NameLaws.{given_apart}
 use Rattle.engine.proofs.TermLaws.{room_same}
 use Rattle.engine.proofs.LinesLaws.{add_append}
 use Rattle.engine.proofs.WriterLaws.{absent_once, trial_new, equations_kept}
-use Rattle.engine.proofs.ReviewSteps.{absento_term, absento_tag, DifferAt, Trial, trial_failed, trial_stepped, trial_pathed, kept_again}
+use Rattle.engine.proofs.ReviewSteps.{absento_term, absento_tag, DifferAt, trial, kept_again}
 
 -- a trial leaves the answer under way as it is
 abbrev pub writing_apart : {s s' out : List ℕ} {first end place : ℕ} → Apart s s' → Writing s out first end place → Writing s' out first end place
 writing_apart p g = record { before = g.before; begin = g.begin; head = g.head; lines = g.lines; names = g.names; page = g.page; given = given_apart p g.given; room = g.room }
 
 -- the page of lines that are done
-page_done : {o out : List ℕ} {begin first end place rest : ℕ} {head : List ℕ} {lines : List (List ℕ)} → AnswerSoFar o out begin first end place head lines → (next left : ℕ) → Done place rest ≡ Done next left → AnswerSoFar o out begin first end next head lines
-page_done {o} {out} {begin} {first} {end} {place} {rest} {head} {lines} p next left e = let z : place ≡ next = cc in subst (λ n. AnswerSoFar o out begin first end n head lines) z p
+page_done : {o out : List ℕ} {begin first end place rest : ℕ} {head : List ℕ} {lines : List (List ℕ)} → AnswerSoFar o out begin first end place head lines → (next left : ℕ) → ◌≡◌ {A = Result (ℕ × ℕ) Stopped} (Ok (place, rest)) (Ok (next, left)) → AnswerSoFar o out begin first end next head lines
+page_done {o} {out} {begin} {first} {end} {place} {rest} {head} {lines} p next left e =
+    let z : ◌≡◌ {A = ℕ × ℕ} (place, rest) (next, left) = cc in subst (λ n. AnswerSoFar o out begin first end n head lines) (ap (λ (q : ℕ × ℕ). q.0) z) p
 
 -- A disequality
 
 module _ {ws s : List ℕ} {bs : Substitution} {a : ℕ} {u : Term} {b : ℕ} {v : Term} {trail : ℕ} (steps : ℕ) (d : Differs ws s bs a u b v trail) (s₁ : List ℕ) (r : Unified) (told : UnifiedAs ws s s₁ bs (unify_terms bs u v steps) r) where
-  pub trial_grown : {n rest : ℕ} → r ≡ unified.Joined n rest → trail ≤ n
-  unfolding UnifiedAs
-  trial_grown {n} {rest} e =
-      let q : (w : Went ws s bs s₁ n) × (unify_terms bs u v steps ≡ done (some w.next) rest) = rw e at told in
-      omega (arith, d.meets.trail_is, q.0.trail_is, ap length q.0.grows, length-append q.0.new bs)
+  pub trial_grown : trail ≤ r.trail
+  trial_grown = omega (arith, d.meets.trail_is, told.0.trail_is, ap length told.0.grows, length-append told.0.new bs)
+
+  -- what it bound, for taking back
+  pub trial_trailed : (ws : List ℕ) × (new : Substitution) × (bs : Substitution) × Trailed ws s₁ new bs trail r.trail
+  trial_trailed = let t = trial steps d.meets s₁ r told in (ws, t.new, bs, t.trailed)
 
   -- the trial did not succeed, and was undone
-  module _ {out : List ℕ} {first end place : ℕ} (g : Writing s out first end place) (s₂ : List ℕ) (n : ℕ) (undone : (ws : List ℕ) (new bs : Substitution) → Trailed ws s₁ new bs trail n → Undone ws s₁ s₂ bs) where
-    given_back : Trial ws s₁ bs trail n → Apart s s₁ → {o : Outcome (Option Substitution)} {x : Added} → unify_terms bs u v steps ≡ o → and_then o (λ y l. trial_lines bs y l) ≡ added_says [] x → ((next left : ℕ) → x ≡ Done next left → Extended g out next [])
+  module _ {out : List ℕ} {first end place : ℕ} (g : Writing s out first end place) (s₂ : List ℕ) (undone : (ws : List ℕ) (new bs : Substitution) → Trailed ws s₁ new bs trail r.trail → Undone ws s₁ s₂ bs) where
+    given_back : (x : Result (ℕ × ℕ) Stopped) → and_then (unify_terms bs u v steps) (λ y l. trial_lines bs y l) ≡ added_says [] x → ((next left : ℕ) → x ≡ Ok (next, left) → Extended g out next [])
         → AddedAs ws s s₂ g out bs (lines_of bs (differ u v) steps) x
-    given_back t p e y k =
+    given_back x y k =
+        let t = trial steps d.meets s₁ r told in
         let z = undone ws t.new bs t.trailed in
-        record { lines = []; says = ap (λ o. and_then o (λ y l. trial_lines bs y l)) e ∙ y; page = k; bindings_in = z.bindings_in; apart = apart_trans p (undone_apart z); touched = g.page.touched }
+        record { lines = []; says = y; page = k; bindings_in = z.bindings_in; apart = apart_trans told.0.apart (undone_apart z); touched = g.page.touched }
 
-    pub differ_failed : {rest : ℕ} → r ≡ unified.Failed n rest → AddedAs ws s s₂ g out bs (lines_of bs (differ u v) steps) (Done place rest)
-    unfolding UnifiedAs add_lines
-    differ_failed {rest} e =
-        let q : (w : Went ws s bs s₁ n) × (unify_terms bs u v steps ≡ done none rest) = rw e at told in
-        given_back (trial_failed steps d.meets s₁ r told e) q.0.apart q.1 refl (page_done g.page)
+    pub differ_failed : {joined : Bool} {rest : ℕ} → r.outcome ≡ Ok (joined, rest) → joined ≡ false → AddedAs ws s s₂ g out bs (lines_of bs (differ u v) steps) (Ok (place, rest))
+    unfolding add_lines
+    differ_failed {rest = rest} e f = given_back (Ok (place, rest)) (rw (told.1, e, f)) (page_done g.page)
 
-    pub differ_stepped : r ≡ unified.StepsOut n → AddedAs ws s s₂ g out bs (lines_of bs (differ u v) steps) StepsOut
-    unfolding UnifiedAs
-    differ_stepped e =
-        let q : (w : Went ws s bs s₁ n) × (unify_terms bs u v steps ≡ stop no_steps 0) = rw e at told in
-        given_back (trial_stepped steps d.meets s₁ r told e) q.0.apart q.1 refl (λ next left z. clash (cc))
-
-    pub differ_pathed : {rest : ℕ} → r ≡ unified.WaitingOut n rest → AddedAs ws s s₂ g out bs (lines_of bs (differ u v) steps) (WaitingOut rest)
-    unfolding UnifiedAs
-    differ_pathed {rest} e =
-        let q : (w : Went ws s bs s₁ n) × (unify_terms bs u v steps ≡ stop (at_bound waiting) rest) = rw e at told in
-        given_back (trial_pathed steps d.meets s₁ r told e) q.0.apart q.1 refl (λ next left z. clash (cc))
+    pub differ_stopped : (e : Stopped) → r.outcome ≡ Err e → AddedAs ws s s₂ g out bs (lines_of bs (differ u v) steps) (Err e)
+    differ_stopped e i = given_back (Err e) (rw (told.1, i)) (λ next left z. clash (cc))
 
 -- The trial succeeded: its equations are kept, one at least.
 pub record Tried (ws s s₂ : List ℕ) (bs : Substitution) (u v : Term) (trail n steps rest : ℕ) : Type 0 where
@@ -98,14 +88,13 @@ pub record Tried (ws s s₂ : List ℕ) (bs : Substitution) (u v : Term) (trail 
   pub apart : Apart s s₂
 
 pub tried : {ws s : List ℕ} {bs : Substitution} {a : ℕ} {u : Term} {b : ℕ} {v : Term} {trail : ℕ} (steps : ℕ) (d : Differs ws s bs a u b v trail) (s₁ : List ℕ) (r : Unified) → UnifiedAs ws s s₁ bs (unify_terms bs u v steps) r
-    → {n rest : ℕ} → r ≡ unified.Joined n rest → (s₂ : List ℕ) → ((ws : List ℕ) (new bs : Substitution) → Trailed ws s₁ new bs trail n → AllKept ws s₁ s₂ new bs trail) → Tried ws s s₂ bs u v trail n steps rest
-unfolding UnifiedAs
-tried {ws} {s} {bs} {a} {u} {b} {v} {trail} steps d s₁ r told {n} {rest} e s₂ keep =
-    let q : (w : Went ws s bs s₁ n) × (unify_terms bs u v steps ≡ done (some w.next) rest) = rw e at told in
+    → {joined : Bool} {rest : ℕ} → r.outcome ≡ Ok (joined, rest) → joined ≡ true → (s₂ : List ℕ) → ((ws : List ℕ) (new bs : Substitution) → Trailed ws s₁ new bs trail r.trail → AllKept ws s₁ s₂ new bs trail) → Tried ws s s₂ bs u v trail r.trail steps rest
+tried {ws} {s} {bs} {a} {u} {b} {v} {trail} steps d s₁ r told {rest = rest} e f s₂ keep =
+    let q : (w : Went ws s bs s₁ r.trail) × (unify_terms bs u v steps ≡ done (some w.next) rest) = (told.0, rw (e, f) at told.1) in
     let new : Substitution = q.0.new in
     let held : Binds ws s bs = d.meets.held in
     let long : scratch_words ≤ length s = held.long in
-    let is_next : n ≡ length q.0.next = q.0.trail_is in
+    let is_next : r.trail ≡ length q.0.next = q.0.trail_is in
     let is_long : length q.0.next ≡ length (new ++ bs) = ap length q.0.grows in
     let is_sum : length (new ++ bs) ≡ length new + length bs = length-append new bs in
     let is_trail : trail ≡ length bs = d.meets.trail_is in
@@ -146,45 +135,39 @@ module _ {ws s s₂ : List ℕ} {bs : Substitution} {u v : Term} {trail n steps 
       let l : length (resolve_right bs (reverse t.new)) ≡ length (reverse t.new) = right_length bs (reverse t.new) in
       equations_line (resolve_right bs (reverse t.new)) (omega (arith, length-reverse t.new, t.some_new)) (record { here = equations_kept trail 0 (reverse t.new) h.held h.kept; count_is = h.count_is ∙ sym l; few = h.few })
 
-  module _ (r : LookedThrough) (told : ThroughAs bs (rights (reverse t.new)) rest r) {out : List ℕ} {first end place : ℕ} (g : Writing s out first end place) where
-    lines_tried : lines_of bs (differ u v) steps ≡ and_then (look_says {A = Unit {0}} tt r) (λ _ l. done (tried_line_is ∷ []) l)
+  module _ {out : List ℕ} {first end place : ℕ} (g : Writing s out first end place) where
+    kept_back : (r : Result ℕ Stopped) → ThroughAs bs (rights (reverse t.new)) rest r → {out' : List ℕ} (x : Result (ℕ × ℕ) Stopped) → and_then (outcome_of {A = Unit {0}} tt r) (λ _ l. done (tried_line_is ∷ []) l) ≡ added_says (tried_line_is ∷ []) x
+        → ((next left : ℕ) → x ≡ Ok (next, left) → Extended g out' next (tried_line_is ∷ [])) → Touched g.before out' g.begin end → AddedAs ws s s₂ g out' bs (lines_of bs (differ u v) steps) x
     unfolding ThroughAs tried_line_is
-    lines_tried =
-        ap (λ o. and_then o (λ x l. trial_lines bs x l)) t.joins ∙ ap (λ cs. and_then (look_through bs (rights cs) rest) (λ _ l. done (not_all (resolve_right bs cs) ∷ []) l)) (trial_new t.new bs)
-        ∙ ap (λ o. and_then o (λ _ l. done (not_all (resolve_right bs (reverse t.new)) ∷ []) l)) told
+    kept_back r told x y p z = record {
+      lines = tried_line_is ∷ [];
+      says = ap (λ o. and_then o (λ x l. trial_lines bs x l)) t.joins ∙ ap (λ cs. and_then (look_through bs (rights cs) rest) (λ _ l. done (not_all (resolve_right bs cs) ∷ []) l)) (trial_new t.new bs)
+          ∙ ap (λ o. and_then o (λ _ l. done (not_all (resolve_right bs (reverse t.new)) ∷ []) l)) told ∙ y;
+      page = p;
+      bindings_in = t.looks.held.bindings_in;
+      apart = t.apart;
+      touched = z;
+    }
 
-    kept_back : {out' : List ℕ} {x : Added} → and_then (look_says {A = Unit {0}} tt r) (λ _ l. done (tried_line_is ∷ []) l) ≡ added_says (tried_line_is ∷ []) x → ((next left : ℕ) → x ≡ Done next left → Extended g out' next (tried_line_is ∷ []))
-        → Touched g.before out' g.begin end → AddedAs ws s s₂ g out' bs (lines_of bs (differ u v) steps) x
-    kept_back y p z = record { lines = tried_line_is ∷ []; says = lines_tried ∙ y; page = p; bindings_in = t.looks.held.bindings_in; apart = t.apart; touched = z }
+    pub tried_stops : (e : Stopped) → ThroughAs bs (rights (reverse t.new)) rest (Err e) → AddedAs ws s s₂ g out bs (lines_of bs (differ u v) steps) (Err e)
+    tried_stops e told = kept_back (Err e) told (Err e) refl (λ next left q. clash (cc)) g.page.touched
 
-    pub tried_steps : r ≡ looked.StepsOut → AddedAs ws s s₂ g out bs (lines_of bs (differ u v) steps) StepsOut
-    tried_steps e = kept_back (rw e refl) (λ next left q. clash (cc)) g.page.touched
-
-    pub tried_path : {after : ℕ} → r ≡ looked.WaitingOut after → AddedAs ws s s₂ g out bs (lines_of bs (differ u v) steps) (WaitingOut after)
-    tried_path e = kept_back (rw e refl) (λ next left q. clash (cc)) g.page.touched
-
-    pub tried_done : {after : ℕ} {out' : List ℕ} {next : ℕ} → r ≡ looked.Done after → Extended g out' next (tried_line_is ∷ []) → AddedAs ws s s₂ g out' bs (lines_of bs (differ u v) steps) (Done next after)
-    tried_done e p = kept_back (rw e refl) (page_done p) p.touched
+    pub tried_done : (after : ℕ) → ThroughAs bs (rights (reverse t.new)) rest (Ok after) → {out' : List ℕ} {next : ℕ} → Extended g out' next (tried_line_is ∷ []) → AddedAs ws s s₂ g out' bs (lines_of bs (differ u v) steps) (Ok (next, after))
+    tried_done after told {next = next} p = kept_back (Ok after) told (Ok (next, after)) refl (page_done p) p.touched
 
 -- A term that was looked through, with the lines that its constraint comes to
 
-module _ {ws s : List ℕ} {bs : Substitution} {out : List ℕ} {first end place : ℕ} (g : Writing s out first end place) (held : Binds ws s bs) (t : Term) (steps : ℕ) (r : LookedThrough) (told : LookedThroughAs bs t steps r) (lines : List Line) where
+module _ {ws s : List ℕ} {bs : Substitution} {out : List ℕ} {first end place : ℕ} (g : Writing s out first end place) (held : Binds ws s bs) (t : Term) (steps : ℕ) (lines : List Line) where
   abbrev term_lines : Outcome (List Line)
   term_lines = and_then (scan never bs [] t steps) (λ _ l. done lines l)
 
-  untouched : {out' : List ℕ} {x : Added} → and_then (look_says false r) (λ _ l. done lines l) ≡ added_says lines x → ((next left : ℕ) → x ≡ Done next left → Extended g out' next lines) → Touched g.before out' g.begin end
-      → AddedAs ws s s g out' bs term_lines x
+  pub term_stops : (e : Stopped) → LookedThroughAs bs t steps (Err e) → AddedAs ws s s g out bs term_lines (Err e)
   unfolding LookedThroughAs
-  untouched y p z = record { lines = lines; says = ap (λ o. and_then o (λ _ l. done lines l)) told ∙ y; page = p; bindings_in = held.bindings_in; apart = apart_same s; touched = z }
+  term_stops e told = record { lines = []; says = ap (λ o. and_then o (λ _ l. done lines l)) told; page = λ next left q. clash (cc); bindings_in = held.bindings_in; apart = apart_same s; touched = g.page.touched }
 
-  pub term_steps : r ≡ looked.StepsOut → AddedAs ws s s g out bs term_lines StepsOut
-  term_steps e = untouched (rw e refl) (λ next left q. clash (cc)) g.page.touched
-
-  pub term_path : {rest : ℕ} → r ≡ looked.WaitingOut rest → AddedAs ws s s g out bs term_lines (WaitingOut rest)
-  term_path e = untouched (rw e refl) (λ next left q. clash (cc)) g.page.touched
-
-  pub term_done : {rest : ℕ} {out' : List ℕ} {next : ℕ} → r ≡ looked.Done rest → Extended g out' next lines → AddedAs ws s s g out' bs term_lines (Done next rest)
-  term_done e p = untouched (rw e refl) (page_done p) p.touched
+  pub term_done : (rest : ℕ) → LookedThroughAs bs t steps (Ok rest) → {out' : List ℕ} {next : ℕ} → Extended g out' next lines → AddedAs ws s s g out' bs term_lines (Ok (next, rest))
+  unfolding LookedThroughAs
+  term_done rest told p = record { lines = lines; says = ap (λ o. and_then o (λ _ l. done lines l)) told; page = page_done p; bindings_in = held.bindings_in; apart = apart_same s; touched = p.touched }
 
 -- an absence
 module _ {ws s : List ℕ} {w : ℕ} {bs : Substitution} {a : Atom} {t : Term} (held : Binds ws s bs) (h : KeepsAt ws w (absento a t)) where
@@ -232,7 +215,7 @@ module _ {ws s : List ℕ} {bs : Substitution} {cs : List Constraint} {w : ℕ} 
     unforced = subst (Passes bs cs) q.is h.passes;
   }
 
-pub added_one : {ws s s' : List ℕ} {out : List ℕ} {first end place : ℕ} {g : Writing s out first end place} {out' : List ℕ} {bs : Substitution} {r : Added} (c d : Constraint) (steps : ℕ) → c ≡ d
+pub added_one : {ws s s' : List ℕ} {out : List ℕ} {first end place : ℕ} {g : Writing s out first end place} {out' : List ℕ} {bs : Substitution} {r : Result (ℕ × ℕ) Stopped} (c d : Constraint) (steps : ℕ) → c ≡ d
     → AddedAs ws s s' g out' bs (lines_of bs d steps) r → AddedAs ws s s' g out' bs (lines_of bs c steps) r
 added_one {ws} {s} {s'} {g = g} {out' = out'} {bs = bs} {r = r} c d steps e h = subst (λ z. AddedAs ws s s' g out' bs (lines_of bs z steps) r) (sym e) h
 
@@ -296,7 +279,7 @@ module _ {ws s₀ out₀ : List ℕ} {first end place₀ : ℕ} {g : Writing s�
       go [] e k n p = absurd (omega arith)
       go (c ∷ later) e k n p = record { one = c; others = later; is = e; lists = record { held = h.whole.held; keeps = k.0; trail_is = h.whole.trail_is; passes = p.0 }; kept_in = k.1; passes = p.1 }
 
-  pub adding_end : kept ≤ i → AddedAs ws s₀ s g out bs (all_lines bs cs steps) (Done place left)
+  pub adding_end : kept ≤ i → AddedAs ws s₀ s g out bs (all_lines bs cs steps) (Ok (place, left))
   adding_end le = record {
     lines = h.lines;
     says = h.same ∙ go h.later h.count;
@@ -310,29 +293,15 @@ module _ {ws s₀ out₀ : List ℕ} {first end place₀ : ℕ} {g : Writing s�
       go [] e = ap (λ z. done z left) (append-nil h.lines)
       go (c ∷ later) e = absurd (omega arith)
 
-  module _ (n : AddingNext) (s' out' : List ℕ) (r : Added) (told : AddedAs ws s s' adding_writing out' bs (lines_of bs n.one left) r) where
-    pub adding_still : length s' ≡ length s₀
-    adding_still = told.apart.long ∙ h.apart.long
-
-    pub adding_room : length out' ≡ length out₀
-    adding_room = told.touched.long ∙ sym g.page.touched.long
-
+  module _ (n : AddingNext) where
     next_is : (o : Outcome (List Line)) → lines_of bs n.one left ≡ o → all_lines bs cs steps ≡ and_then (and_then o (λ ls l. and_then (all_lines bs n.others l) (λ ms m. done (ls ++ ms) m))) (λ ms m. done (h.lines ++ ms) m)
     next_is o e = h.same ∙ ap (λ z. and_then (all_lines bs z left) (λ ms m. done (h.lines ++ ms) m)) n.is ∙ ap (λ z. and_then (and_then z (λ ls l. and_then (all_lines bs n.others l) (λ ms m. done (ls ++ ms) m))) (λ ms m. done (h.lines ++ ms) m)) e
 
-    stopped : (o : Outcome (List Line)) {x : Added} → lines_of bs n.one left ≡ o → and_then (and_then o (λ ls l. and_then (all_lines bs n.others l) (λ ms m. done (ls ++ ms) m))) (λ ms m. done (h.lines ++ ms) m) ≡ added_says [] x
-        → ((next left : ℕ) → x ≡ Done next left → ⊥) → AddedAs ws s₀ s' g out' bs (all_lines bs cs steps) x
-    stopped o e y p = record { lines = []; says = next_is o e ∙ y; page = λ next left q. absurd (p next left q); bindings_in = told.bindings_in; apart = apart_trans h.apart told.apart; touched = told.touched }
+    pub adding_stops : {s' out' : List ℕ} (e : Stopped) → AddedAs ws s s' adding_writing out' bs (lines_of bs n.one left) (Err e) → AddedAs ws s₀ s' g out' bs (all_lines bs cs steps) (Err e)
+    adding_stops e told = record { lines = []; says = next_is (stops e) told.says; page = λ next left q. clash (cc); bindings_in = told.bindings_in; apart = apart_trans h.apart told.apart; touched = told.touched }
 
-    pub adding_stops : r ≡ StepsOut → AddedAs ws s₀ s' g out' bs (all_lines bs cs steps) StepsOut
-    adding_stops e = stopped (stop no_steps 0) (rw e at told.says) refl (λ next left q. clash (cc))
-
-    pub adding_bound : {rest : ℕ} → r ≡ WaitingOut rest → AddedAs ws s₀ s' g out' bs (all_lines bs cs steps) (WaitingOut rest)
-    adding_bound {rest} e = stopped (stop (at_bound waiting) rest) (rw e at told.says) refl (λ next left q. clash (cc))
-
-    pub adding_on : {next rest : ℕ} → r ≡ Done next rest → Adding ws s₀ g bs cs trail kept steps s' out' next rest (i + 1)
-    adding_on {next} {rest} e =
-        let q : lines_of bs n.one left ≡ done told.lines rest = rw e at told.says in
+    pub adding_on : {s' out' : List ℕ} (next rest : ℕ) → AddedAs ws s s' adding_writing out' bs (lines_of bs n.one left) (Ok (next, rest)) → Adding ws s₀ g bs cs trail kept steps s' out' next rest (i + 1)
+    adding_on {s'} {out'} next rest told =
         let l : length h.later ≡ suc (length n.others) = ap length n.is in
         let z : suc i ≡ i + 1 = omega arith in
         record {
@@ -343,6 +312,6 @@ module _ {ws s₀ out₀ : List ℕ} {first end place₀ : ℕ} {g : Writing s�
           count = omega (arith, h.count);
           passes = n.passes;
           lines = h.lines ++ told.lines;
-          page = subst (AnswerSoFar g.before out' g.begin first end next g.head) (sym (add_append g.names g.lines h.lines told.lines)) (told.page next rest e);
-          same = next_is (done told.lines rest) q ∙ then_more h.lines told.lines (all_lines bs n.others rest);
+          page = subst (AnswerSoFar g.before out' g.begin first end next g.head) (sym (add_append g.names g.lines h.lines told.lines)) (told.page next rest refl);
+          same = next_is (done told.lines rest) told.says ∙ then_more h.lines told.lines (all_lines bs n.others rest);
         }

@@ -7,7 +7,7 @@ use mathlib.Core.Logic.{⊎_elim}
 use native.Mathlib.Nat.{mul-lt-mul_of_pos_right}
 use native.Mathlib.Omega.{arith}
 use lib.Dec.{eqb}
-use lib.ListN.{drop, length-set, set}
+use lib.ListN.{length, drop, length-set, set}
 use lib.Seq.{get_or-set_same, get_or-set_other}
 use borrow.Author.Tests.{eqb-false}
 use Rattle.rules.specs.Inner.{Spells}
@@ -48,6 +48,10 @@ pub record Sought (o : List ℕ) (table size slot : ℕ) (ws : List (List ℕ)) 
   pub left : (place : ℕ) → AnswerAt 0 ws place v → Leads o table size slot place
 
 module _ {o : List ℕ} {start next table size : ℕ} {ws : List (List ℕ)} {v : List ℕ} (g : Seeking o start next table size ws v) where
+  -- the answer is within the output
+  pub seeking_inside : next ≤ length o
+  seeking_inside = omega (arith, g.table_there.behind, g.table_there.room.inside)
+
   pub sought_start : {slot : ℕ} → slot ≡ home size v → Sought o table size slot ws v
   sought_start e = subst (λ s. Sought o table size s ws v) (sym e) (record { low = home_less size v g.table_there.some; walked = λ o' place k l. l; left = λ place a. g.index.leads place v a })
 
@@ -138,7 +142,3 @@ module _ {o : List ℕ} {start next table size : ℕ} {ws : List (List ℕ)} {v 
 
 pub entered_from : {o₀ o o' : List ℕ} {table size : ℕ} {ws : List (List ℕ)} {v : List ℕ} {r : Entered} → o ≡ o₀ → EnteredAs o o' table size ws v r → EnteredAs o₀ o' table size ws v r
 entered_from {o₀} {o} {o'} {table} {size} {ws} {v} {r} e h = subst (λ x. EnteredAs x o' table size ws v r) e h
-
--- all slots are taken
-pub entered_lost : (o : List ℕ) (table size : ℕ) (ws : List (List ℕ)) (v : List ℕ) → EnteredAs o o table size ws v entered.Lost
-entered_lost o table size ws v = record { repeated = λ q. clash (cc); new = λ q. clash (cc); touched = untouched o table (table + size) }

@@ -5,6 +5,7 @@ pub mod WalkLoop
 pub mod LastWord
 pub mod SizeLaws
 pub mod ScanSteps
+pub mod TraverseSteps
 pub mod MarkLaws
 pub mod OccursSteps
 pub mod UnifySteps
@@ -40,7 +41,6 @@ pub mod LinesLaws
 pub mod TrialLaws
 pub mod LookLaws
 pub mod WriterLaws
-pub mod HashLaws
 pub mod SameLaws
 pub mod IndexLaws
 pub mod BuildLaws

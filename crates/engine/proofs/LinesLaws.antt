@@ -3,7 +3,9 @@ use Prim.Native.Nat.{ℕ}
 use mathlib.Core.Path.{◌≡◌, refl, sym, ap, subst, ◌∙◌}
 use mathlib.Core.List.{List, [], ◌∷◌, ◌++◌}
 use lib.ListN.{length}
-use Rattle.rules.specs.Syntax.{Atom}
+use Rattle.word.specs.Kind.{kind_number}
+use Rattle.word.specs.declared.kind.Kind.{Kind}
+use Rattle.rules.specs.Syntax.{Atom, Term}
 use Rattle.semantics.specs.Answer.{Line, is_sort, lacks, typed_lines, lacks_each}
 use Rattle.engine.specs.Walk.{Shaped}
 use Rattle.engine.specs.Line.{LineAs, as_sort, as_lacks}
@@ -20,20 +22,24 @@ abbrev pub Adds : List ℕ → List ℕ → List ℕ → List ℕ → Listed →
 Adds ws s out out' line first end place place' = (g : Writing s out first end place) (l : Line) → LineAs ws s line l → Extended g out' place' (l ∷ [])
 
 -- a type
-module _ {ws s out : List ℕ} {kind w first end place : ℕ} (g : AddsTyped ws s out kind w first end place) {r : Shape} (f : FollowedAs ws s w r) where
+module _ {ws s out : List ℕ} {kind : Kind} {w first end place : ℕ} (g : AddsTyped ws s out (kind_number kind) w first end place) {r : Shape} (f : FollowedAs ws s w r) where
   pub typed_as : {x : ℕ} → r ≡ Open x → LineAs ws s (Typed kind x) (is_sort g.sort x)
   typed_as e = as_sort g.sort g.is_kind (told_open g.term f e g.here).1
 
   pub typed_add : {out' : List ℕ} {x place' : ℕ} → r ≡ Open x → Adds ws s out out' (Typed kind x) first end place place' → Extended g.writing out' place' (typed_lines g.sort g.term)
   typed_add {out'} {x} {place'} e a = subst (λ t. Extended g.writing out' place' (typed_lines g.sort t)) (sym (told_open g.term f e g.here).0) (a g.writing (is_sort g.sort x) (typed_as e))
 
-  pub typed_leaf : {v : ℕ} → r ≡ Leaf v → Extended g.writing out place (typed_lines g.sort g.term)
-  unfolding add_lines Shaped
-  typed_leaf e = subst (λ t. Extended g.writing out place (typed_lines g.sort t)) (sym (told_leaf g.term f e g.here).1) g.writing.page
+pub typed_other : {ws s out : List ℕ} {kind w first end place : ℕ} {r : Shape} (g : AddsTyped ws s out kind w first end place) → FollowedAs ws s w r → ((x : ℕ) → r ≡ Open x → ⊥) → Extended g.writing out place (typed_lines g.sort g.term)
+unfolding add_lines Shaped
+typed_other {out = out} {place = place} {r = r} g f n = go r refl
+  where
+    as_before : {t : Term} → g.term ≡ t → typed_lines g.sort t ≡ [] → Extended g.writing out place (typed_lines g.sort g.term)
+    as_before {t} q k = subst (λ u. Extended g.writing out place u) (sym k ∙ ap (typed_lines g.sort) (sym q)) g.writing.page
 
-  pub typed_pair : {a b : ℕ} → r ≡ Pair a b → Extended g.writing out place (typed_lines g.sort g.term)
-  unfolding add_lines Shaped
-  typed_pair e = subst (λ t. Extended g.writing out place (typed_lines g.sort t)) (sym (told_pair g.term f e g.here).2) g.writing.page
+    go : (k : Shape) → r ≡ k → Extended g.writing out place (typed_lines g.sort g.term)
+    go (Open x) e = absurd (n x e)
+    go (Leaf v) e = as_before (told_leaf g.term f e g.here).1 refl
+    go (Pair a b) e = as_before (told_pair g.term f e g.here).2 refl
 
 -- the output is as long as before
 pub page_long : {o o' out out' : List ℕ} {begin first end place first' end' place' begin' : ℕ} {head head' : List ℕ} {lines lines' : List (List ℕ)} → AnswerSoFar o out begin first end place head lines → AnswerSoFar o' out' begin' first' end' place' head' lines' → o ≡ o' → length out' ≡ length out

@@ -14,14 +14,14 @@ use Rattle.semantics.specs.Unify.{scan, never}
 use Rattle.semantics.specs.Answer.{look_through}
 use Rattle.semantics.proofs.Basics.{clash}
 use Rattle.semantics.proofs.ScanLaws.{ScanStep, hit, down, full, last, further, scan_step}
-use Rattle.engine.specs.Reference.{at, Stands}
+use Rattle.engine.specs.Reference.{at}
+use Rattle.engine.specs.Walk.{Binds, Follows}
+use Rattle.std.specs.Prelude.{Result, Ok, Err}
 use Rattle.engine.specs.Scan.{TestAs, scan_says, ScanAs}
+use Rattle.engine.specs.Steps.{outcome_of}
 use Rattle.engine.specs.Trial.{EquationsKept}
-use Rattle.engine.specs.Look.{look_says, LookedThroughAs, Looks, rights, ThroughAs}
-use Rattle.engine.specs.declared.terms.scan.Scanned.{Scanned}
-use Rattle.engine.specs.declared.terms.scan.Scanned.TheVariants.{Found, Clear, StepsOut, WaitingOut}
-use Rattle.engine.specs.declared.writer.look.LookedThrough.{LookedThrough}
-use Rattle.engine.specs.declared.writer.look.LookedThrough.TheVariants as looked
+use Rattle.engine.specs.Look.{LookedThroughAs, rights, ThroughAs}
+use Rattle.engine.specs.declared.steps.Stopped.{Stopped}
 use Rattle.engine.proofs.ReferenceLaws.{atom_low}
 
 never_sought : TestAs (word 4 0) never
@@ -42,67 +42,48 @@ never_found bs (suc left) vs t l e = go (scan never bs vs t (suc left)) (scan_st
     go o (last q lf n s) d ih = clash (cc)
     go o (further v us q lf n s) d ih = ih us v l (sym s ∙ d)
 
--- what the scan's answers come to
-module _ (bs : Substitution) (t : Term) (steps : ℕ) (r : Scanned) (h : ScanAs (word 4 0) bs t 0 steps r) where
-  said : scan never bs [] t steps ≡ scan_says r [] (λ us u left. scan never bs us u left)
-  said = h never [] never_sought refl
-
-  pub look_clear : {left : ℕ} → r ≡ Clear left → LookedThroughAs bs t steps (looked.Done left)
+-- what the scan's results come to
+module _ (bs : Substitution) (t : Term) (steps : ℕ) where
+  pub look_done : (found : Bool) (left : ℕ) → ScanAs (word 4 0) bs t 0 steps (Ok (found, left)) → LookedThroughAs bs t steps (Ok left)
   unfolding LookedThroughAs scan_says
-  look_clear e = rw e at said
+  look_done true left h = absurd (never_found bs steps [] t left (h never [] never_sought refl))
+  look_done false left h = h never [] never_sought refl
 
-  pub look_found : {left : ℕ} → r ≡ Found left → LookedThroughAs bs t steps (looked.Done left)
+  pub look_stops : (s : Stopped) → ScanAs (word 4 0) bs t 0 steps (Err s) → LookedThroughAs bs t steps (Err s)
   unfolding LookedThroughAs scan_says
-  look_found {left} e = absurd (never_found bs steps [] t left (rw e at said))
-
-  pub look_steps : r ≡ StepsOut → LookedThroughAs bs t steps looked.StepsOut
-  unfolding LookedThroughAs scan_says
-  look_steps e = rw e at said
-
-  pub look_path : {left : ℕ} → r ≡ WaitingOut left → LookedThroughAs bs t steps (looked.WaitingOut left)
-  unfolding LookedThroughAs scan_says
-  look_path e = rw e at said
+  look_stops s h = h never [] never_sought refl
 
 -- several terms, of which some are left to look at
 pub record Looking (bs : Substitution) (ts : List Term) (steps : ℕ) (later : List Term) (left : ℕ) : Type 0 where
   pub same : look_through bs ts steps ≡ look_through bs later left
 
-pub looking_start : (bs : Substitution) (ts : List Term) (steps : ℕ) → Looking bs ts steps ts steps
-looking_start bs ts steps = record { same = refl }
-
 module _ {bs : Substitution} {ts : List Term} {steps : ℕ} {later : List Term} {left : ℕ} (g : Looking bs ts steps later left) where
-  pub looking_end : later ≡ [] → ThroughAs bs ts steps (looked.Done left)
+  pub looking_end : later ≡ [] → ThroughAs bs ts steps (Ok left)
   unfolding ThroughAs
   looking_end e = g.same ∙ ap (λ us. look_through bs us left) e
 
-  module _ (t : Term) (others : List Term) (is : later ≡ t ∷ others) (r : LookedThrough) (told : LookedThroughAs bs t left r) where
-    looks_is : look_through bs ts steps ≡ and_then (look_says false r) (λ _ l. look_through bs others l)
+  module _ (t : Term) (others : List Term) (is : later ≡ t ∷ others) where
+    looks_is : (r : Result ℕ Stopped) → LookedThroughAs bs t left r → look_through bs ts steps ≡ and_then (outcome_of false r) (λ _ l. look_through bs others l)
     unfolding LookedThroughAs
-    looks_is = g.same ∙ ap (λ us. look_through bs us left) is ∙ ap (λ o. and_then o (λ _ l. look_through bs others l)) told
+    looks_is r told = g.same ∙ ap (λ us. look_through bs us left) is ∙ ap (λ o. and_then o (λ _ l. look_through bs others l)) told
 
-    pub looking_steps : r ≡ looked.StepsOut → ThroughAs bs ts steps looked.StepsOut
+    pub looking_stops : (s : Stopped) → LookedThroughAs bs t left (Err s) → ThroughAs bs ts steps (Err s)
     unfolding ThroughAs
-    looking_steps e = rw e at looks_is
+    looking_stops s told = looks_is (Err s) told
 
-    pub looking_path : {rest : ℕ} → r ≡ looked.WaitingOut rest → ThroughAs bs ts steps (looked.WaitingOut rest)
-    unfolding ThroughAs
-    looking_path e = rw e at looks_is
-
-    pub looking_on : {rest : ℕ} → r ≡ looked.Done rest → Looking bs ts steps others rest
-    looking_on e = record { same = rw e at looks_is }
+    pub looking_on : (rest : ℕ) → LookedThroughAs bs t left (Ok rest) → Looking bs ts steps others rest
+    looking_on rest told = record { same = looks_is (Ok rest) told }
 
 -- the right sides of a trial, from equation i on
 pub record LookingRights (ws s : List ℕ) (bs : Substitution) (cs : List (ℕ × Term)) (mark count steps i left : ℕ) : Type 0 where
+  pub held : Binds ws s bs
   pub later : List (ℕ × Term)
   pub kept : EquationsKept ws s mark i later
   pub count_is : i + length later ≡ count
   pub looking : Looking bs (rights cs) steps (rights later) left
 
-pub rights_start : {ws s : List ℕ} {bs : Substitution} {cs : List (ℕ × Term)} {mark count : ℕ} (steps : ℕ) → Looks ws s bs cs mark count → LookingRights ws s bs cs mark count steps 0 steps
-rights_start {bs = bs} {cs = cs} steps h = record { later = cs; kept = h.kept; count_is = omega (arith, h.count_is); looking = looking_start bs (rights cs) steps }
-
 module _ {ws s : List ℕ} {bs : Substitution} {cs : List (ℕ × Term)} {mark count steps i left : ℕ} (g : LookingRights ws s bs cs mark count steps i left) where
-  pub rights_end : count ≤ i → ThroughAs bs (rights cs) steps (looked.Done left)
+  pub rights_end : count ≤ i → ThroughAs bs (rights cs) steps (Ok left)
   rights_end le = looking_end g.looking (none g.later g.count_is)
     where
       none : (later : List (ℕ × Term)) → i + length later ≡ count → rights later ≡ []
@@ -113,7 +94,7 @@ module _ {ws s : List ℕ} {bs : Substitution} {cs : List (ℕ × Term)} {mark c
     pub one : ℕ × Term
     pub others : List (ℕ × Term)
     pub is : g.later ≡ one ∷ others
-    pub stands : Stands ws (at s (2048 + mark + i)) one.1
+    pub here : Follows ws s bs (at s (2048 + mark + i)) one.1
     pub kept : EquationsKept ws s mark (i + 1) others
 
   pub rights_next : i < count → RightsNext
@@ -122,19 +103,16 @@ module _ {ws s : List ℕ} {bs : Substitution} {cs : List (ℕ × Term)} {mark c
     where
       go : (later : List (ℕ × Term)) → g.later ≡ later → EquationsKept ws s mark i later → i + length later ≡ count → RightsNext
       go [] e h n = absurd (omega arith)
-      go (b ∷ later) e h n = record { one = b; others = later; is = e; stands = h.0.right; kept = h.1 }
+      go (b ∷ later) e h n = record { one = b; others = later; is = e; here = record { binds = g.held; stands = h.0.right }; kept = h.1 }
 
-  module _ (n : RightsNext) (r : LookedThrough) (told : LookedThroughAs bs n.one.1 left r) where
+  module _ (n : RightsNext) where
     rights_are : rights g.later ≡ n.one.1 ∷ rights n.others
     rights_are = ap rights n.is
 
-    pub rights_steps : r ≡ looked.StepsOut → ThroughAs bs (rights cs) steps looked.StepsOut
-    rights_steps e = looking_steps g.looking n.one.1 (rights n.others) rights_are r told e
+    pub rights_stop : (s : Stopped) → LookedThroughAs bs n.one.1 left (Err s) → ThroughAs bs (rights cs) steps (Err s)
+    rights_stop s told = looking_stops g.looking n.one.1 (rights n.others) rights_are s told
 
-    pub rights_path : {rest : ℕ} → r ≡ looked.WaitingOut rest → ThroughAs bs (rights cs) steps (looked.WaitingOut rest)
-    rights_path e = looking_path g.looking n.one.1 (rights n.others) rights_are r told e
-
-    pub rights_on : {rest : ℕ} → r ≡ looked.Done rest → LookingRights ws s bs cs mark count steps (i + 1) rest
-    rights_on e =
+    pub rights_on : (rest : ℕ) → LookedThroughAs bs n.one.1 left (Ok rest) → LookingRights ws s bs cs mark count steps (i + 1) rest
+    rights_on rest told =
         let l : length g.later ≡ suc (length n.others) = ap length n.is in
-        record { later = n.others; kept = n.kept; count_is = omega (arith, g.count_is); looking = looking_on g.looking n.one.1 (rights n.others) rights_are r told e }
+        record { held = g.held; later = n.others; kept = n.kept; count_is = omega (arith, g.count_is); looking = looking_on g.looking n.one.1 (rights n.others) rights_are rest told }

@@ -1,7 +1,7 @@
 -- Names: the words of the area, by the list of names.
 use Prim.Native.Nat.{ℕ, suc, ◌+◌, ◌%◌, ◌<◌, ◌≤◌}
 use mathlib.Core.Path.{◌≡◌, refl, sym, ap, ◌∙◌}
-use mathlib.Core.Bool.{Bool, true, false, ◌||◌, false≢true}
+use mathlib.Core.Bool.{Bool, true, false, not, ◌||◌, false≢true}
 use mathlib.Core.Option.{none}
 use mathlib.Core.List.{List, [], ◌∷◌, ◌++◌}
 use native.Mathlib.Omega.{arith}
@@ -153,6 +153,12 @@ module _ {s : List ℕ} {top : ℕ} {names : List ℕ} (h : Names s top names) w
       go : (b : Bool) → member x names ≡ b → member x names ≡ false
       go true e = absurd (word_some 0 names x e (sym (h.words x l) ∙ z))
       go false e = e
+
+  pub name_asked : (x : ℕ) → x < 2048 → not (eqb (at s (4096 + x)) 0) ≡ member x names
+  name_asked x l = elim (compared (at s (4096 + x)) 0) [
+    | same q r ↦ rw r (sym (no_name x l q))
+    | other n r ↦ rw r (sym (has_name x l n))
+  ]
 
   pub name_number : (x : ℕ) → x < 2048 → ¬ (at s (4096 + x) ≡ 0) → at s (4096 + x) % 4096 ≡ index x names + 1
   name_number x l n = rw (h.words x l) (omega (arith, word_number 0 names x (has_name x l n) (omega (arith, names_few names h.distinct))))

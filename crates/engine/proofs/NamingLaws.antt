@@ -1,6 +1,6 @@
 -- Naming the variables of a term, asking whether all have names, and taking names back: one law for each way in which the code returns or goes on.
 use Prim.Native.Nat.{ℕ, ◌+◌, ◌%◌, ◌/◌, ◌-◌, ◌<◌, ◌≤◌}
-use mathlib.Core.Path.{◌≡◌, refl, sym, ap, subst, ◌∙◌}
+use mathlib.Core.Path.{◌≡◌, sym, ap, subst, ◌∙◌}
 use mathlib.Core.Bool.{Bool, true, false, ◌&&◌}
 use mathlib.Core.List.{List, [], ◌∷◌, ◌++◌}
 use native.Mathlib.Omega.{arith}
@@ -9,6 +9,7 @@ use lib.Seq.{get_or-set_same, get_or-set_other}
 use Rattle.rules.specs.Syntax.{Term, var, pair}
 use Rattle.rules.specs.Settings.{scratch_words}
 use Rattle.semantics.specs.Answer.{appear, vars_in}
+use Rattle.semantics.specs.Unify.{member}
 use Rattle.semantics.proofs.Basics.{compared, same, other}
 use Rattle.engine.specs.Reference.{at}
 use Rattle.engine.specs.Walk.{Resolves, Shaped}
@@ -17,7 +18,7 @@ use Rattle.engine.specs.declared.terms.walk.Shape.{Shape}
 use Rattle.engine.specs.declared.terms.walk.Shape.TheVariants.{Open, Atom as Leaf, Pair}
 use Rattle.engine.proofs.FollowLaws.{resolves_same}
 use Rattle.engine.proofs.SizeLaws.{followed_size, first_reach, second_reach}
-use Rattle.engine.proofs.NameLaws.{top_snoc, word_none, word_snoc_same, word_snoc_other, distinct_init, names_few, has_name, no_name, named_still, named_trans}
+use Rattle.engine.proofs.NameLaws.{top_snoc, word_none, word_snoc_same, word_snoc_other, distinct_init, names_few, named_trans}
 
 -- what `follow` tells
 abbrev pub FollowedAs : List ℕ → List ℕ → ℕ → Shape → Type 0
@@ -58,9 +59,6 @@ pub record Naming (ws s₀ s : List ℕ) (w top : ℕ) (goal : List ℕ) : Type 
   pub here : Resolves ws s w term
   pub named : Named s₀ s top names
   pub same : appear names term ≡ goal
-
-pub naming_start : {ws s : List ℕ} {w top : ℕ} (t : Term) (names : List ℕ) → Resolves ws s w t → Names s top names → Naming ws s s w top (appear names t)
-naming_start t names h g = record { term = t; names = names; here = h; named = named_still g; same = refl }
 
 module _ {ws s₀ s : List ℕ} {w top : ℕ} {goal : List ℕ} {r : Shape} (g : Naming ws s₀ s w top goal) (f : FollowedAs ws s w r) where
   pub naming_low : {x : ℕ} → r ≡ Open x → x < 2048
@@ -103,15 +101,12 @@ pub record Asking (ws s : List ℕ) (w : ℕ) (names : List ℕ) (goal : Bool) :
   pub here : Resolves ws s w term
   pub same : vars_in names term ≡ goal
 
-module _ {ws s : List ℕ} {w : ℕ} {names : List ℕ} {goal : Bool} {r : Shape} (given : NamesGiven s names) (g : Asking ws s w names goal) (f : FollowedAs ws s w r) where
+module _ {ws s : List ℕ} {w : ℕ} {names : List ℕ} {goal : Bool} {r : Shape} (g : Asking ws s w names goal) (f : FollowedAs ws s w r) where
   pub asking_low : {x : ℕ} → r ≡ Open x → x < 2048
   asking_low e = (told_open g.term f e g.here).1
 
-  pub asking_yes : {x : ℕ} → r ≡ Open x → ¬ (at s (4096 + x) ≡ 0) → true ≡ goal
-  asking_yes {x} e n = let o = told_open g.term f e g.here in sym (has_name given.named x o.1 n) ∙ ap (vars_in names) (sym o.0) ∙ g.same
-
-  pub asking_no : {x : ℕ} → r ≡ Open x → at s (4096 + x) ≡ 0 → false ≡ goal
-  asking_no {x} e z = let o = told_open g.term f e g.here in sym (no_name given.named x o.1 z) ∙ ap (vars_in names) (sym o.0) ∙ g.same
+  pub asking_open : {x : ℕ} {q : Bool} → r ≡ Open x → q ≡ member x names → q ≡ goal
+  asking_open {x} e n = n ∙ ap (vars_in names) (sym (told_open g.term f e g.here).0) ∙ g.same
 
   pub asking_leaf : {v : ℕ} → r ≡ Leaf v → true ≡ goal
   unfolding Shaped
@@ -120,7 +115,7 @@ module _ {ws s : List ℕ} {w : ℕ} {names : List ℕ} {goal : Bool} {r : Shape
   pub asking_pair : {a b : ℕ} → r ≡ Pair a b → Halves ws s w a b g.term
   asking_pair e = halved g.term f e g.here
 
-  module _ {a b : ℕ} {q : Bool} (e : r ≡ Pair a b) (n : (t : Term) (names : List ℕ) → Resolves ws s a t → NamesGiven s names → q ≡ vars_in names t) where
+  module _ {a b : ℕ} {q : Bool} (e : r ≡ Pair a b) (given : NamesGiven s names) (n : (t : Term) (names : List ℕ) → Resolves ws s a t → NamesGiven s names → q ≡ vars_in names t) where
     both : (q && vars_in names (asking_pair e).second) ≡ goal
     both = let p = asking_pair e in ap (λ k. k && vars_in names p.second) (n p.first names p.first_here given) ∙ ap (vars_in names) (sym p.is) ∙ g.same
 

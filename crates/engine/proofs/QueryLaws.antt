@@ -1,26 +1,24 @@
 -- The loops over a query's parameters: one law for each way in which the code returns or goes on.
 use Prim.Native.Nat.{ℕ, suc, ◌+◌, ◌-◌, ◌<◌, ◌≤◌}
-use mathlib.Core.Path.{◌≡◌, sym, ap, subst, ◌∙◌}
+use mathlib.Core.Path.{◌≡◌, refl, sym, ap, subst, ◌∙◌}
 use mathlib.Core.Bool.{true}
 use mathlib.Core.List.{List, [], ◌∷◌, ◌++◌, append_assoc, append-nil, map}
 use native.Mathlib.Omega.{arith}
+use Rattle.std.specs.Prelude.{Ok, Err, Some, None}
 use Rattle.rules.specs.Syntax.{var}
 use Rattle.rules.specs.Written.{term_words, terms_words}
 use Rattle.semantics.specs.Substitution.{Substitution, resolve}
 use Rattle.semantics.specs.Answer.{appear, appear_all, reify, vars_in, parameters, query_terms, names_of}
 use Rattle.engine.specs.Walk.{Binds}
-use Rattle.engine.specs.Names.{Names, Named}
+use Rattle.engine.specs.Names.{Named}
 use Rattle.engine.specs.Term.{Room, Puts, Laid, Missing, Placed, all_laid, some_missing}
 use Rattle.engine.specs.Look.{LookedThroughAs, ThroughAs}
 use Rattle.engine.specs.Query.{Query, query_words}
-use Rattle.engine.specs.declared.writer.look.LookedThrough.{LookedThrough}
-use Rattle.engine.specs.declared.writer.look.LookedThrough.TheVariants as looked
-use Rattle.engine.specs.declared.writer.term.Put.{Put}
-use Rattle.engine.specs.declared.writer.term.Put.TheVariants.{End, Missed}
+use Rattle.engine.specs.declared.steps.Stopped.{Stopped}
 use Rattle.engine.proofs.TrailLaws.{fresh_few}
 use Rattle.engine.proofs.FrameLaws.{bindings_same}
-use Rattle.engine.proofs.LookLaws.{Looking, looking_start, looking_end, looking_steps, looking_path, looking_on}
-use Rattle.engine.proofs.NameLaws.{named_still, named_trans}
+use Rattle.engine.proofs.LookLaws.{Looking, looking_end, looking_stops, looking_on}
+use Rattle.engine.proofs.NameLaws.{named_trans}
 use Rattle.engine.proofs.TermLaws.{room_same, laid_none, laid_then, missing_then, missing_more, laid_of, missing_of}
 
 -- the parameters that are left
@@ -37,22 +35,16 @@ parameters_over x n l = let e : n - x ≡ 0 = omega arith in ap (parameters x) e
 abbrev pub LookingFrom : Substitution → ℕ → ℕ → ℕ → ℕ → Type 0
 LookingFrom bs n steps x left = Looking bs (parameters 0 n) steps (parameters x (n - x)) left
 
-pub from_start : (bs : Substitution) (n steps : ℕ) → LookingFrom bs n steps 0 steps
-from_start bs n steps = let e : n ≡ n - 0 = omega arith in subst (λ k. Looking bs (parameters 0 n) steps (parameters 0 k) steps) e (looking_start bs (parameters 0 n) steps)
-
 module _ {bs : Substitution} {n steps x left : ℕ} (g : LookingFrom bs n steps x left) where
-  pub from_end : n ≤ x → ThroughAs bs (parameters 0 n) steps (looked.Done left)
+  pub from_end : n ≤ x → ThroughAs bs (parameters 0 n) steps (Ok left)
   from_end l = looking_end g (parameters_over x n l)
 
-  module _ (r : LookedThrough) (l : x < n) (h : LookedThroughAs bs (var x) left r) where
-    pub from_next : {rest : ℕ} → r ≡ looked.Done rest → LookingFrom bs n steps (x + 1) rest
-    from_next e = looking_on g (var x) (parameters (x + 1) (n - (x + 1))) (parameters_next x n l) r h e
+  module _ (l : x < n) where
+    pub from_next : (rest : ℕ) → LookedThroughAs bs (var x) left (Ok rest) → LookingFrom bs n steps (x + 1) rest
+    from_next rest h = looking_on g (var x) (parameters (x + 1) (n - (x + 1))) (parameters_next x n l) rest h
 
-    pub from_steps : r ≡ looked.StepsOut → ThroughAs bs (parameters 0 n) steps looked.StepsOut
-    from_steps e = looking_steps g (var x) (parameters (x + 1) (n - (x + 1))) (parameters_next x n l) r h e
-
-    pub from_path : {rest : ℕ} → r ≡ looked.WaitingOut rest → ThroughAs bs (parameters 0 n) steps (looked.WaitingOut rest)
-    from_path e = looking_path g (var x) (parameters (x + 1) (n - (x + 1))) (parameters_next x n l) r h e
+    pub from_stops : (s : Stopped) → LookedThroughAs bs (var x) left (Err s) → ThroughAs bs (parameters 0 n) steps (Err s)
+    from_stops s h = looking_stops g (var x) (parameters (x + 1) (n - (x + 1))) (parameters_next x n l) s h
 
 -- naming: what is left to name
 pub record NamingAll (ws s₀ s : List ℕ) (bs : Substitution) (n x top : ℕ) : Type 0 where
@@ -69,15 +61,7 @@ binds_named {ws} {s} {s'} {bs} m b = record {
   good = b.good;
 }
 
-pub naming_all_start : {ws s : List ℕ} {bs : Substitution} (n : ℕ) → Binds ws s bs → Names s 0 [] → NamingAll ws s s bs n 0 0
-naming_all_start {bs = bs} n b h =
-    let e : n - 0 ≡ n = omega arith in
-    record { names = []; named = named_still h; binds = b; is = ap (λ k. appear_all [] (query_terms bs 0 k)) e }
-
 module _ {ws s₀ s : List ℕ} {bs : Substitution} {n x top : ℕ} (g : NamingAll ws s₀ s bs n x top) where
-  pub naming_all_end : n ≤ x → Named s₀ s top (names_of bs n)
-  naming_all_end l = subst (Named s₀ s top) (ap (λ ts. appear_all g.names (map (resolve bs) ts)) (sym (parameters_over x n l)) ∙ g.is) g.named
-
   pub naming_all_next : {s' : List ℕ} {top' : ℕ} → x < n → Named s s' top' (appear g.names (resolve bs (var x))) → NamingAll ws s₀ s' bs n (x + 1) top'
   naming_all_next l m = record {
     names = appear g.names (resolve bs (var x));
@@ -102,23 +86,23 @@ putting_all_start o bs names n start end l =
     record { put = []; laid = laid_none o start end true l; is = ap (query_words bs names 0) e }
 
 module _ {o₀ o : List ℕ} {bs : Substitution} {names : List ℕ} {n start end x place : ℕ} (g : PuttingAll o₀ o bs names n start end x place) where
-  pub putting_all_end : n ≤ x → Placed o₀ o start end true (query_words bs names 0 n) (End place)
+  pub putting_all_end : n ≤ x → Placed o₀ o start end true (query_words bs names 0 n) (Some place)
   unfolding terms_words
   putting_all_end l =
       let e : g.put ≡ query_words bs names 0 n = sym (append-nil g.put) ∙ ap (λ ts. g.put ++ terms_words (map (reify names) (map (resolve bs) ts))) (sym (parameters_over x n l)) ∙ g.is in
       all_laid (subst (λ v. Laid o₀ o start end true v place) e g.laid)
 
-  module _ {o' : List ℕ} {r : Put} (l : x < n) (p : Placed o o' place end true (term_words (reify names (resolve bs (var x)))) r) where
+  module _ (l : x < n) where
     now_words : g.put ++ (term_words (reify names (resolve bs (var x))) ++ query_words bs names (x + 1) (n - (x + 1))) ≡ query_words bs names 0 n
     unfolding terms_words
     now_words = ap (λ ts. g.put ++ terms_words (map (reify names) (map (resolve bs) ts))) (sym (parameters_next x n l)) ∙ g.is
 
-    pub putting_all_next : {next : ℕ} → r ≡ End next → PuttingAll o₀ o' bs names n start end (x + 1) next
-    putting_all_next e = record {
+    pub putting_all_next : {o' : List ℕ} {next : ℕ} → Placed o o' place end true (term_words (reify names (resolve bs (var x)))) (Some next) → PuttingAll o₀ o' bs names n start end (x + 1) next
+    putting_all_next p = record {
       put = g.put ++ term_words (reify names (resolve bs (var x)));
-      laid = laid_then g.laid (laid_of p e);
+      laid = laid_then g.laid (laid_of p refl);
       is = append_assoc g.put (term_words (reify names (resolve bs (var x)))) (query_words bs names (x + 1) (n - (x + 1))) ∙ now_words;
     }
 
-    pub putting_all_missed : r ≡ Missed → Placed o₀ o' start end true (query_words bs names 0 n) Missed
-    putting_all_missed e = some_missing (subst (Missing o₀ o' start end true) now_words (missing_then g.laid (missing_more (query_words bs names (x + 1) (n - (x + 1))) (missing_of p e))))
+    pub putting_all_missed : {o' : List ℕ} → Placed o o' place end true (term_words (reify names (resolve bs (var x)))) None → Placed o₀ o' start end true (query_words bs names 0 n) None
+    putting_all_missed {o'} p = some_missing (subst (Missing o₀ o' start end true) now_words (missing_then g.laid (missing_more (query_words bs names (x + 1) (n - (x + 1))) (missing_of p refl))))

@@ -1,5 +1,5 @@
 -- References: where parts are, and that a place holds one term only.
-use Prim.Native.Nat.{ℕ, ◌+◌, ◌≤◌, ◌<◌}
+use Prim.Native.Nat.{ℕ, ◌+◌, ◌-◌, ◌≤◌, ◌<◌}
 use mathlib.Core.Path.{◌≡◌, refl, sym, ap, ap₂, subst, ◌∙◌}
 use mathlib.Core.Bool.{Bool, true, false}
 use mathlib.Core.List.{List, [], ◌∷◌}
@@ -167,6 +167,9 @@ skip_ends g node n = omega (arith, skip_leaf node g.here g.stands n, g.ends, g.s
 
 pub skip_on : {ws : List ℕ} {start to w bits k p : ℕ} → Skipping ws start to w → PartRead ws w bits k p → k ≡ 4 → Skipping ws start to (w + 1 + p)
 skip_on g node e = let q = skip_pair node g.here g.stands e in record { here = q.term; stands = q.stands; ends = q.ends ∙ g.ends; same_base = q.same_base ∙ g.same_base }
+
+pub skip_falls : {ws : List ℕ} {start to w bits k p : ℕ} → Skipping ws start to w → PartRead ws w bits k p → k ≡ 4 → length ws - pos_of (w + 1 + p) < length ws - pos_of w
+skip_falls g node e = let q = skip_pair node g.here g.stands e in omega (arith, q.forward, stands_inside q.stands)
 
 -- A place holds one term, and it ends at one place.
 

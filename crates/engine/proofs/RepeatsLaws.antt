@@ -1,19 +1,19 @@
--- The index of a run's answers: kept, made longer or given up, and what is told of an answer.
+-- The index of a run's answers, and what is told of an answer.
 use Prim.Native.Nat.{ℕ, ◌+◌, ◌-◌, ◌<◌, ◌≤◌}
 use mathlib.Core.Path.{◌≡◌, sym, subst}
-use mathlib.Core.Bool.{Bool, true, false}
+use mathlib.Core.Bool.{true, false}
 use mathlib.Core.List.{List, [], ◌∷◌, ◌++◌}
 use native.Mathlib.Omega.{arith}
 use Rattle.semantics.specs.Answer.{any_same}
 use Rattle.semantics.proofs.Basics.{clash}
 use Rattle.engine.specs.Reference.{at}
-use Rattle.engine.specs.Term.{Room, Touched}
-use Rattle.engine.specs.Index.{AnswerAt, Indexed, Comparing, ComparedAs, Table, Seeking, EnteredAs, BuiltAs, Fitting, FittedAs}
+use Rattle.engine.specs.Term.{Touched}
+use Rattle.engine.specs.Index.{AnswerAt, Indexed, Comparing, ComparedAs, Seeking, EnteredAs, Fitting, FittedAs}
 use Rattle.engine.specs.declared.repeats.index.Entered.{Entered}
 use Rattle.engine.specs.declared.repeats.index.Entered.TheVariants as entered
 use Rattle.engine.specs.declared.repeats.repeated.Compared.{Compared}
 use Rattle.engine.specs.declared.repeats.repeated.Compared.TheVariants.{Repeated, New}
-use Rattle.engine.proofs.TermLaws.{untouched, touched_wide, touched_twice, spells_same, room_same}
+use Rattle.engine.proofs.TermLaws.{touched_wide, touched_twice, spells_same, room_same}
 use Rattle.engine.proofs.IndexLaws.{leads_kept, home_less}
 use Rattle.engine.proofs.BuildLaws.{rows_kept, rows_more}
 
@@ -31,35 +31,9 @@ indexed_kept {o} {o'} {end} {index} {ws} k l h s = record {
     there : (slot : ℕ) → slot < index → at o' (end - index + slot) ≡ at o (end - index + slot)
     there slot m = k (end - index + slot) (omega arith) (omega arith)
 
--- a longer index
-module _ {o : List ℕ} {used end index : ℕ} {ws : List (List ℕ)} (g : Fitting o used end index ws) where
-  pub fitted_same : FittedAs o o used end ws index
-  fitted_same = record { fits = g.fits; indexed = g.indexed; touched = untouched o used end }
-
-  module _ {size : ℕ} (more : index ≤ size) (other : ¬ (size ≡ index)) (room : size ≤ end - used) where
-    pub fitted_table : Table o used (end - size) size
-    fitted_table = let f : used + index ≤ end = g.fits in record {
-      behind = omega arith;
-      some = omega arith;
-      room = record { inside = omega (arith, g.room.inside); short = omega (arith, g.room.short) };
-    }
-
-    module _ {o' : List ℕ} {r : Bool} (b : BuiltAs o o' (end - size) size ws r) where
-      built_touched : Touched o o' used end
-      built_touched = let f : used + index ≤ end = g.fits in touched_wide used end (omega arith) (omega arith) b.touched
-
-      pub fitted_longer : r ≡ true → FittedAs o o' used end ws size
-      fitted_longer e = record { fits = omega (arith, g.fits); indexed = λ _. b.yes e; touched = built_touched }
-
-      pub fitted_lost : FittedAs o o' used end ws 0
-      fitted_lost = record { fits = omega (arith, g.fits); indexed = indexed_none o' end ws; touched = built_touched }
-
 -- an answer is to be compared with earlier ones
 module _ {o : List ℕ} {used next end index : ℕ} {ws : List (List ℕ)} {v : List ℕ} (g : Comparing o used next end index ws v) where
-  pub comparing_room : Room o next
-  comparing_room = record { inside = omega (arith, g.fits, g.room.inside); short = omega (arith, g.fits, g.room.short) }
-
-  pub start_low : used ≤ next
+  start_low : used ≤ next
   start_low = omega (arith, g.words.ends)
 
   -- it repeats none, and the index is that of all of them

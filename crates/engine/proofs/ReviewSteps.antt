@@ -1,33 +1,35 @@
 -- Reviews, in the shape of the code's tests.
 use Prim.Native.Nat.{ℕ, suc, ◌+◌, ◌-◌, ◌≤◌, ◌<◌}
 use mathlib.Core.Path.{◌≡◌, refl, sym, ap, subst, ◌∙◌}
-use mathlib.Core.Option.{none, some}
 use mathlib.Core.Bool.{Bool, true, false, ◌||◌}
 use mathlib.Core.List.{List, [], ◌∷◌}
 use native.Mathlib.Omega.{arith}
 use lib.Dec.{eqb}
 use lib.ListN.{length}
-use borrow.Author.Tests.{eq-eqb, ne_eqb}
+use Rattle.std.specs.Prelude.{Result, Ok, Err}
+use Rattle.std.proofs.lemmas.Bool.Decides.{nat_tests}
+use Rattle.word.specs.Kind.{kind_number}
+use Rattle.word.specs.declared.kind.Kind.{Kind}
+use Rattle.word.specs.declared.kind.Kind.TheVariants.{Variable, Differ, Symbolo, Absento}
+use Rattle.word.proofs.KindLaws.{kind_number_other}
 use Rattle.rules.specs.Reading.{choose, after}
 use Rattle.rules.specs.Written.{sort_kind}
-use Rattle.rules.specs.Syntax.{Atom, symbol, number, empty, Term, var, atom, pair, Sort, symbols, numbers, Constraint, differ, typed, absento}
+use Rattle.rules.specs.Syntax.{Atom, Term, var, atom, pair, Sort, symbols, numbers, Constraint, differ, typed, absento}
 use Rattle.semantics.specs.Substitution.{Substitution, walk}
-use Rattle.semantics.specs.Steps.{waiting, no_steps, at_bound, Outcome, done, stop, and_then}
+use Rattle.semantics.specs.Steps.{Outcome, done, and_then}
 use Rattle.semantics.specs.Unify.{scan, is_var, is_atom, unify_terms}
 use Rattle.semantics.specs.Review.{other_sort, reaches, clashes, sort_fails, trial_fails, reviewed, review, review_all}
 use Rattle.engine.specs.Reference.{at, AtomIs, pos_of, base_of, Stands, KeepsAt}
 use Rattle.engine.specs.Memory.{BindingsIn, KeptIn}
-use Rattle.engine.specs.Walk.{PartRead, Binds, Follows}
+use Rattle.engine.specs.Walk.{PartRead, Binds, Follows, WalkedTo}
 use Rattle.engine.specs.Trail.{Trailed, Undone, Apart}
 use Rattle.engine.specs.Scan.{ScanAs, scan_says}
-use Rattle.engine.specs.Unify.{TwoTerms, Went, UnifiedAs}
-use Rattle.engine.specs.Review.{atom_kind, other_kind, ConstraintsHeld, review_says, ReviewedAs}
-use Rattle.engine.specs.declared.terms.scan.Scanned.{Scanned}
-use Rattle.engine.specs.declared.terms.scan.Scanned.TheVariants as scanned
+use Rattle.engine.specs.Unify.{TwoTerms, UnifiedAs}
+use Rattle.engine.specs.Review.{other_kind, ConstraintsHeld, Constrains, Reviews, ReviewedAs}
+use Rattle.engine.specs.Steps.{stops, no_steps, outcome}
+use Rattle.engine.specs.declared.steps.Stopped.{Stopped}
 use Rattle.engine.specs.declared.terms.unify.Unified.{Unified}
-use Rattle.engine.specs.declared.terms.unify.Unified.TheVariants as unified
-use Rattle.engine.specs.declared.terms.review.Reviewed.{Reviewed}
-use Rattle.engine.specs.declared.terms.review.Reviewed.TheVariants.{Fails, Holds, StepsOut, WaitingOut}
+use Rattle.engine.specs.declared.terms.walk.Walked.{Walked}
 use Rattle.engine.proofs.ReferenceLaws.{sort_low, term_longer, stands_at, two_terms}
 use Rattle.engine.proofs.ScanSteps.{open_at, atom_sought}
 use Rattle.engine.proofs.FrameLaws.{kept_same}
@@ -52,11 +54,6 @@ absento_tag ws w a t h node =
     let is_pos : pos_of (w + 1) ≡ pos_of w + 1 = omega (arith, h.reads.2.2, h.small) in
     subst (λ z. AtomIs z a) (sym (node.is_bits ∙ ap (at ws) is_pos)) h.reads.1
 
-pub absento_inside : (ws : List ℕ) (w : ℕ) (a : Atom) (t : Term) → KeepsAt ws w (absento a t) → pos_of (w + 1) < length ws
-absento_inside ws w a t h =
-    let l : pos_of w + 2 + 0 < h.reads.2.0 = omega (arith, term_longer ws (base_of w) (pos_of w + 2) h.reads.2.0 t h.reads.2.1) in
-    omega (arith, h.reads.2.2, h.small, h.inside)
-
 -- the two terms of a differ: the second is past the first
 pub record DifferAt (ws : List ℕ) (w : ℕ) (c : Constraint) : Type 0 where
   pub left : Term
@@ -79,44 +76,50 @@ pub record TypedAt (ws : List ℕ) (w : ℕ) (c : Constraint) (kind : ℕ) : Typ
   pub is_kind : kind ≡ sort_kind sort
   pub stands : Stands ws (w + 1) term
 
+pub record SortAt (ws : List ℕ) (w : ℕ) (c : Constraint) (sort : Sort) : Type 0 where
+  pub term : Term
+  pub is : c ≡ typed sort term
+  pub stands : Stands ws (w + 1) term
+
 pub record AbsentoAt (ws : List ℕ) (w : ℕ) (c : Constraint) : Type 0 where
   pub tag : Atom
   pub term : Term
   pub is : c ≡ absento tag term
   pub keeps : KeepsAt ws w (absento tag term)
 
-module _ {ws : List ℕ} {w bits kind p : ℕ} (node : PartRead ws w bits kind p) where
-  pub differ_at : (c : Constraint) → KeepsAt ws w c → kind ≡ 6 → DifferAt ws w c
+module _ {ws : List ℕ} {w bits p : ℕ} {kind : Kind} (node : PartRead ws w bits (kind_number kind) p) where
+  pub differ_at : (c : Constraint) → KeepsAt ws w c → kind ≡ Differ → DifferAt ws w c
   differ_at (differ u v) h e = differ_terms ws w u v h
-  differ_at (typed k t) h e = absurd (omega (arith, node.is_kind, h.reads.0, (sort_low k).0))
-  differ_at (absento a t) h e = absurd (omega (arith, node.is_kind, h.reads.0))
+  differ_at (typed k t) h e = absurd (omega (arith, ap kind_number e, node.is_kind, h.reads.0, (sort_low k).0))
+  differ_at (absento a t) h e = absurd (omega (arith, ap kind_number e, node.is_kind, h.reads.0))
 
-  pub absento_at : (c : Constraint) → KeepsAt ws w c → kind ≡ 9 → AbsentoAt ws w c
-  absento_at (differ u v) h e = absurd (omega (arith, node.is_kind, h.reads.0))
-  absento_at (typed k t) h e = absurd (omega (arith, node.is_kind, h.reads.0, (sort_low k).1))
+  pub absento_at : (c : Constraint) → KeepsAt ws w c → kind ≡ Absento → AbsentoAt ws w c
+  absento_at (differ u v) h e = absurd (omega (arith, ap kind_number e, node.is_kind, h.reads.0))
+  absento_at (typed k t) h e = absurd (omega (arith, ap kind_number e, node.is_kind, h.reads.0, (sort_low k).1))
   absento_at (absento a t) h e = record { tag = a; term = t; is = refl; keeps = h }
 
-  pub typed_at : (c : Constraint) → KeepsAt ws w c → ¬ (kind ≡ 6) → ¬ (kind ≡ 9) → TypedAt ws w c kind
-  typed_at (differ u v) h n m = absurd (n (node.is_kind ∙ h.reads.0))
+  pub typed_at : (c : Constraint) → KeepsAt ws w c → ¬ (kind ≡ Differ) → ¬ (kind ≡ Absento) → TypedAt ws w c (kind_number kind)
+  typed_at (differ u v) h n m = absurd (kind_number_other kind Differ n (node.is_kind ∙ h.reads.0))
   typed_at (typed k t) h n m = record { sort = k; term = t; is = refl; is_kind = node.is_kind ∙ h.reads.0; stands = typed_term ws w k t h }
-  typed_at (absento a t) h n m = absurd (m (node.is_kind ∙ h.reads.0))
+  typed_at (absento a t) h n m = absurd (kind_number_other kind Absento m (node.is_kind ∙ h.reads.0))
 
--- the sort by its kind
-symbols_kind : (k : Sort) → sort_kind k ≡ 7 → k ≡ symbols
-symbols_kind symbols e = refl
-symbols_kind numbers e = absurd (omega arith)
+  -- by its sort
+  pub symbolo_at : (c : Constraint) → KeepsAt ws w c → kind ≡ Symbolo → SortAt ws w c symbols
+  symbolo_at (differ u v) h e = absurd (omega (arith, ap kind_number e, node.is_kind, h.reads.0))
+  symbolo_at (typed symbols t) h e = record { term = t; is = refl; stands = typed_term ws w symbols t h }
+  symbolo_at (typed numbers t) h e = absurd (omega (arith, ap kind_number e, node.is_kind, h.reads.0))
+  symbolo_at (absento a t) h e = absurd (omega (arith, ap kind_number e, node.is_kind, h.reads.0))
 
-numbers_kind : (k : Sort) → ¬ (sort_kind k ≡ 7) → k ≡ numbers
-numbers_kind symbols n = absurd (n refl)
-numbers_kind numbers n = refl
-
-pub symbols_are : {ws : List ℕ} {w : ℕ} {c : Constraint} {kind : ℕ} (t : TypedAt ws w c kind) → kind ≡ 7 → (1 ≡ atom_kind t.sort) × (8 ≡ other_kind t.sort)
-symbols_are t e = let q : t.sort ≡ symbols = symbols_kind t.sort (sym t.is_kind ∙ e) in (rw q refl, rw q refl)
-
-pub numbers_are : {ws : List ℕ} {w : ℕ} {c : Constraint} {kind : ℕ} (t : TypedAt ws w c kind) → ¬ (kind ≡ 7) → (2 ≡ atom_kind t.sort) × (7 ≡ other_kind t.sort)
-numbers_are t n = let q : t.sort ≡ numbers = numbers_kind t.sort (λ z. n (t.is_kind ∙ z)) in (rw q refl, rw q refl)
+  pub numbero_at : (c : Constraint) → KeepsAt ws w c → ¬ (kind ≡ Differ) → ¬ (kind ≡ Absento) → ¬ (kind ≡ Symbolo) → SortAt ws w c numbers
+  numbero_at (differ u v) h n m l = absurd (kind_number_other kind Differ n (node.is_kind ∙ h.reads.0))
+  numbero_at (typed symbols t) h n m l = absurd (kind_number_other kind Symbolo l (node.is_kind ∙ h.reads.0))
+  numbero_at (typed numbers t) h n m l = record { term = t; is = refl; stands = typed_term ws w numbers t h }
+  numbero_at (absento a t) h n m l = absurd (kind_number_other kind Absento m (node.is_kind ∙ h.reads.0))
 
 -- The search for the other type
+
+eqb_turned : (x y : ℕ) → eqb x y ≡ eqb y x
+eqb_turned x y = grind (arith, nat_tests)
 
 other_sort_kind : (k l : Sort) → sort_kind l ≡ other_kind k → other_sort k l ≡ true
 other_sort_kind symbols symbols e = absurd (omega arith)
@@ -124,45 +127,35 @@ other_sort_kind symbols numbers e = refl
 other_sort_kind numbers symbols e = refl
 other_sort_kind numbers numbers e = absurd (omega arith)
 
-same_sort_kind : (k l : Sort) → ¬ (sort_kind l ≡ other_kind k) → other_sort k l ≡ false
-same_sort_kind symbols symbols n = refl
-same_sort_kind symbols numbers n = absurd (n refl)
-same_sort_kind numbers symbols n = absurd (n refl)
-same_sort_kind numbers numbers n = refl
-
 other_low : (k : Sort) → (6 < other_kind k) × (other_kind k < 9)
 other_low symbols = omega arith
 other_low numbers = omega arith
 
-module _ {ws : List ℕ} {w bits kind p sought : ℕ} (node : PartRead ws w bits kind p) (bs : Substitution) (c : Constraint) (k : Sort) (x : ℕ) (h : KeepsAt ws w c) (is_sought : sought ≡ other_kind k) where
-  pub reaches_other : ¬ (kind ≡ sought) → false ≡ reaches bs k x c
-  reaches_other n = go c h
-    where
-      go : (c : Constraint) → KeepsAt ws w c → false ≡ reaches bs k x c
-      go (differ u v) h = refl
-      go (typed l t) h = rw (same_sort_kind k l (λ z. n (node.is_kind ∙ h.reads.0 ∙ z ∙ sym is_sought))) refl
-      go (absento a t) h = refl
+module _ {ws : List ℕ} {w bits p : ℕ} {kind sought : Kind} (node : PartRead ws w bits (kind_number kind) p) (bs : Substitution) (c : Constraint) (k : Sort) (x : ℕ) (h : KeepsAt ws w c) (is_sought : kind_number sought ≡ other_kind k) (e : kind ≡ sought) where
+  is_other : kind_number kind ≡ other_kind k
+  is_other = ap kind_number e ∙ is_sought
 
-  pub reached : kind ≡ sought → TypedAt ws w c kind
-  reached e = typed_at node c h (λ z. omega (arith, (other_low k).0)) (λ z. omega (arith, (other_low k).1))
+  pub reached : TypedAt ws w c (kind_number kind)
+  reached = typed_at node c h (λ z. omega (arith, ap kind_number z, is_other, (other_low k).0)) (λ z. omega (arith, ap kind_number z, is_other, (other_low k).1))
 
-  reached_is : (e : kind ≡ sought) → reaches bs k x c ≡ is_var x (walk bs (reached e).term)
-  reached_is e = ap (reaches bs k x) (reached e).is ∙ rw (other_sort_kind k (reached e).sort (sym (reached e).is_kind ∙ e ∙ is_sought)) refl
+  -- its term, followed
+  module _ {s : List ℕ} {v : Walked} (held : Binds ws s bs) (to : WalkedTo ws s (w + 1) v) where
+    there : Stands ws v.at (walk bs reached.term)
+    there = to.stands bs reached.term (record { binds = held; stands = reached.stands })
 
-  module _ (e : kind ≡ sought) {q bits' kind' p' : ℕ} (at_q : Stands ws q (walk bs (reached e).term)) (here : PartRead ws q bits' kind' p') where
-    pub reaches_no_variable : ¬ (kind' ≡ 0) → false ≡ reaches bs k x c
-    reaches_no_variable n = sym (reached_is e ∙ go (walk bs (reached e).term) at_q)
+    reached_is : reaches bs k x c ≡ is_var x (walk bs reached.term)
+    reached_is = ap (reaches bs k x) reached.is ∙ rw (other_sort_kind k reached.sort (sym reached.is_kind ∙ is_other)) refl
+
+    pub reaches_no_variable : ¬ (v.kind ≡ Variable) → false ≡ reaches bs k x c
+    reaches_no_variable n = sym (reached_is ∙ go (walk bs reached.term) there)
       where
-        go : (t : Term) → Stands ws q t → is_var x t ≡ false
-        go (var y) s = absurd (n (here.is_kind ∙ s.reads.0))
+        go : (t : Term) → Stands ws v.at t → is_var x t ≡ false
+        go (var y) s = absurd (kind_number_other v.kind Variable n (to.node.is_kind ∙ s.reads.0))
         go (atom a) s = refl
         go (pair a b) s = refl
 
-    pub reaches_another : {y : ℕ} → y ≡ base_of q + p' → kind' ≡ 0 → ¬ (y ≡ x) → false ≡ reaches bs k x c
-    reaches_another i z n = let o = open_at here (walk bs (reached e).term) at_q z in sym (reached_is e ∙ ap (is_var x) o.is ∙ ne_eqb x o.number (λ y. n (i ∙ o.number_is ∙ sym y)))
-
-    pub reaches_it : {y : ℕ} → y ≡ base_of q + p' → kind' ≡ 0 → y ≡ x → true ≡ reaches bs k x c
-    reaches_it i z y = let o = open_at here (walk bs (reached e).term) at_q z in sym (reached_is e ∙ ap (is_var x) o.is ∙ eq-eqb x o.number (sym y ∙ i ∙ o.number_is))
+    pub reaches_open : {y : ℕ} → y ≡ base_of v.at + v.payload → v.kind ≡ Variable → eqb y x ≡ reaches bs k x c
+    reaches_open {y} i z = let o = open_at to.node (walk bs reached.term) there (ap kind_number z) in sym (reached_is ∙ ap (is_var x) o.is ∙ ap (eqb x) (sym (i ∙ o.number_is)) ∙ eqb_turned x y)
 
 -- the loop over the constraints kept
 pub record Clashing (ws s : List ℕ) (bs : Substitution) (cs : List Constraint) (k : Sort) (x kept i : ℕ) : Type 0 where
@@ -170,9 +163,6 @@ pub record Clashing (ws s : List ℕ) (bs : Substitution) (cs : List Constraint)
   pub kept_in : KeptIn ws s i later
   pub count : i + length later ≡ kept
   pub same : clashes bs k x cs ≡ clashes bs k x later
-
-pub clashing_start : {ws s : List ℕ} {bs : Substitution} {cs : List Constraint} {trail kept : ℕ} (k : Sort) (x : ℕ) → ConstraintsHeld ws s bs cs trail kept → Clashing ws s bs cs k x kept 0
-clashing_start {cs = cs} k x h = record { later = cs; kept_in = h.kept_in; count = omega (arith, h.kept_is); same = refl }
 
 pub record ClashNext (ws s : List ℕ) (bs : Substitution) (cs : List Constraint) (k : Sort) (x kept i : ℕ) : Type 0 where
   pub first : Constraint
@@ -202,70 +192,17 @@ clash_none {bs = bs} {cs = cs} {k = k} {x = x} {kept = kept} {i = i} g le = sym 
     go [] e = refl
     go (c ∷ later) e = absurd (omega arith)
 
--- A type's review
-
-module _ {ws : List ℕ} {q bits kind p : ℕ} (node : PartRead ws q bits kind p) (bs : Substitution) (cs : List Constraint) (k : Sort) (f : Term) (at_q : Stands ws q f) (left : ℕ) where
-  pub type_open : {x : ℕ} → x ≡ base_of q + p → kind ≡ 0 → {r : Bool} → r ≡ clashes bs k x cs → sort_fails bs cs k f ≡ r
-  type_open i e c = let o = open_at node f at_q e in ap (sort_fails bs cs k) o.is ∙ ap (λ y. clashes bs k y cs) (sym (i ∙ o.number_is)) ∙ sym c
-
-  pub says_fails : sort_fails bs cs k f ≡ true → done (sort_fails bs cs k f) left ≡ review_says (Fails left)
-  unfolding review_says
-  says_fails e = ap (λ b. done b left) e
-
-  pub says_holds : sort_fails bs cs k f ≡ false → done (sort_fails bs cs k f) left ≡ review_says (Holds left)
-  unfolding review_says
-  says_holds e = ap (λ b. done b left) e
-
-  pub type_atom : {a : ℕ} → a ≡ atom_kind k → ¬ (kind ≡ 0) → kind ≡ a → sort_fails bs cs k f ≡ false
-  type_atom {a} is-a n e = go k f at_q is-a
-    where
-      go : (k : Sort) (f : Term) → Stands ws q f → a ≡ atom_kind k → sort_fails bs cs k f ≡ false
-      go k (var x) s i = absurd (n (node.is_kind ∙ s.reads.0))
-      go symbols (atom (symbol y)) s i = refl
-      go symbols (atom (number y)) s i = absurd (omega (arith, s.reads.0.0, node.is_kind))
-      go symbols (atom empty) s i = absurd (omega (arith, s.reads.0.0, node.is_kind))
-      go numbers (atom (symbol y)) s i = absurd (omega (arith, s.reads.0.0, node.is_kind))
-      go numbers (atom (number y)) s i = refl
-      go numbers (atom empty) s i = absurd (omega (arith, s.reads.0.0, node.is_kind))
-      go symbols (pair u v) s i = absurd (omega (arith, s.reads.0, node.is_kind))
-      go numbers (pair u v) s i = absurd (omega (arith, s.reads.0, node.is_kind))
-
-  pub type_other : {a : ℕ} → a ≡ atom_kind k → ¬ (kind ≡ 0) → ¬ (kind ≡ a) → sort_fails bs cs k f ≡ true
-  type_other {a} is-a n m = go k f at_q is-a
-    where
-      go : (k : Sort) (f : Term) → Stands ws q f → a ≡ atom_kind k → sort_fails bs cs k f ≡ true
-      go k (var x) s i = absurd (n (node.is_kind ∙ s.reads.0))
-      go symbols (atom (symbol y)) s i = absurd (m (node.is_kind ∙ s.reads.0.0 ∙ sym i))
-      go symbols (atom (number y)) s i = refl
-      go symbols (atom empty) s i = refl
-      go numbers (atom (symbol y)) s i = refl
-      go numbers (atom (number y)) s i = absurd (m (node.is_kind ∙ s.reads.0.0 ∙ sym i))
-      go numbers (atom empty) s i = refl
-      go symbols (pair u v) s i = refl
-      go numbers (pair u v) s i = refl
-
 -- An absento's review
 
-module _ {ws s : List ℕ} {w bits kind p : ℕ} (left : ℕ) (node : PartRead ws (w + 1) bits kind p) (r : Scanned) (told : (bs : Substitution) (t : Term) → Follows ws s bs (w + 2) t → ScanAs bits bs t 0 left r)
-    (bs : Substitution) (a : Atom) (t : Term) (held : Binds ws s bs) (h : KeepsAt ws w (absento a t)) where
-  absento_is : scan (is_atom a) bs [] t left ≡ scan_says r [] (λ us u l. scan (is_atom a) bs us u l)
-  absento_is = told bs t (record { binds = held; stands = absento_term ws w a t h }) (is_atom a) [] (atom_sought bits a (absento_tag ws w a t h node)) refl
-
-  pub absento_fails : {rest : ℕ} → r ≡ scanned.Found rest → scan (is_atom a) bs [] t left ≡ review_says (Fails rest)
-  unfolding scan_says review_says
-  absento_fails e = rw e at absento_is
-
-  pub absento_holds : {rest : ℕ} → r ≡ scanned.Clear rest → scan (is_atom a) bs [] t left ≡ review_says (Holds rest)
-  unfolding scan_says review_says
-  absento_holds e = rw e at absento_is
-
-  pub absento_steps : r ≡ scanned.StepsOut → scan (is_atom a) bs [] t left ≡ review_says StepsOut
-  unfolding scan_says review_says
-  absento_steps e = rw e at absento_is
-
-  pub absento_path : {rest : ℕ} → r ≡ scanned.WaitingOut rest → scan (is_atom a) bs [] t left ≡ review_says (WaitingOut rest)
-  unfolding scan_says review_says
-  absento_path e = rw e at absento_is
+pub absento_says : {ws s : List ℕ} {w bits kind p : ℕ} (left : ℕ) → PartRead ws (w + 1) bits kind p → (r : Result (Bool × ℕ) Stopped) → ((bs : Substitution) (t : Term) → Follows ws s bs (w + 2) t → ScanAs bits bs t 0 left r)
+    → (bs : Substitution) (a : Atom) (t : Term) → Constrains ws s bs w (absento a t) → scan (is_atom a) bs [] t left ≡ outcome r
+unfolding scan_says
+absento_says {ws} {w = w} {bits} left node r told bs a t h = go r (told bs t (record { binds = h.held; stands = absento_term ws w a t h.keeps }) (is_atom a) [] (atom_sought bits a (absento_tag ws w a t h.keeps node)) refl)
+  where
+    go : (r : Result (Bool × ℕ) Stopped) → scan (is_atom a) bs [] t left ≡ scan_says r [] (λ us u l. scan (is_atom a) bs us u l) → scan (is_atom a) bs [] t left ≡ outcome r
+    go (Ok (true, rest)) e = e
+    go (Ok (false, rest)) e = e
+    go (Err stopped) e = e
 
 -- A differ's review: the trial is undone
 
@@ -274,88 +211,41 @@ pub record Trial (ws s₁ : List ℕ) (bs : Substitution) (trail n : ℕ) : Type
   pub new : Substitution
   pub trailed : Trailed ws s₁ new bs trail n
 
-went_trial : {ws s : List ℕ} {bs : Substitution} {s₁ : List ℕ} {trail n : ℕ} → trail ≡ length bs → Went ws s bs s₁ n → Trial ws s₁ bs trail n
-went_trial {ws} {s} {bs} {s₁} e w = record { new = w.new; trailed = record { long = w.held.long; bindings_in = subst (BindingsIn ws s₁) w.grows w.held.bindings_in; mark_is = e; trail_is = w.trail_is ∙ ap length w.grows } }
-
 module _ {ws s : List ℕ} {bs : Substitution} {a : ℕ} {u : Term} {b : ℕ} {v : Term} {trail : ℕ} (left : ℕ) (m : TwoTerms ws s bs a u b v trail) (s₁ : List ℕ) (r : Unified) (told : UnifiedAs ws s s₁ bs (unify_terms bs u v left) r) where
-  pub trial_joined : {n rest : ℕ} → r ≡ unified.Joined n rest → Trial ws s₁ bs trail n
-  unfolding UnifiedAs
-  trial_joined e = went_trial m.trail_is (rw e at told).0
+  pub trial : Trial ws s₁ bs trail r.trail
+  trial = let w = told.0 in record { new = w.new; trailed = record { long = w.held.long; bindings_in = subst (BindingsIn ws s₁) w.grows w.held.bindings_in; mark_is = m.trail_is; trail_is = w.trail_is ∙ ap length w.grows } }
 
-  pub trial_failed : {n rest : ℕ} → r ≡ unified.Failed n rest → Trial ws s₁ bs trail n
-  unfolding UnifiedAs
-  trial_failed e = went_trial m.trail_is (rw e at told).0
+  module _ (s₂ : List ℕ) (undone : (ws : List ℕ) (new bs : Substitution) → Trailed ws s₁ new bs trail r.trail → Undone ws s₁ s₂ bs) where
+    taken_back : (o : Result (Bool × ℕ) Stopped) → and_then (unify_terms bs u v left) (λ p l. done (trial_fails bs p) l) ≡ outcome o → ReviewedAs ws s s₂ bs (and_then (unify_terms bs u v left) (λ p l. done (trial_fails bs p) l)) o
+    taken_back o e = let b = undone ws trial.new bs trial.trailed in record { says = e; bindings_in = b.bindings_in; apart = apart_trans told.0.apart (undone_apart b) }
 
-  pub trial_stepped : {n : ℕ} → r ≡ unified.StepsOut n → Trial ws s₁ bs trail n
-  unfolding UnifiedAs
-  trial_stepped e = went_trial m.trail_is (rw e at told).0
+    pub differ_stops : (e : Stopped) → r.outcome ≡ Err e → ReviewedAs ws s s₂ bs (and_then (unify_terms bs u v left) (λ p l. done (trial_fails bs p) l)) (Err e)
+    differ_stops e i = taken_back (Err e) (rw (told.1, i))
 
-  pub trial_pathed : {n rest : ℕ} → r ≡ unified.WaitingOut n rest → Trial ws s₁ bs trail n
-  unfolding UnifiedAs
-  trial_pathed e = went_trial m.trail_is (rw e at told).0
+    module _ (joined : Bool) (rest : ℕ) (i : r.outcome ≡ Ok (joined, rest)) where
+      pub differ_joined : joined ≡ true → ReviewedAs ws s s₂ bs (and_then (unify_terms bs u v left) (λ p l. done (trial_fails bs p) l)) (Ok (eqb r.trail trail, rest))
+      differ_joined e = taken_back (Ok (eqb r.trail trail, rest)) (rw (told.1, i, e, told.0.trail_is, m.trail_is))
 
-  abbrev says : Reviewed → List ℕ → Type 0
-  says o s₂ = ReviewedAs ws s s₂ bs (and_then (unify_terms bs u v left) (λ p l. done (trial_fails bs p) l)) o
-
-  module _ (s₂ : List ℕ) (n : ℕ) (undone : (ws : List ℕ) (new bs : Substitution) → Trailed ws s₁ new bs trail n → Undone ws s₁ s₂ bs) where
-    back : Trial ws s₁ bs trail n → Undone ws s₁ s₂ bs
-    back t = undone ws t.new bs t.trailed
-
-    pub differ_fails : {rest : ℕ} → r ≡ unified.Joined n rest → n ≡ trail → says (Fails rest) s₂
-    unfolding UnifiedAs review_says
-    differ_fails {rest} e z =
-        let q : (w : Went ws s bs s₁ n) × (unify_terms bs u v left ≡ done (some w.next) rest) = rw e at told in
-        let y : eqb (length q.0.next) (length bs) ≡ true = eq-eqb (length q.0.next) (length bs) (sym q.0.trail_is ∙ z ∙ m.trail_is) in
-        let o = back (trial_joined e) in
-        record { says = rw (q.1, y); bindings_in = o.bindings_in; apart = apart_trans q.0.apart (undone_apart o) }
-
-    pub differ_holds : {rest : ℕ} → r ≡ unified.Joined n rest → ¬ (n ≡ trail) → says (Holds rest) s₂
-    unfolding UnifiedAs review_says
-    differ_holds {rest} e z =
-        let q : (w : Went ws s bs s₁ n) × (unify_terms bs u v left ≡ done (some w.next) rest) = rw e at told in
-        let y : eqb (length q.0.next) (length bs) ≡ false = ne_eqb (length q.0.next) (length bs) (λ x. z (q.0.trail_is ∙ x ∙ sym m.trail_is)) in
-        let o = back (trial_joined e) in
-        record { says = rw (q.1, y); bindings_in = o.bindings_in; apart = apart_trans q.0.apart (undone_apart o) }
-
-    pub differ_clash : {rest : ℕ} → r ≡ unified.Failed n rest → says (Holds rest) s₂
-    unfolding UnifiedAs review_says
-    differ_clash {rest} e =
-        let q : (w : Went ws s bs s₁ n) × (unify_terms bs u v left ≡ done none rest) = rw e at told in
-        let o = back (trial_failed e) in
-        record { says = rw q.1; bindings_in = o.bindings_in; apart = apart_trans q.0.apart (undone_apart o) }
-
-    pub differ_steps : r ≡ unified.StepsOut n → says StepsOut s₂
-    unfolding UnifiedAs review_says
-    differ_steps e =
-        let q : (w : Went ws s bs s₁ n) × (unify_terms bs u v left ≡ stop no_steps 0) = rw e at told in
-        let o = back (trial_stepped e) in
-        record { says = rw q.1; bindings_in = o.bindings_in; apart = apart_trans q.0.apart (undone_apart o) }
-
-    pub differ_path : {rest : ℕ} → r ≡ unified.WaitingOut n rest → says (WaitingOut rest) s₂
-    unfolding UnifiedAs review_says
-    differ_path {rest} e =
-        let q : (w : Went ws s bs s₁ n) × (unify_terms bs u v left ≡ stop (at_bound waiting) rest) = rw e at told in
-        let o = back (trial_pathed e) in
-        record { says = rw q.1; bindings_in = o.bindings_in; apart = apart_trans q.0.apart (undone_apart o) }
+      pub differ_failed : joined ≡ false → ReviewedAs ws s s₂ bs (and_then (unify_terms bs u v left) (λ p l. done (trial_fails bs p) l)) (Ok (joined, rest))
+      differ_failed e = taken_back (Ok (joined, rest)) (rw (told.1, i, e))
 
 -- One review, whatever its kind
 
 module _ {ws s : List ℕ} {bs : Substitution} {cs : List Constraint} {trail kept : ℕ} (h : ConstraintsHeld ws s bs cs trail kept) (c : Constraint) (steps : ℕ) where
-  pub review_none : steps ≡ 0 → ReviewedAs ws s s bs (review bs cs c steps) StepsOut
-  unfolding review_says
+  pub review_none : steps ≡ 0 → ReviewedAs ws s s bs (review bs cs c steps) (Err no_steps)
   review_none z = record { says = ap (review bs cs c) z; bindings_in = h.held.bindings_in; apart = apart_same s }
 
   review_step : ¬ (steps ≡ 0) → (d : Constraint) → c ≡ d → review bs cs c steps ≡ reviewed bs cs d (steps - 1)
   review_step n d e = let z : steps ≡ suc (steps - 1) = omega arith in ap (λ y. review bs cs y steps) e ∙ ap (review bs cs d) z
 
-  pub review_differ : ¬ (steps ≡ 0) → (u v : Term) → c ≡ differ u v → (s' : List ℕ) (r : Reviewed) → ReviewedAs ws s s' bs (and_then (unify_terms bs u v (steps - 1)) (λ p l. done (trial_fails bs p) l)) r → ReviewedAs ws s s' bs (review bs cs c steps) r
+  pub review_differ : ¬ (steps ≡ 0) → (u v : Term) → c ≡ differ u v → (s' : List ℕ) (r : Result (Bool × ℕ) Stopped) → ReviewedAs ws s s' bs (and_then (unify_terms bs u v (steps - 1)) (λ p l. done (trial_fails bs p) l)) r → ReviewedAs ws s s' bs (review bs cs c steps) r
   review_differ n u v e s' r q = record { says = review_step n (differ u v) e ∙ q.says; bindings_in = q.bindings_in; apart = q.apart }
 
-  pub review_absento : ¬ (steps ≡ 0) → (a : Atom) (t : Term) → c ≡ absento a t → (r : Reviewed) → scan (is_atom a) bs [] t (steps - 1) ≡ review_says r → ReviewedAs ws s s bs (review bs cs c steps) r
+  pub review_absento : ¬ (steps ≡ 0) → (a : Atom) (t : Term) → c ≡ absento a t → (r : Result (Bool × ℕ) Stopped) → scan (is_atom a) bs [] t (steps - 1) ≡ outcome r → ReviewedAs ws s s bs (review bs cs c steps) r
   review_absento n a t e r q = record { says = review_step n (absento a t) e ∙ q; bindings_in = h.held.bindings_in; apart = apart_same s }
 
-  pub review_typed : ¬ (steps ≡ 0) → (k : Sort) (t : Term) → c ≡ typed k t → (r : Reviewed) → done (sort_fails bs cs k (walk bs t)) (steps - 1) ≡ review_says r → ReviewedAs ws s s bs (review bs cs c steps) r
-  review_typed n k t e r q = record { says = review_step n (typed k t) e ∙ q; bindings_in = h.held.bindings_in; apart = apart_same s }
+  pub review_typed : ¬ (steps ≡ 0) → (k : Sort) (t : Term) → c ≡ typed k t → {fails : Bool} → fails ≡ sort_fails bs cs k (walk bs t) → ReviewedAs ws s s bs (review bs cs c steps) (Ok (fails, steps - 1))
+  review_typed n k t e q = record { says = review_step n (typed k t) e ∙ ap (λ (b : Bool). done b (steps - 1)) (sym q); bindings_in = h.held.bindings_in; apart = apart_same s }
 
 -- All reviews
 
@@ -377,12 +267,8 @@ pub record Reviewing (ws s₀ : List ℕ) (bs : Substitution) (cs : List Constra
   pub count : i + length later ≡ kept
   pub same : review_all bs cs cs steps ≡ review_all bs cs later left
 
-pub reviewing_start : {ws s : List ℕ} {bs : Substitution} {cs : List Constraint} {trail kept : ℕ} (steps : ℕ) → ConstraintsHeld ws s bs cs trail kept → Reviewing ws s bs cs trail kept steps s 0 steps
-reviewing_start {s = s} {cs = cs} steps h = record { whole = h; apart = apart_same s; later = cs; kept_in = h.kept_in; count = omega (arith, h.kept_is); same = refl }
-
 module _ {ws s₀ : List ℕ} {bs : Substitution} {cs : List Constraint} {trail kept steps : ℕ} {s : List ℕ} {i left : ℕ} (g : Reviewing ws s₀ bs cs trail kept steps s i left) where
-  pub reviews_end : kept ≤ i → ReviewedAs ws s₀ s bs (review_all bs cs cs steps) (Holds left)
-  unfolding review_says
+  pub reviews_end : kept ≤ i → ReviewedAs ws s₀ s bs (review_all bs cs cs steps) (Ok (false, left))
   reviews_end le = record { says = g.same ∙ go g.later g.count; bindings_in = g.whole.held.bindings_in; apart = g.apart }
     where
       go : (later : List Constraint) → i + length later ≡ kept → review_all bs cs later left ≡ done false left
@@ -402,39 +288,43 @@ module _ {ws s₀ : List ℕ} {bs : Substitution} {cs : List Constraint} {trail 
       go [] e h n = absurd (omega arith)
       go (c ∷ later) e h n = record { first = c; others = later; is = e; keeps = h.0 }
 
-  module _ (n : Next) (s' : List ℕ) (r : Reviewed) (told : ReviewedAs ws s s' bs (review bs cs n.first left) r) where
+  -- what the review of the next one came to
+  module _ (lt : i < kept) (s' : List ℕ) where
+    n : Next
+    n = reviews_next lt
+
+    abbrev pub Told : Result (Bool × ℕ) Stopped → Type 0
+    Told r = (bs : Substitution) (cs : List Constraint) (c : Constraint) → Reviews ws s bs cs trail kept (at s (10240 + i)) c → ReviewedAs ws s s' bs (review bs cs c left) r
+
+    said : (r : Result (Bool × ℕ) Stopped) → Told r → ReviewedAs ws s s' bs (review bs cs n.first left) r
+    said r told = told bs cs n.first (record { whole = g.whole; keeps = n.keeps })
+
     then_is : (o : Outcome Bool) → review bs cs n.first left ≡ o → review_all bs cs cs steps ≡ and_then o (λ broken l. choose broken (λ _. done true l) (λ _. review_all bs cs n.others l))
     then_is o e = g.same ∙ ap (λ z. review_all bs cs z left) n.is ∙ ap (λ z. and_then z (λ broken l. choose broken (λ _. done true l) (λ _. review_all bs cs n.others l))) e
 
-    still : (o : Outcome Bool) (r : Reviewed) → o ≡ review_says r → review_all bs cs cs steps ≡ o → ReviewedAs ws s₀ s' bs (review_all bs cs cs steps) r
-    still o r e z = record { says = z ∙ e; bindings_in = told.bindings_in; apart = apart_trans g.apart told.apart }
+    pub review_stops : (stopped : Stopped) → Told (Err stopped) → ReviewedAs ws s₀ s' bs (review_all bs cs cs steps) (Err stopped)
+    review_stops stopped told = let y = said (Err stopped) told in record { says = then_is (stops stopped) y.says; bindings_in = y.bindings_in; apart = apart_trans g.apart y.apart }
 
-    pub review_breaks : {rest : ℕ} → r ≡ Fails rest → ReviewedAs ws s₀ s' bs (review_all bs cs cs steps) (Fails rest)
-    unfolding review_says
-    review_breaks {rest} e = still (done true rest) (Fails rest) refl (then_is (done true rest) (rw e at told.says))
+    module _ (fails : Bool) (rest : ℕ) (told : Told (Ok (fails, rest))) where
+      now : ReviewedAs ws s s' bs (review bs cs n.first left) (Ok (fails, rest))
+      now = said (Ok (fails, rest)) told
 
-    pub review_stops : r ≡ StepsOut → ReviewedAs ws s₀ s' bs (review_all bs cs cs steps) StepsOut
-    unfolding review_says
-    review_stops e = still (stop no_steps 0) StepsOut refl (then_is (stop no_steps 0) (rw e at told.says))
+      says : (b : Bool) → fails ≡ b → review bs cs n.first left ≡ done b rest
+      says b e = now.says ∙ ap (λ b. done b rest) e
 
-    pub review_bound : {rest : ℕ} → r ≡ WaitingOut rest → ReviewedAs ws s₀ s' bs (review_all bs cs cs steps) (WaitingOut rest)
-    unfolding review_says
-    review_bound {rest} e = still (stop (at_bound waiting) rest) (WaitingOut rest) refl (then_is (stop (at_bound waiting) rest) (rw e at told.says))
+      pub review_breaks : fails ≡ true → ReviewedAs ws s₀ s' bs (review_all bs cs cs steps) (Ok (true, rest))
+      review_breaks e = record { says = then_is (done true rest) (says true e); bindings_in = now.bindings_in; apart = apart_trans g.apart now.apart }
 
-    pub review_again : {rest : ℕ} → r ≡ Holds rest → Reviewing ws s₀ bs cs trail kept steps s' (i + 1) rest
-    unfolding review_says
-    review_again {rest} e =
-        let l : length g.later ≡ suc (length n.others) = ap length n.is in
-        let w : KeptIn ws s i (n.first ∷ n.others) = subst (KeptIn ws s i) n.is g.kept_in in
-        let z : suc i ≡ i + 1 = omega arith in
-        record {
-          whole = kept_again told.apart told.bindings_in g.whole;
-          apart = apart_trans g.apart told.apart;
-          later = n.others;
-          kept_in = kept_same ws s s' (i + 1) n.others (λ j lo hi. told.apart.middle j (omega arith) (omega (arith, g.count, g.whole.few))) (rw z at w.1);
-          count = omega (arith, g.count);
-          same = then_is (done false rest) (rw e at told.says);
-        }
-
-    pub review_long : length s' ≡ length s₀
-    review_long = told.apart.long ∙ g.apart.long
+      pub review_again : fails ≡ false → Reviewing ws s₀ bs cs trail kept steps s' (i + 1) rest
+      review_again e =
+          let l : length g.later ≡ suc (length n.others) = ap length n.is in
+          let w : KeptIn ws s i (n.first ∷ n.others) = subst (KeptIn ws s i) n.is g.kept_in in
+          let z : suc i ≡ i + 1 = omega arith in
+          record {
+            whole = kept_again now.apart now.bindings_in g.whole;
+            apart = apart_trans g.apart now.apart;
+            later = n.others;
+            kept_in = kept_same ws s s' (i + 1) n.others (λ j lo hi. now.apart.middle j (omega arith) (omega (arith, g.count, g.whole.few))) (rw z at w.1);
+            count = omega (arith, g.count);
+            same = then_is (done false rest) (says false e);
+          }

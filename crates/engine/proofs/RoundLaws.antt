@@ -26,28 +26,23 @@ use Rattle.engine.specs.Layout.{positions}
 use Rattle.engine.specs.Reference.{pos_of}
 use Rattle.engine.specs.Memory.{Registers, Stored}
 use Rattle.engine.specs.Trail.{Undone}
-use Rattle.engine.specs.Report.{ran, end_says}
-use Rattle.engine.specs.Take.{PathHeld, RelationIs, OverAs, ResumedAs, BacktrackAs, with_counts, stop_of}
+use Rattle.std.specs.Prelude.{Result, Ok, Err, Option, Some, None}
+use Rattle.engine.specs.Report.{end_says}
+use Rattle.engine.specs.Steps.{stop_of}
+use Rattle.engine.specs.Take.{PathHeld, RelationIs, OverAs, ResumedAs, BacktrackAs, with_counts}
 use Rattle.engine.specs.Search.{Searching, counted_to, Answers, SearchedAs}
 use Rattle.engine.specs.Answer.{answer_says, AnswerStands, AnsweredAs}
-use Rattle.engine.specs.Rounds.{Clean, FilledAs, IndexAs, TallyAs, Starting, RoundedAs, Listing, Giving, GoesAs, AnswerGivenAs}
-use Rattle.engine.specs.declared.report.End.{End}
+use Rattle.engine.specs.Rounds.{Clean, FilledAs, IndexAs, TallyAs, Starting, BrokenAs, RoundedAs, Listing, Giving, GoesAs, LastAs, AnswerGivenAs}
 use Rattle.engine.specs.declared.report.End.TheVariants as ends
-use Rattle.engine.specs.declared.report.Bound.TheVariants.{Waiting}
+use Rattle.engine.specs.declared.steps.Stopped.{Stopped}
 use Rattle.engine.specs.declared.search.state.State.{State}
-use Rattle.engine.specs.declared.search.state.Stop.{Stop}
 use Rattle.engine.specs.declared.search.state.Searched.{Searched}
-use Rattle.engine.specs.declared.search.state.Searched.TheVariants.{Answer, Over, Stops}
-use Rattle.engine.specs.declared.search.state.Resumed.{Resumed}
-use Rattle.engine.specs.declared.search.state.Resumed.TheVariants as resumed
-use Rattle.engine.specs.declared.round.AnswerGiven.{AnswerGiven}
-use Rattle.engine.specs.declared.round.AnswerGiven.TheVariants.{Ends, Goes}
-use Rattle.engine.specs.declared.writer.answer.Answered.{Answered}
-use Rattle.engine.specs.declared.writer.answer.Answered.TheVariants.{Written, Full, StepsOut, WaitingOut}
+use Rattle.engine.specs.declared.search.state.Searched.TheVariants.{Answer, Over}
 use Rattle.engine.specs.declared.round.Filled.{Filled}
+use Rattle.engine.specs.declared.round.Given.{Given}
 use Rattle.engine.specs.declared.round.Tally as code
-use Rattle.engine.specs.declared.round.Rounded as code_rounded
-use Rattle.engine.specs.declared.round.Rounded.TheVariants.{Completed, Broken}
+use Rattle.engine.specs.declared.round.Completed.{Completed}
+use Rattle.engine.specs.declared.round.Broken.{Broken}
 use Rattle.engine.proofs.FrameLaws.{table_same, names_same}
 use Rattle.engine.proofs.StartLaws.{first_registers, start_stored}
 
@@ -125,34 +120,35 @@ fewer_left c h le e same = record {
 }
 
 -- a round of relation R, with this tally at its start
-abbrev pub RoundAs : List ℕ → Program → Relation → ℕ → Tally → List ℕ → List ℕ → code_rounded.Rounded → Type 0
+abbrev pub RoundAs : List ℕ → Program → Relation → ℕ → Tally → List ℕ → List ℕ → Result Completed Broken → Type 0
 RoundAs ws P R k a s output r = RoundedAs ws s output P (one_round P R k a.room a.left a.written) r
 
 -- The search has stopped, in s'.
 module _ {ws : List ℕ} {P : Program} {R : Relation} {k n : ℕ} {a : Tally} {s output : List ℕ} {st : State} {goal : ℕ} {f : Filled} {cuts : ℕ} (h : Rounding ws P R k n a s output st goal f cuts)
-    (s' : List ℕ) (r : Searched) (told : SearchedAs P h.well_formed n k ws s' h.state h.fuel r) where
+    (s' : List ℕ) (r : Result Searched Stopped) (told : SearchedAs P h.well_formed n k ws s' h.state h.fuel r) where
   fair : RoundedFair h.state.tally.left (h.state.tally.room + length (page h.state.tally.written)) (search P n k h.fuel h.state)
   fair = search_fair argument P n k _ h.fuel h.state h.enough refl
 
-  pub round_stops : {why : Stop} {l : ℕ} (d : End) → r ≡ Stops why l → end_says d ≡ ran (end_of (stop_of why)) → RoundAs ws P R k a s' output (Broken d (record { left = l; filled = f }))
+  pub round_stops : {e : Stopped} (b : Broken) → r ≡ Err e → (end_says b.end ≡ end_of (stop_of e.why)) × (b.tally ≡ record { left = e.left; filled = f }) → RoundAs ws P R k a s' output (Err b)
   unfolding SearchedAs RoundedAs
-  round_stops {why} {l} d e is =
-      let q : (c : ℕ) × (search P n k h.fuel h.state ≡ broken (end_of (stop_of why)) (counted_to h.state.tally l c)) = rw e at told in
-      let few : l ≤ h.state.tally.left = (fair_left _ _ _ _ fair).1 _ q.1 in
-      record { end = end_of (stop_of why); last = counted_to h.state.tally l q.0; is_round = h.same ∙ q.1; tally = fewer_left q.0 h.tally (omega (arith, few, h.tally.left)) refl refl; is_end = is }
+  round_stops {e} b is (is_end, is_tally) =
+      let (c, q) : (c : ℕ) × (search P n k h.fuel h.state ≡ broken (end_of (stop_of e.why)) (counted_to h.state.tally e.left c)) = rw is at told in
+      let few : e.left ≤ h.state.tally.left = (fair_left _ _ _ _ fair).1 _ q in
+      let last : Tally = counted_to h.state.tally e.left c in
+      record { end = end_of (stop_of e.why); last = last; is_round = h.same ∙ q; tally = subst (λ (t : code.Tally). TallyAs output t last) (sym is_tally) (fewer_left c h.tally (omega (arith, few, h.tally.left)) refl refl); is_end = is_end }
 
-  pub over_held : {last : State} {c : ℕ} → r ≡ Over last c → (p : Path) × PathHeld P ws s' last p []
+  pub over_held : {last : State} {c : ℕ} → r ≡ Ok (Over last c) → (p : Path) × PathHeld P ws s' last p []
   unfolding SearchedAs
   over_held {last} {c} e = let q : (search P n k h.fuel h.state ≡ completed (counted_to h.state.tally last.steps c)) × ((p : Path) × PathHeld P ws s' last p []) = rw e at told in q.1
 
-  pub round_over : {last : State} {c : ℕ} {s'' : List ℕ} → r ≡ Over last c → Clean ws s'' P → RoundAs ws P R k a s'' output (Completed (record { left = last.steps; filled = f }) c)
+  pub round_over : {last : State} {c : ℕ} {s'' : List ℕ} → r ≡ Ok (Over last c) → Clean ws s'' P → RoundAs ws P R k a s'' output (Ok (record { tally = record { left = last.steps; filled = f }; cuts = c }))
   unfolding SearchedAs RoundedAs
   round_over {last} {c} {s''} e clean =
       let q : (search P n k h.fuel h.state ≡ completed (counted_to h.state.tally last.steps c)) × ((p : Path) × PathHeld P ws s' last p []) = rw e at told in
       let few : last.steps ≤ h.state.tally.left = (fair_left _ _ _ _ fair).0 q.0 in
       record { last = counted_to h.state.tally last.steps c; is_round = h.same ∙ q.0; clean = clean; tally = fewer_left c h.tally (omega (arith, few, h.tally.left)) refl refl; index = same_index h.index; cuts_are = refl }
 
-  pub round_answers : {last : State} {c : ℕ} → r ≡ Answer last c → Answers P h.well_formed n k ws s' last c h.state h.fuel
+  pub round_answers : {last : State} {c : ℕ} → r ≡ Ok (Answer last c) → Answers P h.well_formed n k ws s' last c h.state h.fuel
   unfolding SearchedAs
   round_answers e = rw e at told
 
@@ -177,38 +173,45 @@ module _ {ws : List ℕ} {P : Program} {R : Relation} {k n : ℕ} {a : Tally} {s
   goes_on : {y : Next} → given_then ≡ y → one_round P R k a.room a.left a.written ≡ onward y (λ next. search P n k x.rest next)
   goes_on e = h.same ∙ x.same ∙ ap (λ y. onward y (λ next. search P n k x.rest next)) e
 
-  module _ (s'' output' : List ℕ) (g : AnswerGiven) (told : AnswerGivenAs P ws s'' output' last c given_then g) where
-    pub round_ends : {r : code_rounded.Rounded} → g ≡ Ends r → RoundAs ws P R k a s'' output' r
-    unfolding AnswerGivenAs
-    round_ends {r} e =
-        let q : (y : Rounded) × (given_then ≡ over y) × RoundedAs ws s'' output' P y r = rw e at told in
-        subst (λ y. RoundedAs ws s'' output' P y r) (sym (goes_on q.1)) q.2
+  module _ (s'' output' : List ℕ) where
+    pub round_lost : (b : Broken) → AnswerGivenAs P ws s'' output' last c given_then (Err b) → RoundAs ws P R k a s'' output' (Err b)
+    unfolding AnswerGivenAs RoundedAs
+    round_lost b told = subst (λ y. BrokenAs output' y b.end b.tally) (sym (goes_on told.is_next)) told.broken
 
-    pub round_goes : {next : State} {v : ℕ} {listed : Filled} → g ≡ Goes next v listed → Rounding ws P R k n a s'' output' next v listed c × (next.steps < st.steps)
-    unfolding AnswerGivenAs
-    round_goes {next} {v} {listed} e =
-        let q : GoesAs P ws s'' output' last c given_then next v listed = rw e at told in
-        let left_is : q.state.tally.left ≡ next.steps = sym q.tally.left in (
-          record {
-            well_formed = h.well_formed;
-            state = q.state;
-            fuel = x.rest;
-            under = record {
-              held = q.held;
-              task_at = q.task_at;
-              short = h.under.short;
-              left_is = left_is;
-              cuts_are = q.cuts_are;
-              fits = omega (arith, q.fewer, x.fits);
-              fine = x.next_fine q.state q.is_next;
-            };
-            enough = omega (arith, left_is, q.fewer, x.enough);
-            same = goes_on q.is_next;
-            tally = q.tally;
-            index = q.index;
-          },
-          omega (arith, q.fewer, x.fewer, h.tally.left),
-        )
+    module _ (g : Given) (told : AnswerGivenAs P ws s'' output' last c given_then (Ok g)) where
+      pub last_given : g.goal ≡ None → LastAs P ws s'' output' c given_then g.state g.filled
+      unfolding AnswerGivenAs
+      last_given e = rw e at told
+
+      pub round_done : {s''' : List ℕ} → g.goal ≡ None → Clean ws s''' P → RoundAs ws P R k a s''' output' (Ok (record { tally = record { left = g.state.steps; filled = g.filled }; cuts = c }))
+      unfolding RoundedAs
+      round_done e clean = let q = last_given e in record { last = q.last; is_round = goes_on q.is_next; clean = clean; tally = q.tally; index = q.index; cuts_are = sym q.cuts_are }
+
+      pub round_goes : {v : ℕ} → g.goal ≡ Some v → Rounding ws P R k n a s'' output' g.state v g.filled c × (g.state.steps < st.steps)
+      unfolding AnswerGivenAs
+      round_goes {v} e =
+          let q : GoesAs P ws s'' output' last c given_then g.state v g.filled = rw e at told in
+          let left_is : q.state.tally.left ≡ g.state.steps = sym q.tally.left in (
+            record {
+              well_formed = h.well_formed;
+              state = q.state;
+              fuel = x.rest;
+              under = record {
+                held = q.held;
+                task_at = q.task_at;
+                short = h.under.short;
+                left_is = left_is;
+                cuts_are = q.cuts_are;
+                fits = omega (arith, q.fewer, x.fits);
+                fine = x.next_fine q.state q.is_next;
+              };
+              enough = omega (arith, left_is, q.fewer, x.enough);
+              same = goes_on q.is_next;
+              tally = q.tally;
+              index = q.index;
+            },
+            omega (arith, q.fewer, x.fewer, h.tally.left),
+          )
 
 -- What comes of an answer: the writer has written it, or not.
 
@@ -218,15 +221,15 @@ stop_left m steps.no_steps l h = omega arith
 stop_left m (steps.at_bound b) l h = h.1
 
 module _ {P : Program} {ws s output : List ℕ} {st : State} {p : Path} {cs : List ChoicePoint} {n : ℕ} {f : Filled} {cuts : ℕ} {a : Tally} (g : Giving P ws s output st p cs n f cuts a) (k : ℕ)
-    {s' output' : List ℕ} {w : Answered} (same : length output' ≡ length output) (said : AnsweredAs P ws s output s' output' st p cs f.used (answer p n st.steps) w) where
+    {s' output' : List ℕ} {w : Result (Option ℕ × ℕ) Stopped} (same : length output' ≡ length output) (said : AnsweredAs P ws s output s' output' st p cs f.used (answer p n st.steps) w) where
   -- what the definition says of the answer, by the writer's case
-  answered : {x : Answered} → w ≡ x → answer p n st.steps ≡ answer_says said.words x
+  answered : {x : Result (Option ℕ × ℕ) Stopped} → w ≡ x → answer p n st.steps ≡ answer_says said.words x
   answered e = said.says ∙ ap (answer_says said.words) e
 
   abbrev given : Next
   given = give (once argument) n k cs a (answer p n st.steps)
 
-  abbrev pub Gave : List ℕ → List ℕ → AnswerGiven → Type 0
+  abbrev pub Gave : List ℕ → List ℕ → Result Given Broken → Type 0
   Gave s'' out x = AnswerGivenAs P ws s'' out st cuts given x
 
   spent : {o : Outcome (List ℕ)} → answer p n st.steps ≡ o → Spent st.steps st.steps o
@@ -236,26 +239,30 @@ module _ {P : Program} {ws s output : List ℕ} {st : State} {p : Path} {cs : Li
   given_as e = ap (give (once argument) n k cs a) e
 
   -- the round is broken off
-  breaks : (e : round.End) (d : End) (l : ℕ) → l ≤ st.steps → given ≡ over (broken e (spend a l)) → end_says d ≡ ran e → Gave s' output' (Ends (Broken d (record { left = l; filled = f })))
-  unfolding AnswerGivenAs RoundedAs
-  breaks e d l few q is = (broken e (spend a l), q, record { end = e; last = spend a l; is_round = refl; tally = fewer_left a.cuts g.tally few same said.leaves_lent.before; is_end = is })
+  breaks : (e : round.End) (l : ℕ) → l ≤ st.steps → given ≡ over (broken e (spend a l)) → (b : Broken) → end_says b.end ≡ e → b.tally ≡ record { left = l; filled = f } → Gave s' output' (Err b)
+  unfolding AnswerGivenAs
+  breaks e l few q b is_end is_tally = record {
+    round = broken e (spend a l);
+    is_next = q;
+    broken = record {
+      end = e;
+      last = spend a l;
+      is_round = refl;
+      tally = subst (λ (t : code.Tally). TallyAs output' t (spend a l)) (sym is_tally) (fewer_left a.cuts g.tally few same said.leaves_lent.before);
+      is_end = is_end;
+    };
+  }
 
-  pub gives_full : {l : ℕ} → w ≡ Full l → Gave s' output' (Ends (Broken ends.Output (record { left = l; filled = f })))
-  gives_full {l} e =
+  pub gives_full : {l : ℕ} → w ≡ Ok (None, l) → (b : Broken) → b ≡ record { end = ends.Output; tally = record { left = l; filled = f } } → Gave s' output' (Err b)
+  gives_full {l} e b is =
       let long : a.room < length said.words = omega (arith, said.full l e, g.tally.filled.room) in
-      breaks output_full ends.Output l (spent (answered e)) (given_as (answered e) ∙ rw (lt-leb (length said.words) a.room long) refl) refl
+      breaks output_full l (spent (answered e)) (given_as (answered e) ∙ rw (lt-leb (length said.words) a.room long) refl) b (ap (λ (b : Broken). end_says b.end) is) (ap (λ (b : Broken). b.tally) is)
 
-  stops : {why : steps.Stop} {l : ℕ} (d : End) → answer p n st.steps ≡ stop why l → end_says d ≡ ran (end_of why) → Gave s' output' (Ends (Broken d (record { left = l; filled = f })))
-  stops {why} {l} d q is = breaks (end_of why) d l (stop_left st.steps why l (spent q)) (given_as q) is
-
-  pub gives_steps_out : w ≡ StepsOut → Gave s' output' (Ends (Broken ends.Steps (record { left = 0; filled = f })))
-  gives_steps_out e = stops ends.Steps (answered e) refl
-
-  pub gives_path_out : {l : ℕ} → w ≡ WaitingOut l → Gave s' output' (Ends (Broken (ends.Path Waiting) (record { left = l; filled = f })))
-  gives_path_out e = stops (ends.Path Waiting) (answered e) refl
+  pub gives_stop : {e : Stopped} → w ≡ Err e → (b : Broken) → (end_says b.end ≡ end_of (stop_of e.why)) × (b.tally ≡ record { left = e.left; filled = f }) → Gave s' output' (Err b)
+  gives_stop {e} q b (is_end, is_tally) = breaks (end_of (stop_of e.why)) e.left (stop_left st.steps (stop_of e.why) e.left (spent (answered q))) (given_as (answered q)) b is_end is_tally
 
   -- It is written up to `next`, to be listed.
-  pub wrote : {next l : ℕ} → w ≡ Written next l → Listing output output' f next a said.words
+  pub wrote : {next l : ℕ} → w ≡ Ok (Some next, l) → Listing output output' f next a said.words
   wrote {next} {l} e = record { before = g.tally.filled; index = g.index; same_length = same; kept = said.leaves_lent.before; stands = said.written next l e; few = omega (arith, g.fits) }
 
   -- It is listed or left out: the path is left with the tally that follows.
@@ -267,7 +274,7 @@ module _ {P : Program} {ws s output : List ℕ} {st : State} {p : Path} {cs : Li
     pub fewer : l ≤ st.steps
     pub cuts_are : tally.cuts ≡ cuts
 
-  pub after_listing : {next l : ℕ} {output'' : List ℕ} {listed : Filled} → w ≡ Written next l → FilledAs output'' listed (list_answer (once argument) a k l said.words) × IndexAs output'' listed (list_answer (once argument) a k l said.words) → AfterListing output'' listed l
+  pub after_listing : {next l : ℕ} {output'' : List ℕ} {listed : Filled} → w ≡ Ok (Some next, l) → FilledAs output'' listed (list_answer (once argument) a k l said.words) × IndexAs output'' listed (list_answer (once argument) a k l said.words) → AfterListing output'' listed l
   after_listing {next} {l} {output''} {listed} e (filled, index) =
       let q : AnswerStands output output' f.used said.words next = said.written next l e in
       let fits : length said.words ≤ a.room = omega (arith, q.used_now, q.fits, g.tally.filled.room) in
@@ -298,16 +305,16 @@ module _ {P : Program} {ws s output : List ℕ} {st : State} {p : Path} {cs : Li
     tally_of : {m : ℕ} → m ≡ l → TallyAs output'' (record { left = m; filled = listed }) y.tally
     tally_of e = subst (λ z. TallyAs output'' (record { left = z; filled = listed }) y.tally) (sym e) y.tally_as
 
-    module _ (s'' : List ℕ) (r : Resumed) (told : BacktrackAs P ws s'' after y.tally (backtrack cs y.tally) r) where
-      pub none_left : r ≡ resumed.Over → OverAs P ws s'' after y.tally (backtrack cs y.tally)
-      unfolding BacktrackAs
-      none_left e = rw e at told
+    module _ (s'' : List ℕ) (r : Option (State × ℕ)) (told : BacktrackAs P ws s'' after y.tally (backtrack cs y.tally) r) where
+      -- no choice point is left ..
+      pub gives_last : r ≡ None → Gave s'' output'' (Ok (record { filled = listed; state = after; goal = None }))
+      unfolding BacktrackAs AnswerGivenAs
+      gives_last e =
+          let o : OverAs P ws s'' after y.tally (backtrack cs y.tally) = rw e at told in
+          record { last = y.tally; is_next = y.is_back ∙ o.says; path = o.path; held = o.held; tally = tally_of left_is; index = y.index; cuts_are = y.cuts_are }
 
-      pub gives_last : {s''' : List ℕ} → r ≡ resumed.Over → Clean ws s''' P → Gave s''' output'' (Ends (Completed (record { left = after.steps; filled = listed }) cuts))
-      unfolding AnswerGivenAs RoundedAs
-      gives_last e clean = (completed y.tally, y.is_back ∙ (none_left e).says, record { last = y.tally; is_round = refl; clean = clean; tally = tally_of left_is; index = y.index; cuts_are = sym y.cuts_are })
-
-      pub gives_next : {next : State} {v : ℕ} → r ≡ resumed.Goal next v → Gave s'' output'' (Goes next v listed)
+      -- .. or the round goes on from the newest
+      pub gives_next : {next : State} {v : ℕ} → r ≡ Some (next, v) → Gave s'' output'' (Ok (record { filled = listed; state = next; goal = Some v }))
       unfolding BacktrackAs AnswerGivenAs
       gives_next {next} {v} e =
           let b : ResumedAs P ws s'' after y.tally (backtrack cs y.tally) next v = rw e at told in

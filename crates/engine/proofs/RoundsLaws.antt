@@ -10,7 +10,8 @@ use Rattle.semantics.specs.Round as definition
 use Rattle.semantics.specs.Round.{Tally, Rounded, completed, broken, End, start, one_round, Result}
 use Rattle.semantics.specs.Run.{usable, page}
 use Rattle.semantics.proofs.Fair.{RoundedFair, search_fair}
-use Rattle.engine.specs.Report.{ran, end_says}
+use Rattle.std.specs.Prelude.{Ok, Err}
+use Rattle.engine.specs.Report.{end_says}
 use Rattle.engine.specs.Rounds.{RunReady, TallyAs, Starting, CompletedAs, BrokenAs, RoundedAs, Reported, ResultAs}
 use Rattle.engine.specs.declared.report.End as code_end
 use Rattle.engine.specs.declared.report.End.TheVariants.{Finished, Rounds}
@@ -18,8 +19,8 @@ use Rattle.engine.specs.declared.report.Report.{Report}
 use Rattle.engine.specs.Lines.{Wholes}
 use Rattle.engine.specs.declared.round.Filled.{Filled}
 use Rattle.engine.specs.declared.round.Tally as code_tally
-use Rattle.engine.specs.declared.round.Rounded as code_rounded
-use Rattle.engine.specs.declared.round.Rounded.TheVariants.{Completed, Broken}
+use Rattle.engine.specs.declared.round.Completed.{Completed}
+use Rattle.engine.specs.declared.round.Broken.{Broken}
 use Rattle.engine.proofs.RepeatsLaws.{indexed_none}
 
 -- a round only spends steps
@@ -104,7 +105,7 @@ next_rest steps P R zero k last_cut t n less z = absurd (omega arith)
 next_rest steps P R (suc later) k last_cut t n less z = let y : later ≡ less = omega arith in cuts_go steps t.cuts k t _ n ∙ ap (λ l. definition.rounds steps P R l (suc k) t.room t.left t.cuts t.written) y
 
 -- a result from an end, a tally and the cuts of the last completed round
-resulted : {output : List ℕ} {limit k cut last_cut : ℕ} {e : End} {b : Tally} {d : code_end.End} {t : code_tally.Tally} {r : Report} → TallyAs output t b → end_says d ≡ ran e → cut ≡ last_cut → Reported d k limit t cut r → ResultAs output (definition.result limit e k last_cut b) r
+resulted : {output : List ℕ} {limit k cut last_cut : ℕ} {e : End} {b : Tally} {d : code_end.End} {t : code_tally.Tally} {r : Report} → TallyAs output t b → end_says d ≡ e → cut ≡ last_cut → Reported d k limit t cut r → ResultAs output (definition.result limit e k last_cut b) r
 resulted {limit = limit} ta q z h = record {
   is_end = ap end_says h.is_end ∙ q;
   is_round = h.is_round;
@@ -129,13 +130,13 @@ module _ {ws s₀ output₀ : List ℕ} {query limit steps : ℕ} {s output : Li
   run_whole = definition.rounds steps P R limit 0 (usable (length output₀)) steps 0 []
 
   -- what the round's contract says in each case
-  pub told_broken : (s' output' : List ℕ) {r : code_rounded.Rounded} {d : code_end.End} {u : code_tally.Tally} → RoundedAs ws s' output' P round_now r → r ≡ Broken d u → BrokenAs output' round_now d u
+  pub told_broken : (s' output' : List ℕ) (b : Broken) → RoundedAs ws s' output' P round_now (Err b) → BrokenAs output' round_now b.end b.tally
   unfolding RoundedAs
-  told_broken s' output' h e = rw e at h
+  told_broken s' output' b h = h
 
-  pub told_completed : (s' output' : List ℕ) {r : code_rounded.Rounded} {u : code_tally.Tally} {c : ℕ} → RoundedAs ws s' output' P round_now r → r ≡ Completed u c → CompletedAs ws s' output' P round_now u c
+  pub told_completed : (s' output' : List ℕ) (c : Completed) → RoundedAs ws s' output' P round_now (Ok c) → CompletedAs ws s' output' P round_now c.tally c.cuts
   unfolding RoundedAs
-  told_completed s' output' h e = rw e at h
+  told_completed s' output' c h = h
 
   -- a round leaves no more steps than the run has
   left_few : {output' : List ℕ} {u : code_tally.Tally} {last : Tally} (x : Rounded) → round_now ≡ x → left_of x ≡ last.left → TallyAs output' u last → u.left ≤ steps
@@ -153,7 +154,7 @@ module _ {ws s₀ output₀ : List ℕ} {query limit steps : ℕ} {s output : Li
   run_rest : {x : Rounded} → round_now ≡ x → run_whole ≡ rest_of steps P R (limit - k) k tally_now.cuts x
   run_rest e = (g.on P R q).4 ∙ rounds_rest steps P R (limit - k) k tally_now.room tally_now.left tally_now.cuts tally_now.written ∙ ap (rest_of steps P R (limit - k) k tally_now.cuts) e
 
-  ends_as : {output' : List ℕ} {e : End} {last : Tally} {d : code_end.End} {u : code_tally.Tally} {told last_cut : ℕ} {x : Report} → run_whole ≡ definition.result steps e k last_cut last → TallyAs output' u last → end_says d ≡ ran e → told ≡ last_cut → Reported d k steps u told x → ResultAs output' run_whole x
+  ends_as : {output' : List ℕ} {e : End} {last : Tally} {d : code_end.End} {u : code_tally.Tally} {told last_cut : ℕ} {x : Report} → run_whole ≡ definition.result steps e k last_cut last → TallyAs output' u last → end_says d ≡ e → told ≡ last_cut → Reported d k steps u told x → ResultAs output' run_whole x
   ends_as {output'} {x = x} z ta is c y = subst (λ r. ResultAs output' r x) (sym z) (resulted ta is c y)
 
   pub broken_result : {output' : List ℕ} {d : code_end.End} {u : code_tally.Tally} {x : Report} → BrokenAs output' round_now d u → Reported d k steps u cut x → ResultAs output' run_whole x

@@ -2,14 +2,16 @@
 use Prim.Native.Nat.{ℕ, ◌-◌, ◌<◌, ◌≤◌}
 use mathlib.Core.Path.{◌≡◌, refl, sym, ap, ◌∙◌, subst}
 use mathlib.Core.Option.{some}
-use mathlib.Core.Bool.{true, false}
+use mathlib.Core.Bool.{true}
 use mathlib.Core.List.{List, [], ◌++◌}
 use native.Mathlib.Omega.{arith}
 use lib.ListN.{length, take, drop, replicate, get_elem?, length-replicate, get_or-replicate}
 use lib.Seq.{length-take-le}
+use Rattle.std.specs.Prelude.{Result as Outcome, Ok, Err}
 use Rattle.rules.specs.Syntax.{Program, Relation}
 use Rattle.rules.specs.Accept.{Accept, accepted, refused, read}
-use Rattle.rules.specs.Verdict.{yes_said, no_said, said}
+use Rattle.rules.specs.declared.Refusal as rules
+use Rattle.rules.specs.Verdict.{yes_said, said, meaning, number_of}
 use Rattle.rules.specs.Inner.{RelationsAt}
 use Rattle.rules.proofs.Spelled.{stands_self}
 use Rattle.rules.proofs.Checked.{refused_said}
@@ -22,8 +24,11 @@ use Rattle.semantics.proofs.Words.{demands_run}
 use Rattle.semantics.proofs.ZeroedLaws.{zeroed_all}
 use Rattle.semantics.proofs.Lighter.{first_words_used}
 use Rattle.engine.specs.declared.report.Report as code
-use Rattle.engine.specs.Report.{end_says, RunPromise, RunAs}
-use Rattle.engine.specs.Run.{cleared, RefusalReport, Admitted}
+use Rattle.engine.specs.declared.report.Refusal.{Refusal}
+use Rattle.engine.specs.declared.report.Refusal.TheVariants.{Program as Refused}
+use Rattle.engine.specs.Report as says
+use Rattle.engine.specs.Report.{refusal_number, refusal_place, RunPromise, RunAs}
+use Rattle.engine.specs.Run.{cleared, Admitted}
 use Rattle.engine.specs.Rounds.{RunReady, ResultAs}
 use Rattle.engine.specs.Reference.{at}
 use Rattle.engine.specs.Memory.{TableIn}
@@ -47,26 +52,22 @@ module _ (words : List ℕ) (round_limit step_limit : ℕ) (output scratch : Lis
   comes_to = returns words round_limit step_limit (length output) (length scratch)
 
   -- the demands hold of what says document 01's run
-  kept_written : (r : code.Report) (output' scratch' : List ℕ) → RunAs (run_as_written words round_limit step_limit output scratch) r output' scratch' → RunPromise words round_limit step_limit output scratch r output' scratch'
+  kept_written : (r : Outcome code.Report Refusal) (output' scratch' : List ℕ) → RunAs (run_as_written words round_limit step_limit output scratch) r output' scratch' → RunPromise words round_limit step_limit output scratch r output' scratch'
   kept_written r output' scratch' t = record { says = t; demands = rw (t.is_output, t.is_scratch) (demands_run words round_limit step_limit output scratch) }
 
   -- and what says the run by the code's passing of arguments says that run
-  kept_said : (r : code.Report) (output' scratch' : List ℕ) → RunAs (run words round_limit step_limit output scratch) r output' scratch' → RunPromise words round_limit step_limit output scratch r output' scratch'
+  kept_said : (r : Outcome code.Report Refusal) (output' scratch' : List ℕ) → RunAs (run words round_limit step_limit output scratch) r output' scratch' → RunPromise words round_limit step_limit output scratch r output' scratch'
   kept_said r output' scratch' s = kept_written r output' scratch' (rw (run_same words round_limit step_limit output scratch) at s)
 
-  kept_refusal : (c p : ℕ) (r : code.Report) → RefusalReport c p r → comes_to ≡ refusal c p → RunPromise words round_limit step_limit output scratch r output scratch
+  kept_refusal : (e : Refusal) → comes_to ≡ refusal (refusal_number e) (refusal_place e) → RunPromise words round_limit step_limit output scratch (Err e) output scratch
   unfolding comes_to
-  kept_refusal c p r t e =
-      let z : run words round_limit step_limit output scratch ≡ leave (refusal c p) output scratch = ap (λ x. leave x output scratch) e in
-      kept_said r output scratch (rw z (record { is_end = ap end_says t.is_end; is_round = t.is_round; is_steps = t.is_steps; is_answers = t.is_answers; is_words = t.is_words; is_cut = t.is_cut; is_output = refl; is_scratch = refl }))
+  kept_refusal e is =
+      let z : run words round_limit step_limit output scratch ≡ leave (refusal (refusal_number e) (refusal_place e)) output scratch = ap (λ x. leave x output scratch) is in
+      kept_said (Err e) output scratch (rw z (record { is_end = refl; is_counts = refl; is_output = refl; is_scratch = refl }))
 
-  pub settings_refused : (r : code.Report) → RefusalReport 9 0 r → settings_good round_limit (length scratch) ≡ false → RunPromise words round_limit step_limit output scratch r output scratch
+  pub program_refused : (e : rules.Refusal) → settings_good round_limit (length scratch) ≡ true → meaning (Err e) ≡ said (read words) → RunPromise words round_limit step_limit output scratch (Err (Refused e)) output scratch
   unfolding comes_to
-  settings_refused r t h = kept_refusal 9 0 r t (rw h)
-
-  pub program_refused : (c p : ℕ) (r : code.Report) → RefusalReport c p r → settings_good round_limit (length scratch) ≡ true → no_said c p ≡ said (read words) → RunPromise words round_limit step_limit output scratch r output scratch
-  unfolding comes_to
-  program_refused c p r t h e = kept_refusal c p r t (rw (h, refused_said (read words) c p e))
+  program_refused e h is = kept_refusal (Refused e) (rw (h, refused_said (read words) (number_of e.condition) e.place is))
 
   pub admitted : settings_good round_limit (length scratch) ≡ true → yes_said ≡ said (read words) → Admitted words round_limit (take scratch_words scratch)
   admitted h e =
@@ -75,17 +76,13 @@ module _ (words : List ℕ) (round_limit step_limit : ℕ) (output scratch : Lis
       record { program = q.0; is_read = q.1; few_rounds = i; length_is = length-take-le scratch_words scratch j }
 
   -- the run with the scratch's first words is that with the whole of it, where those beyond are as lent
-  pub kept_whole : (r : code.Report) (output' part : List ℕ) → settings_good round_limit (length scratch) ≡ true → RunPromise words round_limit step_limit output (take scratch_words scratch) r output' part
+  pub kept_whole : (r : Outcome code.Report Refusal) (output' part : List ℕ) → settings_good round_limit (length scratch) ≡ true → RunPromise words round_limit step_limit output (take scratch_words scratch) r output' part
       → RunPromise words round_limit step_limit output scratch r output' (part ++ drop scratch_words scratch)
   kept_whole r output' part h k =
       let t = k.says in
       kept_written r output' (part ++ drop scratch_words scratch) (rw (first_words_used words round_limit step_limit output scratch (settings_within round_limit (length scratch) h).1) (record {
         is_end = t.is_end;
-        is_round = t.is_round;
-        is_steps = t.is_steps;
-        is_answers = t.is_answers;
-        is_words = t.is_words;
-        is_cut = t.is_cut;
+        is_counts = t.is_counts;
         is_output = t.is_output;
         is_scratch = ap (λ s. s ++ drop scratch_words scratch) t.is_scratch;
       }))
@@ -127,7 +124,7 @@ module _ (words : List ℕ) (round_limit step_limit : ℕ) (output scratch : Lis
 
     pub kept_run : (s' output' : List ℕ) (r : code.Report) → length s' ≡ length scratch → length output' ≡ length output
         → ResultAs output' (rounds step_limit a.program query_of round_limit 0 (usable (length output)) step_limit 0 []) r
-        → RunPromise words round_limit step_limit output scratch r (cleared output' r.words (length output')) (cleared s' 0 (length scratch))
+        → RunPromise words round_limit step_limit output scratch (Ok r) (cleared output' r.words (length output')) (cleared s' 0 (length scratch))
     unfolding comes_to
     kept_run s' output' r f g h =
         let x : Result = rounds step_limit a.program query_of round_limit 0 (usable (length output)) step_limit 0 [] in
@@ -136,13 +133,9 @@ module _ (words : List ℕ) (round_limit step_limit : ℕ) (output scratch : Lis
         cleared_rest output' r.words ∙ ap (λ p. p ++ replicate (length output' - r.words) 0) h.page_is ∙ ap (λ m. page x.answers ++ replicate m 0) (ap (λ m. m - r.words) g ∙ ap (λ m. length output - m) h.is_words) in
         let y : cleared s' 0 (length scratch) ≡ zeroed scratch_words scratch =
         ap (cleared s' 0) (sym f) ∙ cleared_all s' ∙ ap (λ n. replicate n 0) f ∙ sym (zeroed_all scratch) ∙ ap (λ n. zeroed n scratch) a.length_is in
-        kept_said r (cleared output' r.words (length output')) (cleared s' 0 (length scratch)) (rw z (record {
-          is_end = h.is_end;
-          is_round = h.is_round;
-          is_steps = h.is_steps;
-          is_answers = h.is_answers;
-          is_words = h.is_words;
-          is_cut = h.is_cut;
+        kept_said (Ok r) (cleared output' r.words (length output')) (cleared s' 0 (length scratch)) (rw z (record {
+          is_end = ap says.ran h.is_end;
+          is_counts = cc (h.is_round, h.is_steps, h.is_answers, h.is_words, h.is_cut);
           is_output = o;
           is_scratch = y;
         }))

@@ -1,11 +1,16 @@
 -- Answers on the output, compared word by word.
-use Prim.Native.Nat.{ℕ, suc, ◌+◌, ◌<◌, ◌≤◌}
+use Prim.Native.Nat.{ℕ, zero, suc, ◌+◌, ◌-◌, ◌<◌, ◌≤◌}
 use mathlib.Core.Path.{◌≡◌, refl, sym, ap, subst, ◌∙◌}
-use mathlib.Core.Bool.{Bool, true, false, ◌||◌, true≢false, false≢true}
+use mathlib.Core.Bool.{Bool, true, false, ◌||◌, false≢true}
 use mathlib.Core.List.{List, [], ◌∷◌, ◌++◌}
 use mathlib.Core.Logic.{◌⊎◌, inl, inr, ⊎_elim}
 use native.Mathlib.Omega.{arith}
-use lib.ListN.{length, length-append}
+use lib.Dec.{eqb}
+use lib.ListN.{length, take, drop, length-append, length-drop}
+use lib.Seq.{drop-cons, length-take-le}
+use Rattle.std.specs.Cmp.Lexicographic.{pointwise}
+use Rattle.std.proofs.lemmas.Bool.Decides.{Decides-eqb}
+use Rattle.std.proofs.lemmas.Slice.Eq.{slice_eq-Decides}
 use Rattle.word.specs.Word.{payload, payload_word}
 use Rattle.rules.specs.Lists.{joined}
 use Rattle.rules.specs.Written.{part}
@@ -17,37 +22,38 @@ use Rattle.engine.specs.Lines.{Whole, Stretch, Rows}
 use Rattle.engine.specs.Index.{AnswerAt, Standing}
 use Rattle.semantics.proofs.Repeats.{same_refl, same_true}
 use Rattle.engine.proofs.RowLaws.{spells_one, rows_cons, Row, RowNext, row_next, row_found, row_on}
-use Rattle.engine.proofs.HashLaws.{stretch_next, stretch_end}
 
--- Words compared with those at another place: what is left of them stands there just if all of them do.
-pub record Matching (o : List ℕ) (earlier next to place : ℕ) (v : List ℕ) : Type 0 where
-  pub rest : List ℕ
-  pub here : Stretch o next to rest
-  pub all : Spells o earlier rest → Spells o place v
-  pub left : Spells o place v → Spells o earlier rest
+-- the words taken from a place stand there
+spells_taken : (o : List ℕ) (place n : ℕ) → place + n ≤ length o → Spells o place (take n (drop place o))
+unfolding Spells
+spells_taken o place zero h = tt
+spells_taken o place (suc n) h =
+    let l : place < length o = omega arith in
+    let e : suc place ≡ place + 1 = omega arith in
+    rw (drop-cons o place 0 l) (refl, rw e (spells_taken o (place + 1) n (omega arith)))
 
-pub matching_start : {o : List ℕ} {next to place : ℕ} (v : List ℕ) → Stretch o next to v → Matching o place next to place v
-matching_start v h = record { rest = v; here = h; all = λ s. s; left = λ s. s }
+-- .. so that a comparison with them tells which words stand there
+pub standing_taken : (o : List ℕ) (place : ℕ) (v : List ℕ) (r : Bool) → place + length v ≤ length o → r ≡ pointwise eqb (take (length v) (drop place o)) v → Standing o place v r
+standing_taken o place v r h e =
+    let there : List ℕ = take (length v) (drop place o) in
+    let stands : Spells o place there = spells_taken o place (length v) h in
+    let long : length there ≡ length v = length-take-le (length v) (drop place o) (omega (arith, length-drop place o)) in
+    let same = slice_eq-Decides Decides-eqb there v r e in
+    record {
+      yes = λ q. subst (Spells o place) (same.0 q) stands;
+      no = λ q s. absurd (false≢true (sym q ∙ same.1 (spells_one o place there v stands s long)));
+    }
 
-module _ {o : List ℕ} {earlier next to place : ℕ} {v : List ℕ} (g : Matching o earlier next to place v) where
-  pub matching_next : next < to → at o earlier ≡ at o next → Matching o (earlier + 1) (next + 1) to place v
-  unfolding Spells
-  matching_next l e =
-      let n = stretch_next g.rest g.here l in
-      record {
-        rest = n.rest;
-        here = n.later;
-        all = λ s. g.all (subst (Spells o earlier) (sym n.is) (e, s));
-        left = λ s. (subst (Spells o earlier) n.is (g.left s)).1;
-      }
+-- an answer's words, as they are taken from where they stand
+pub stretch_taken : {o : List ℕ} {start next : ℕ} {v : List ℕ} → Stretch o start next v → next ≤ length o → take (next - start) (drop start o) ≡ v
+stretch_taken {o} {start} {next} {v} h l =
+    let n : ℕ = next - start in
+    let e : next ≡ start + length v = h.ends in
+    let long : length (take n (drop start o)) ≡ n = length-take-le n (drop start o) (omega (arith, length-drop start o)) in
+    spells_one o start (take n (drop start o)) v (spells_taken o start n (omega arith)) h.words (omega arith)
 
-  pub matching_differs : next < to → ¬ (at o earlier ≡ at o next) → Standing o place v false
-  unfolding Spells
-  matching_differs l d = let n = stretch_next g.rest g.here l in record { yes = λ q. absurd (false≢true q); no = λ _ s. d (subst (Spells o earlier) n.is (g.left s)).0 }
-
-  pub matching_end : to ≤ next → Standing o place v true
-  unfolding Spells
-  matching_end l = record { yes = λ _. g.all (subst (Spells o earlier) (sym (stretch_end g.rest g.here l)) tt); no = λ q. absurd (true≢false q) }
+pub standing_stretch : {o : List ℕ} {start next place : ℕ} {v : List ℕ} {r : Bool} → Stretch o start next v → next ≤ length o → Standing o place (take (next - start) (drop start o)) r → Standing o place v r
+standing_stretch {o} {start} {next} {place} {v} {r} h l s = subst (λ x. Standing o place x r) (stretch_taken h l) s
 
 -- of two answers at one place the header counts the same words
 pub whole_one : (o : List ℕ) (place : ℕ) {v w : List ℕ} → Whole v → Whole w → Spells o place v → Spells o place w → v ≡ w
@@ -69,17 +75,17 @@ standing_same {o} {place} {to} {v} {w} false k m h s = go (same_words v w) refl
 
 -- an answer compared with earlier ones, one after the other
 module _ {o : List ℕ} {place to : ℕ} {v : List ℕ} {goal r : Bool} (g : Row o place to v goal) (l : place < to) (k : Whole v) (s : Standing o place v r) where
-  first : RowNext o place to (payload (at o place)) v goal
-  first = row_next g l refl refl
+  next_row : RowNext o place to (payload (at o place)) v goal
+  next_row = row_next g l refl refl
 
-  is_first : r ≡ same_words v first.one
-  is_first = standing_same r k first.whole first.here s
+  is_first : r ≡ same_words v next_row.one
+  is_first = standing_same r k next_row.whole next_row.here s
 
   pub among_found : r ≡ true → true ≡ goal
-  among_found e = row_found first is_first e
+  among_found e = row_found next_row is_first e
 
   pub among_next : r ≡ false → {next : ℕ} → next ≡ place + (1 + payload (at o place)) → Row o next to v goal
-  among_next e {next} is = subst (λ p. Row o p to v goal) (omega (arith, is)) (row_on first is_first e)
+  among_next e {next} is = subst (λ p. Row o p to v goal) (omega (arith, is)) (row_on next_row is_first e)
 
 -- an answer at a place
 pub record EarlierAnswer (o : List ℕ) (to place : ℕ) (w : List ℕ) : Type 0 where

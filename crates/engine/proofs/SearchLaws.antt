@@ -1,11 +1,13 @@
 -- Turn after turn, as the code does it: the state under way leads to where the first one does.
+use Rattle.std.specs.Prelude.{Ok, Err}
 use Prim.Native.Nat.{ℕ, zero, suc, ◌+◌, ◌≤◌, ◌<◌}
 use mathlib.Core.Path.{◌≡◌, refl, sym, ap, subst, ◌∙◌}
+use mathlib.Core.Bool.{Bool, true, false}
 use mathlib.Core.List.{List, []}
 use native.Mathlib.Omega.{arith}
 use lib.ListN.{length}
 use Rattle.rules.specs.Syntax.{Goal, Program}
-use Rattle.semantics.specs.Steps.{Outcome, done}
+use Rattle.semantics.specs.Steps.{done}
 use Rattle.semantics.specs.Path.{Path, ChoicePoint, Taken, goes, take_goal}
 use Rattle.semantics.specs.Answer.{answer}
 use Rattle.semantics.specs.Run.{page}
@@ -19,30 +21,23 @@ use Rattle.semantics.proofs.Counts.{taken_spent}
 use Rattle.semantics.proofs.Fair.{NextFair, turn_fair}
 use Rattle.semantics.proofs.Turn.{NextWell, TakenWell, GoesOn, open_of, goal_well, turn_keeps}
 use Rattle.engine.specs.Reference.{TaskAt}
-use Rattle.engine.specs.Take.{PathHeld, stop_of}
-use Rattle.engine.specs.Turn.{Turning, took_goal, tallied, NextAs}
-use Rattle.engine.specs.Search.{count_cuts, Searching, counted_to, SearchedAs}
+use Rattle.engine.specs.Steps.{stop_of}
+use Rattle.engine.specs.Take.{PathHeld}
+use Rattle.engine.specs.Turn.{Turning, took_goal, tallied, NextAs, TurnedAs}
+use Rattle.engine.specs.Search.{count_cuts, Searching, counted_to, Answers, SearchedAs}
 use Rattle.engine.specs.declared.search.state.State.{State}
-use Rattle.engine.specs.declared.search.state.Stop.{Stop}
-use Rattle.engine.specs.declared.search.state.Lead.{Lead}
+use Rattle.engine.specs.declared.search.state.Turned.{Turned}
+use Rattle.engine.specs.declared.steps.Stopped.{Stopped}
 use Rattle.engine.specs.declared.search.state.Lead.TheVariants as lead
-use Rattle.engine.specs.declared.search.state.Searched.TheVariants.{Answer, Over, Stops}
+use Rattle.engine.specs.declared.search.state.Searched.TheVariants.{Answer, Over}
 
-pub count_none : (cuts cut : ℕ) → cut ≡ 0 → cuts ≡ count_cuts cuts cut
-count_none cuts zero e = refl
-count_none cuts (suc c) e = absurd (omega arith)
+tallied_is : (t : Tally) (l : ℕ) (c : Bool) → tallied t l c ≡ counted_to t l (count_cuts t.cuts c)
+tallied_is t l false = refl
+tallied_is t l true = refl
 
-pub count_one : (cuts cut : ℕ) → (cut ≡ 0 → ⊥) → cuts + 1 ≡ count_cuts cuts cut
-count_one cuts zero e = absurd (e refl)
-count_one cuts (suc c) e = omega arith
-
-tallied_is : (t : Tally) (l c : ℕ) → tallied t l c ≡ counted_to t l (count_cuts t.cuts c)
-tallied_is t l zero = refl
-tallied_is t l (suc c) = refl
-
-count_few : (cuts c : ℕ) → count_cuts cuts c ≤ suc cuts
-count_few cuts zero = omega arith
-count_few cuts (suc c) = omega arith
+count_few : (cuts : ℕ) (c : Bool) → count_cuts cuts c ≤ suc cuts
+count_few cuts false = omega arith
+count_few cuts true = omega arith
 
 -- taking a goal costs a step at least
 take_spent : (k : ℕ) (P : Program) (p : Path) (cs : List ChoicePoint) (base : ℕ) (x : Goal) (left : ℕ) (v : Taken) (m : ℕ) → take_goal k P p cs base x left ≡ done v m → m < left
@@ -64,9 +59,6 @@ pub record Going (P : Program) (wf : ProgramIn P) (n k : ℕ) (ws s : List ℕ) 
   pub written : state.tally.written ≡ state₀.tally.written
   pub fewer : state.tally.left ≤ state₀.tally.left
 
-pub going_start : {P : Program} {wf : ProgramIn P} {n k : ℕ} {ws s : List ℕ} {st : State} {w cuts fuel : ℕ} {state : round.State} → Searching P wf n k ws s st w cuts state → state.tally.left < fuel → Going P wf n k ws s st w cuts state fuel
-going_start {fuel = fuel} {state = state} h lt = record { state = state; fuel = fuel; under = h; enough = lt; same = refl; room = refl; written = refl; fewer = omega arith }
-
 module _ {P : Program} {wf : ProgramIn P} {n k : ℕ} {ws s : List ℕ} {st : State} {w cuts : ℕ} {state : round.State} (h : Searching P wf n k ws s st w cuts state) where
   pub search_due : Turning P ws s st w state
   search_due = record { due = record { stored = h.held; task_at = h.task_at; short = h.short; program_in = wf; sound = h.fine.fine.sound; task_in = h.fine.fine.tasks_in.0 }; left_is = h.left_is }
@@ -76,8 +68,12 @@ turn_of : (P : Program) (n k fuel : ℕ) (state : round.State) (x : Next) → st
 turn_of P n k zero state x lt e = absurd (omega arith)
 turn_of P n k (suc f) state x lt e = (f, refl, ap (λ y. onward y (λ next. search P n k f next)) e)
 
+-- a turn has been taken
 module _ {P : Program} {wf : ProgramIn P} {n k : ℕ} {ws s : List ℕ} {st : State} {w cuts : ℕ} {state₀ : round.State} {fuel₀ : ℕ} (g : Going P wf n k ws s st w cuts state₀ fuel₀)
-    (s' : List ℕ) (to : Lead) (next : State) (v c : ℕ) (told : NextAs P n k ws s' g.state.tally (took_goal k P g.state st.steps) (turn P n k g.state) to next v c) where
+    (s' : List ℕ) (r : Turned) (said : (Q : Program) (m : ℕ) (x : round.State) → Turning Q ws s st w x → TurnedAs Q m k ws s' x.tally (took_goal k Q x st.steps) (turn Q m k x) r) where
+  told : NextAs P n k ws s' g.state.tally (took_goal k P g.state st.steps) (turn P n k g.state) r.lead r.state r.cut
+  told = said P n g.state (search_due g.under)
+
   total : ℕ
   total = g.state.tally.room + length (page g.state.tally.written)
 
@@ -89,80 +85,84 @@ module _ {P : Program} {wf : ProgramIn P} {n k : ℕ} {ws s : List ℕ} {st : St
   tally_as : (l c : ℕ) → counted_to g.state.tally l c ≡ counted_to state₀.tally l c
   tally_as l c = rw (g.room, g.written) refl
 
-  cuts_as : (l c : ℕ) → tallied g.state.tally l c ≡ counted_to state₀.tally l (count_cuts cuts c)
+  cuts_as : (l : ℕ) (c : Bool) → tallied g.state.tally l c ≡ counted_to state₀.tally l (count_cuts cuts c)
   cuts_as l c = tallied_is g.state.tally l c ∙ tally_as l (count_cuts g.state.tally.cuts c) ∙ ap (λ x. counted_to state₀.tally l (count_cuts x c)) g.under.cuts_are
 
-  pub searched_stops : {why : Stop} {l : ℕ} → to ≡ lead.Stops why l → SearchedAs P wf n k ws s' state₀ fuel₀ (Stops why l)
+  pub searched_stops : {e : Stopped} → r.lead ≡ lead.Stops e → SearchedAs P wf n k ws s' state₀ fuel₀ (Err e)
   unfolding NextAs SearchedAs
-  searched_stops {why} {l} e =
-      let q : turn P n k g.state ≡ over (broken (end_of (stop_of why)) (spend g.state.tally l)) = rw e at told in
+  searched_stops {e} is =
+      let q : turn P n k g.state ≡ over (broken (end_of (stop_of e.why)) (spend g.state.tally e.left)) = rw is at told in
       let t = turn_of P n k g.fuel g.state _ g.enough q in
-      (g.state.tally.cuts, g.same ∙ t.2 ∙ ap (broken (end_of (stop_of why))) (tally_as l g.state.tally.cuts))
+      (g.state.tally.cuts, g.same ∙ t.2 ∙ ap (broken (end_of (stop_of e.why))) (tally_as e.left g.state.tally.cuts))
 
-  pub searched_over : {d : ℕ} → to ≡ lead.Over → d ≡ count_cuts cuts c → SearchedAs P wf n k ws s' state₀ fuel₀ (Over next d)
+  pub searched_over : {d : ℕ} → r.lead ≡ lead.Over → d ≡ count_cuts cuts r.cut → SearchedAs P wf n k ws s' state₀ fuel₀ (Ok (Over r.state d))
   unfolding NextAs SearchedAs
   searched_over {d} e f =
-      let q : (turn P n k g.state ≡ over (completed (tallied g.state.tally next.steps c))) × ((p : Path) × PathHeld P ws s' next p []) = rw e at told in
+      let q : (turn P n k g.state ≡ over (completed (tallied g.state.tally r.state.steps r.cut))) × ((p : Path) × PathHeld P ws s' r.state p []) = rw e at told in
       let t = turn_of P n k g.fuel g.state _ g.enough q.0 in
-      (g.same ∙ t.2 ∙ ap completed (cuts_as next.steps c ∙ ap (counted_to state₀.tally next.steps) (sym f)), q.1)
+      (g.same ∙ t.2 ∙ ap completed (cuts_as r.state.steps r.cut ∙ ap (counted_to state₀.tally r.state.steps) (sym f)), q.1)
 
-  pub over_some : to ≡ lead.Over → 0 < st.steps
+  pub over_some : r.lead ≡ lead.Over → 0 < st.steps
   unfolding NextAs
   over_some e =
-      let q : (turn P n k g.state ≡ over (completed (tallied g.state.tally next.steps c))) × ((p : Path) × PathHeld P ws s' next p []) = rw e at told in
+      let q : (turn P n k g.state ≡ over (completed (tallied g.state.tally r.state.steps r.cut))) × ((p : Path) × PathHeld P ws s' r.state p []) = rw e at told in
       omega (arith, g.under.left_is, over_spent P n k g.state g.state.tally.left _ q.0)
 
   keeps : {new : round.State} → turn P n k g.state ≡ going new → StateFine P wf n k new
   keeps e = (subst (NextWell P wf n k (open_of P wf n k g.state) g.state.tally.written g.state.tally.cuts) e (turn_keeps P wf n k g.state g.under.fine)).0
 
   -- the round goes on
-  pub searched_goal : {d : ℕ} → to ≡ lead.Goal → d ≡ count_cuts cuts c → Going P wf n k ws s' next v d state₀ fuel₀ × (next.steps < st.steps)
+  pub searched_goal : {d v : ℕ} → r.lead ≡ lead.Goal v → d ≡ count_cuts cuts r.cut → Going P wf n k ws s' r.state v d state₀ fuel₀ × (r.state.steps < st.steps)
   unfolding NextAs
-  searched_goal {d} e f =
-      let q : (state : round.State) × (turn P n k g.state ≡ going state) × TaskAt ws v state.task × PathHeld P ws s' next state.path state.choices × (state.tally ≡ tallied g.state.tally next.steps c) = rw e at told in
-      let new : round.State = q.0 in
-      let t = turn_of P n k g.fuel g.state (going new) g.enough q.1 in
-      let falls : new.tally.left < g.state.tally.left = (subst (NextFair g.state.tally.left total) q.1 fair).0 in
-      let is : new.tally ≡ counted_to state₀.tally next.steps (count_cuts cuts c) = q.4 ∙ cuts_as next.steps c in
-      let left_is : new.tally.left ≡ next.steps = ap (λ x. x.left) is in
-      let less : next.steps < st.steps = omega (arith, left_is, falls, g.under.left_is) in
-      let more : next.steps < g.state.tally.left = omega (arith, left_is, falls) in (
-        record {
-          state = new;
-          fuel = t.0;
-          under = record { held = q.3; task_at = q.2; short = g.under.short; left_is = left_is; cuts_are = ap (λ x. x.cuts) is ∙ sym f; fits = omega (arith, f, count_few cuts c, g.under.fits); fine = keeps q.1 };
-          enough = omega (arith, left_is, more, t.1, g.enough);
-          same = g.same ∙ t.2;
-          room = ap (λ x. x.room) is;
-          written = ap (λ x. x.written) is;
-          fewer = omega (arith, falls, g.fewer);
-        },
-        less,
-      )
+  searched_goal {d} {v} e f =
+      let q : (state : round.State) × (turn P n k g.state ≡ going state) × TaskAt ws v state.task × PathHeld P ws s' r.state state.path state.choices × (state.tally ≡ tallied g.state.tally r.state.steps r.cut) = rw e at told in
+      go q.0 q.1 q.2 q.3 q.4
+    where
+      go : (new : round.State) → turn P n k g.state ≡ going new → TaskAt ws v new.task → PathHeld P ws s' r.state new.path new.choices → new.tally ≡ tallied g.state.tally r.state.steps r.cut
+          → Going P wf n k ws s' r.state v d state₀ fuel₀ × (r.state.steps < st.steps)
+      go new turned there held tally =
+          let t = turn_of P n k g.fuel g.state (going new) g.enough turned in
+          let falls : new.tally.left < g.state.tally.left = (subst (NextFair g.state.tally.left total) turned fair).0 in
+          let is : new.tally ≡ counted_to state₀.tally r.state.steps (count_cuts cuts r.cut) = tally ∙ cuts_as r.state.steps r.cut in
+          let left_is : new.tally.left ≡ r.state.steps = ap (λ x. x.left) is in (
+            record {
+              state = new;
+              fuel = t.0;
+              under = record { held = held; task_at = there; short = g.under.short; left_is = left_is; cuts_are = ap (λ x. x.cuts) is ∙ sym f; fits = omega (arith, f, count_few cuts r.cut, left_is, falls, g.under.left_is, g.under.fits); fine = keeps turned };
+              enough = omega (arith, falls, t.1, g.enough);
+              same = g.same ∙ t.2;
+              room = ap (λ x. x.room) is;
+              written = ap (λ x. x.written) is;
+              fewer = omega (arith, falls, g.fewer);
+            },
+            omega (arith, left_is, falls, g.under.left_is),
+          )
 
   -- a path gives an answer
-  pub searched_answer : to ≡ lead.Answer → SearchedAs P wf n k ws s' state₀ fuel₀ (Answer next cuts)
+  pub searched_answer : r.lead ≡ lead.Answer → SearchedAs P wf n k ws s' state₀ fuel₀ (Ok (Answer r.state cuts))
   unfolding NextAs SearchedAs
   searched_answer e =
-      let o : Outcome Taken = took_goal k P g.state st.steps in
-      let q : (p : Path) × (cs : List ChoicePoint) × (turn P n k g.state ≡ give (once argument) n k cs (spend g.state.tally next.steps) (answer p n next.steps)) × PathHeld P ws s' next p cs × (p.stack ≡ []) × (p.calls ≡ k) × (o ≡ done (goes p cs) next.steps) = rw e at told in
-      let p : Path = q.0 in
-      let cs : List ChoicePoint = q.1 in
-      let well : GoesOn P wf n k g.state.path g.state.task g.state.choices p cs
-      = subst (TakenWell P wf n k g.state.path g.state.task g.state.choices) q.6 (goal_well P wf n k g.state.path g.state.task.0 g.state.choices g.under.fine.fine_choices g.state.task.1 st.steps g.under.fine.fine) in
-      let spent : next.steps < st.steps = take_spent k P g.state.path g.state.choices g.state.task.0 g.state.task.1 st.steps (goes p cs) next.steps q.6 in
-      let counted : spend g.state.tally next.steps ≡ counted_to state₀.tally next.steps cuts = tally_as next.steps g.state.tally.cuts ∙ ap (counted_to state₀.tally next.steps) g.under.cuts_are in
-      let given : turn P n k g.state ≡ give (once argument) n k cs (counted_to state₀.tally next.steps cuts) (answer p n next.steps) = q.2 ∙ ap (λ x. give (once argument) n k cs x (answer p n next.steps)) counted in
-      let t = turn_of P n k g.fuel g.state _ g.enough given in
-      record {
-        path = p;
-        choices = cs;
-        rest = t.0;
-        same = g.same ∙ t.2;
-        enough = omega (arith, spent, t.1, g.enough, g.under.left_is);
-        fewer = omega (arith, spent, g.fewer, g.under.left_is);
-        held = q.3;
-        fine = subst (Fine P wf n k p) q.4 well.fine;
-        next_fine = λ new e. keeps (given ∙ e);
-        fits = omega (arith, spent, g.under.fits);
-      }
+      let q : (p : Path) × (cs : List ChoicePoint) × (turn P n k g.state ≡ give (once argument) n k cs (spend g.state.tally r.state.steps) (answer p n r.state.steps)) × PathHeld P ws s' r.state p cs × (p.stack ≡ []) × (p.calls ≡ k) × (took_goal k P g.state st.steps ≡ done (goes p cs) r.state.steps) = rw e at told in
+      go q.0 q.1 q.2 q.3 q.4 q.6
+    where
+      go : (p : Path) (cs : List ChoicePoint) → turn P n k g.state ≡ give (once argument) n k cs (spend g.state.tally r.state.steps) (answer p n r.state.steps) → PathHeld P ws s' r.state p cs → p.stack ≡ []
+          → took_goal k P g.state st.steps ≡ done (goes p cs) r.state.steps → Answers P wf n k ws s' r.state cuts state₀ fuel₀
+      go p cs gives held none_waits took =
+          let well : GoesOn P wf n k g.state.path g.state.task g.state.choices p cs
+          = subst (TakenWell P wf n k g.state.path g.state.task g.state.choices) took (goal_well P wf n k g.state.path g.state.task.0 g.state.choices g.under.fine.fine_choices g.state.task.1 st.steps g.under.fine.fine) in
+          let spent : r.state.steps < st.steps = take_spent k P g.state.path g.state.choices g.state.task.0 g.state.task.1 st.steps (goes p cs) r.state.steps took in
+          let counted : spend g.state.tally r.state.steps ≡ counted_to state₀.tally r.state.steps cuts = tally_as r.state.steps g.state.tally.cuts ∙ ap (counted_to state₀.tally r.state.steps) g.under.cuts_are in
+          let given : turn P n k g.state ≡ give (once argument) n k cs (counted_to state₀.tally r.state.steps cuts) (answer p n r.state.steps) = gives ∙ ap (λ x. give (once argument) n k cs x (answer p n r.state.steps)) counted in
+          let t = turn_of P n k g.fuel g.state _ g.enough given in
+          record {
+            path = p;
+            choices = cs;
+            rest = t.0;
+            same = g.same ∙ t.2;
+            enough = omega (arith, spent, t.1, g.enough, g.under.left_is);
+            fewer = omega (arith, spent, g.fewer, g.under.left_is);
+            held = held;
+            fine = subst (Fine P wf n k p) none_waits well.fine;
+            next_fine = λ new e. keeps (given ∙ e);
+            fits = omega (arith, spent, g.under.fits);
+          }

@@ -17,7 +17,8 @@ use Rattle.engine.specs.Trail.{Apart}
 use Rattle.engine.specs.Unify.{TwoTerms, Went}
 use Rattle.engine.specs.Review.{ConstraintsHeld, ReviewedAs}
 use Rattle.rules.specs.Settings.{most_words}
-use Rattle.engine.specs.declared.terms.review.Reviewed.{Reviewed}
+use Rattle.std.specs.Prelude.{Result}
+use Rattle.engine.specs.declared.steps.Stopped.{Stopped}
 use Rattle.engine.proofs.FrameLaws.{kept_same, path_same, choices_same, table_same, names_same}
 use Rattle.engine.proofs.TrailLaws.{fresh_few}
 
@@ -80,5 +81,5 @@ module _ {P : Program} {ws s : List ℕ} {r : Registers} {n : ℕ} {p : Path} {c
   unified_stored {s'} {m} w = subst (λ z. Stored P ws s' (trailed r z) n (bound_to p w.next) cs) (sym w.trail_is) (rebound w.new w.next w.grows w.apart w.held.bindings_in h)
 
   -- .. and after reviews the same path
-  pub reviewed_stored : {s' : List ℕ} {o : Outcome Bool} {q : Reviewed} → ReviewedAs ws s s' p.bindings o q → Stored P ws s' r n p cs
+  pub reviewed_stored : {s' : List ℕ} {o : Outcome Bool} {q : Result (Bool × ℕ) Stopped} → ReviewedAs ws s s' p.bindings o q → Stored P ws s' r n p cs
   reviewed_stored {s'} v = subst (λ z. Stored P ws s' (trailed r z) n p cs) (sym h.path_in.trail) (rebound [] p.bindings refl v.apart v.bindings_in h)

@@ -41,31 +41,9 @@ pub record Filling (ws s₀ s : List ℕ) (P : Program) (pos r : ℕ) : Type 0 w
   pub long_enough : scratch_words ≤ length s₀
   pub low : Same s₀ s 0 11776
 
-pub fill_start : (ws s : List ℕ) (P : Program) → RelationsAt ws 0 P → length P ≤ 256 → scratch_words ≤ length s → Filling ws s s P 0 0
-fill_start ws s P h few long = record {
-  rest = P;
-  there = h;
-  left_are = λ k. let e : 0 + k ≡ k = omega arith in rw e refl;
-  count = omega arith;
-  filled = λ k R lt. absurd (omega arith);
-  few = few;
-  long = refl;
-  long_enough = long;
-  low = λ i lo hi. refl;
-}
-
 -- the place of a relation's word, as a reference
 part_of : (ws : List ℕ) (pos b k p : ℕ) → pos < positions → PartRead ws pos b k p → PartAt ws pos k p
 part_of ws pos b k p lt i = let e : pos_of pos ≡ pos = omega arith in record { is_kind = rw e at i.is_kind; is_size = rw e at i.is_payload }
-
--- what the code needs of the next relation
-pub fill_few : (ws s₀ s : List ℕ) (P : Program) (pos r : ℕ) → Filling ws s₀ s P pos r → pos < length ws → (r < 256) × (pos_of pos < length ws) × (length ws ≤ most_words)
-fill_few ws s₀ s P pos r f lt =
-    let q = relations_some ws pos f.rest f.there lt in
-    let short : length ws ≤ most_words = f.there.short in
-    let many : length f.rest ≡ suc (length q.1) = ap length q.2 in
-    let e : pos_of pos ≡ pos = omega arith in
-    (omega (arith, f.count, f.few), omega arith, short)
 
 pub fill_step : (ws s₀ s : List ℕ) (P : Program) (pos r b k p : ℕ) → Filling ws s₀ s P pos r → pos < length ws → PartRead ws pos b k p
     → Filling ws s₀ (set s (11776 + r) pos) P (pos + 1 + p) (r + 1) × (pos + 1 + p ≤ length ws)
@@ -118,18 +96,13 @@ fill_end ws s₀ s P pos r f le =
 
 -- a relation looked up
 module _ (P : Program) (ws s : List ℕ) (n : ℕ) (R : Relation) (table : TableIn ws s P) (is_R : get_elem? P n ≡ some R) where
-  pub row_few : n < 256
-  row_few = (table n R is_R).0
-
-  pub row_place : (at s (11776 + n) + 4 ≤ length ws) × (at s (11776 + n) + 4 ≤ most_words)
-  row_place = let h = (table n R is_R).1 in (omega (arith, h.inside), omega (arith, h.small))
-
-  pub row_inside : (d : ℕ) → d < 4 → pos_of (at s (11776 + n) + d) < length ws
-  row_inside d lt = let e : pos_of (at s (11776 + n) + d) ≡ at s (11776 + n) + d = omega (arith, row_place.1) in omega (arith, row_place.0)
+  -- its counts and its goal are in the program
+  pub row_fits : (n < 256) × (at s (11776 + n) + 4 ≤ length ws) × (at s (11776 + n) + 4 ≤ most_words)
+  row_fits = let h = table n R is_R in (h.0, omega (arith, h.1.inside), omega (arith, h.1.small))
 
   pub row_read : {b₁ k₁ p₁ b₂ k₂ p₂ : ℕ} → PartRead ws (at s (11776 + n) + 1) b₁ k₁ p₁ → PartRead ws (at s (11776 + n) + 2) b₂ k₂ p₂ → RelationIs ws p₁ p₂ (at s (11776 + n) + 3) R
   row_read i j =
       let h : RelationAt ws (at s (11776 + n)) R = (table n R is_R).1 in
-      let e₁ : pos_of (at s (11776 + n) + 1) ≡ at s (11776 + n) + 1 = omega (arith, row_place.1) in
-      let e₂ : pos_of (at s (11776 + n) + 2) ≡ at s (11776 + n) + 2 = omega (arith, row_place.1) in
+      let e₁ : pos_of (at s (11776 + n) + 1) ≡ at s (11776 + n) + 1 = omega (arith, row_fits.2) in
+      let e₂ : pos_of (at s (11776 + n) + 2) ≡ at s (11776 + n) + 2 = omega (arith, row_fits.2) in
       record { params_is = rw e₁ at i.is_payload ∙ h.params.1; vars_is = rw e₂ at j.is_payload ∙ h.vars.1; body_at = h.body; inside = h.inside; small = h.small }

@@ -3,15 +3,19 @@ use Prim.Native.Nat.{ℕ, zero, suc, ◌-◌, ◌<◌}
 use mathlib.Core.Path.{◌≡◌, refl, sym, ap, subst, ◌∙◌}
 use mathlib.Core.List.{List}
 use native.Mathlib.Omega.{arith}
+use Rattle.word.specs.Kind.{kind_number}
+use Rattle.word.specs.declared.kind.Kind.{Kind}
+use Rattle.word.specs.declared.kind.Kind.TheVariants.{Equal, Conjunction, Disjunction, Call}
+use Rattle.word.proofs.KindLaws.{kind_number_other}
 use Rattle.rules.specs.Syntax.{Term, Constraint, differ, typed, absento, Goal, Goals, equal, constrain, conj, disj, call, Program}
 use Rattle.rules.specs.Reading.{kind_at}
 use Rattle.semantics.specs.Steps.{Outcome, step}
 use Rattle.semantics.specs.Path.{Task, Path, ChoicePoint, taken, take_goal}
 use Rattle.engine.specs.Reference.{GoalAt, pos_of, TaskAt}
 use Rattle.engine.specs.Walk.{PartRead}
+use Rattle.engine.specs.Steps.{no_steps}
 use Rattle.engine.specs.Take.{GoalReady, Due, TookAs, with_counts}
 use Rattle.engine.specs.declared.search.state.State.{State}
-use Rattle.engine.specs.declared.search.state.Stop.TheVariants.{Steps}
 use Rattle.engine.specs.declared.search.state.Way.TheVariants.{Stops}
 use Rattle.engine.specs.declared.search.state.Took.{Took}
 use Rattle.engine.proofs.ReferenceLaws.{sort_low}
@@ -34,8 +38,8 @@ kind_goal ws pos (conj gs) h = rw h.0 joins
 kind_goal ws pos (disj gs) h = rw h.0 chooses
 kind_goal ws pos (call r ts) h = rw h.0 calls
 
-pub of_kind : {ws : List ℕ} {w b k n m : ℕ} {task : Task} → TaskAt ws w task → PartRead ws w b k n → k ≡ m → OfKind m task.1
-of_kind {ws} {w} {task = task} t node e = subst (λ k. OfKind k task.1) (sym node.is_kind ∙ e) (kind_goal ws (pos_of w) task.1 t.goal)
+pub of_kind : {ws : List ℕ} {w b n : ℕ} {task : Task} (k m : Kind) → TaskAt ws w task → PartRead ws w b (kind_number k) n → k ≡ m → OfKind (kind_number m) task.1
+of_kind {ws} {w} {task = task} k m t node e = subst (λ x. OfKind x task.1) (sym node.is_kind ∙ ap kind_number e) (kind_goal ws (pos_of w) task.1 t.goal)
 
 pub is_equal : {g : Goal} → OfKind 5 g → (s : Term) × (t : Term) × (g ≡ equal s t)
 is_equal (equals {s} {t}) = (s, t, refl)
@@ -53,15 +57,18 @@ pub is_call : {g : Goal} → OfKind 12 g → (r : ℕ) × (ts : List Term) × (g
 is_call (calls {r} {ts}) = (r, ts, refl)
 is_call (constrains lo hi) = absurd (omega arith)
 
-pub is_constraint : {k : ℕ} {g : Goal} → OfKind k g → (k ≡ 5 → ⊥) → (k ≡ 10 → ⊥) → (k ≡ 11 → ⊥) → (k ≡ 12 → ⊥) → (c : Constraint) × (g ≡ constrain c)
-is_constraint (constrains {k} {c} lo hi) e f g h = (c, refl)
-is_constraint equals e f g h = absurd (e refl)
-is_constraint joins e f g h = absurd (f refl)
-is_constraint chooses e f g h = absurd (g refl)
-is_constraint calls e f g h = absurd (h refl)
+pub is_constraint : {g : Goal} (k : Kind) → OfKind (kind_number k) g → ¬ (k ≡ Equal) → ¬ (k ≡ Conjunction) → ¬ (k ≡ Disjunction) → ¬ (k ≡ Call) → (c : Constraint) × (g ≡ constrain c)
+is_constraint k o e f h i = go o (kind_number_other k Equal e) (kind_number_other k Conjunction f) (kind_number_other k Disjunction h) (kind_number_other k Call i)
+  where
+    go : {n : ℕ} {x : Goal} → OfKind n x → ¬ (n ≡ 5) → ¬ (n ≡ 10) → ¬ (n ≡ 11) → ¬ (n ≡ 12) → (c : Constraint) × (x ≡ constrain c)
+    go (constrains {k} {c} lo hi) e f h i = (c, refl)
+    go equals e f h i = absurd (e refl)
+    go joins e f h i = absurd (f refl)
+    go chooses e f h i = absurd (h refl)
+    go calls e f h i = absurd (i refl)
 
 -- no step is left
-pub take_none : (P : Program) (ws s : List ℕ) (p : Path) (cs : List ChoicePoint) (round left : ℕ) (task : Task) (st : State) → left ≡ 0 → TookAs P ws s cs (take_goal round P p cs task.0 task.1 left) (Stops Steps 0) st
+pub take_none : (P : Program) (ws s : List ℕ) (p : Path) (cs : List ChoicePoint) (round left : ℕ) (task : Task) (st : State) → left ≡ 0 → TookAs P ws s cs (take_goal round P p cs task.0 task.1 left) (Stops no_steps) st
 take_none P ws s p cs round left task st e = took_stops p (rw e refl)
 
 step_is : {A : Type 0} (left : ℕ) (go : ℕ → Outcome A) → (left ≡ 0 → ⊥) → step left go ≡ go (left - 1)

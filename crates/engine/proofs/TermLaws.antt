@@ -1,11 +1,10 @@
 -- Words put one after the other: one law for each way in which the code returns or goes on.
 use Prim.Native.Nat.{ℕ, ◌+◌, ◌%◌, ◌-◌, ◌<◌, ◌≤◌}
-use mathlib.Core.Path.{◌≡◌, refl, sym, ap, ap₂, subst, ◌∙◌}
+use mathlib.Core.Path.{◌≡◌, refl, sym, ap, subst, ◌∙◌}
 use mathlib.Core.Bool.{Bool, true, false, true≢false}
 use mathlib.Core.List.{List, [], ◌∷◌, ◌++◌, append_assoc}
 use native.Mathlib.Omega.{arith}
-use lib.ListN.{length, set, length-set, length-append}
-use lib.Seq.{get_or-set_same, get_or-set_other}
+use lib.ListN.{length, length-append}
 use Rattle.word.specs.Word.{word}
 use Rattle.rules.specs.Inner.{Spells}
 use Rattle.rules.proofs.Spelled.{stands_at as Spells_at, stands_append as spells_append, stands_split as spells_split, term_some}
@@ -21,8 +20,8 @@ use Rattle.engine.specs.Names.{Names}
 use Rattle.engine.specs.Term.{Room, Puts, Touched, WordPut, Laid, Missing, Placed, all_laid, some_missing}
 use Rattle.engine.specs.declared.terms.walk.Shape.{Shape}
 use Rattle.engine.specs.declared.terms.walk.Shape.TheVariants.{Open, Atom as Leaf, Pair}
-use Rattle.engine.specs.declared.writer.term.Put.{Put}
-use Rattle.engine.specs.declared.writer.term.Put.TheVariants.{End, Missed}
+use Rattle.std.specs.Prelude.{Option, Some, None}
+use Rattle.std.specs.Bool.{then_some}
 use Rattle.engine.proofs.NameLaws.{name_member, name_number, names_few}
 use Rattle.engine.proofs.NamingLaws.{FollowedAs, told_open, told_leaf, Halves, halved}
 
@@ -53,33 +52,15 @@ spells_same o o' place [] e h = tt
 spells_same o o' place (x ∷ xs) e h = (e place (omega arith) (omega arith) ∙ h.0, spells_same o o' (place + 1) xs (λ i l k. e i (omega arith) (omega arith)) h.1)
 
 -- one word
-pub word_written : {o : List ℕ} {place w : ℕ} {write : Bool} → place < length o → write ≡ true → WordPut o (set o place w) place w write true
-word_written {o} {place} {w} {write} l e = record {
-  yes = λ _. get_or-set_same o place w 0 l;
-  no = λ q. absurd (true≢false q);
-  touched = record { below = λ i k. get_or-set_other o place i w 0 (λ q. omega arith); above = λ i k. get_or-set_other o place i w 0 (λ q. omega arith); long = length-set o place w };
-  read_only = λ q. absurd (true≢false (sym e ∙ q));
-}
-
-pub word_there : {o : List ℕ} {place w : ℕ} {write : Bool} → at o place ≡ w → WordPut o o place w write true
-word_there {o} {place} e = record { yes = λ _. e; no = λ q. absurd (true≢false q); touched = untouched o place (place + 1); read_only = λ _. refl }
-
-pub word_differs : {o : List ℕ} {place w : ℕ} {write : Bool} → write ≡ false → ¬ (at o place ≡ w) → WordPut o o place w write false
-word_differs {o} {place} e n = record { yes = λ q. absurd (true≢false (sym q)); no = λ _. (e, n); touched = untouched o place (place + 1); read_only = λ _. refl }
-
-module _ {o o' : List ℕ} {place end w : ℕ} {write r : Bool} (h : WordPut o o' place w write r) (room : place < end) where
-  pub placed_last : r ≡ true → Placed o o' place end write (w ∷ []) (End (place + 1))
-  unfolding Spells
-  placed_last e = all_laid (record { is = refl; fits = omega arith; words = (h.yes e, tt); touched = h.touched; read_only = h.read_only })
-
-  pub missed_last : r ≡ false → Placed o o' place end write (w ∷ []) Missed
-  unfolding Spells
-  missed_last e = some_missing (record {
-    no_room = λ q. absurd (true≢false (sym q ∙ (h.no e).0));
-    differs = λ q l s. (h.no e).1 s.0;
-    touched = touched_wide place end (omega arith) (omega arith) h.touched;
-    read_only = h.read_only;
-  })
+pub last_put : {o o' : List ℕ} {place end w : ℕ} {write : Bool} (r : Bool) → WordPut o o' place w write r → place < end → Placed o o' place end write (w ∷ []) (then_some r (place + 1))
+unfolding Spells
+last_put true h room = all_laid (record { is = refl; fits = omega arith; words = (h.yes refl, tt); touched = h.touched; read_only = h.read_only })
+last_put {place = place} {end = end} false h room = some_missing (record {
+  no_room = λ q. absurd (true≢false (sym q ∙ (h.no refl).0));
+  differs = λ q l s. (h.no refl).1 s.0;
+  touched = touched_wide place end (omega arith) (omega arith) h.touched;
+  read_only = h.read_only;
+})
 
 -- nothing yet
 pub laid_none : (o : List ℕ) (start end : ℕ) (write : Bool) → start ≤ end → Laid o o start end write [] start
@@ -113,47 +94,9 @@ module _ {o o₁ o₂ : List ℕ} {start mid end : ℕ} {write : Bool} {u v : Li
         read_only = λ q. i.read_only q ∙ h.read_only q;
       }
 
-  pub placed_then : {r : Put} → Placed o₁ o₂ mid end write v r → Placed o o₂ start end write (u ++ v) r
+  pub placed_then : {r : Option ℕ} → Placed o₁ o₂ mid end write v r → Placed o o₂ start end write (u ++ v) r
   placed_then (all_laid i) = all_laid (laid_then i)
   placed_then (some_missing i) = some_missing (missing_then i)
-
--- a word put in front, after what follows it
-module _ {o o₁ : List ℕ} {place end : ℕ} (w : ℕ) {write : Bool} {v : List ℕ} where
-  pub laid_front : {o₂ : List ℕ} {e : ℕ} {r : Bool} → Laid o o₁ (place + 1) end write v e → WordPut o₁ o₂ place w write r → r ≡ true → Laid o o₂ place end write (w ∷ v) e
-  unfolding Spells
-  laid_front {o₂} {e} h p q =
-      let a : e ≡ place + 1 + length v = h.is in
-      record {
-        is = omega arith;
-        fits = h.fits;
-        words = (p.yes q, spells_same o₁ o₂ (place + 1) v (λ k l m. p.touched.above k (omega arith)) h.words);
-        touched = touched_then (place + 1) e place (place + 1) place e (omega arith) (omega arith) (omega arith) (omega arith) h.touched p.touched;
-        read_only = λ z. p.read_only z ∙ h.read_only z;
-      }
-
-  pub missing_front : {o₂ : List ℕ} {e : ℕ} {r : Bool} (rest : List ℕ) → Laid o o₁ (place + 1) end write v e → WordPut o₁ o₂ place w write r → r ≡ false → Missing o o₂ place end write (w ∷ (v ++ rest))
-  unfolding Spells
-  missing_front {o₂} {e} rest h p q =
-      let a : e ≡ place + 1 + length v = h.is in
-      let f : e ≤ end = h.fits in
-      let z = p.no q in
-      record {
-        no_room = λ k. absurd (true≢false (sym k ∙ z.0));
-        differs = λ k l s. z.1 (subst (λ x. at x place ≡ w) (sym (h.read_only k)) s.0);
-        touched = touched_then (place + 1) e place (place + 1) place end (omega arith) (omega arith) (omega arith) (omega arith) h.touched p.touched;
-        read_only = λ k. p.read_only k ∙ h.read_only k;
-      }
-
-  pub missing_inner : (rest : List ℕ) → Missing o o₁ (place + 1) end write v → Missing o o₁ place end write (w ∷ (v ++ rest))
-  unfolding Spells
-  missing_inner rest h =
-      let n : length (v ++ rest) ≡ length v + length rest = length-append v rest in
-      record {
-        no_room = λ k. omega (arith, h.no_room k);
-        differs = λ k l s. h.differs k (omega arith) (spells_split o (place + 1) v rest s.1).0;
-        touched = touched_wide place end (omega arith) (omega arith) h.touched;
-        read_only = h.read_only;
-      }
 
 -- what is missing of the first words is missing of more
 pub missing_more : {o o₁ : List ℕ} {start end : ℕ} {write : Bool} {u : List ℕ} (v : List ℕ) → Missing o o₁ start end write u → Missing o o₁ start end write (u ++ v)
@@ -165,6 +108,16 @@ missing_more {o} {o₁} {start} {end} {write} {u} v h =
       touched = h.touched;
       read_only = h.read_only;
     }
+
+-- what is missing of the rest is missing of the whole
+pub missed_part : {o o₁ : List ℕ} {place end w : ℕ} {write : Bool} {v : List ℕ} → Missing o o₁ (place + 1) end write v → Missing o o₁ place end write (w ∷ v)
+unfolding Spells
+missed_part {o} {o₁} {place} {end} h = record {
+  no_room = λ k. omega (arith, h.no_room k);
+  differs = λ k l s. h.differs k (omega arith) s.1;
+  touched = touched_wide place end (omega arith) (omega arith) h.touched;
+  read_only = h.read_only;
+}
 
 -- no room for even one word
 pub missing_end : (o : List ℕ) (place end : ℕ) (write : Bool) (v : List ℕ) → end ≤ place → 0 < length v → Missing o o place end write v
@@ -184,13 +137,17 @@ pub laid_room : {o o' : List ℕ} {start next end : ℕ} {v : List ℕ} {write :
 laid_room r d = record { inside = omega (arith, r.inside, d.fits, d.touched.long); short = omega (arith, r.short, d.fits) }
 
 -- by cases, where the answer is known
-pub laid_of : {o o' : List ℕ} {start end e : ℕ} {write : Bool} {v : List ℕ} {r : Put} → Placed o o' start end write v r → r ≡ End e → Laid o o' start end write v e
+pub laid_of : {o o' : List ℕ} {start end e : ℕ} {write : Bool} {v : List ℕ} {r : Option ℕ} → Placed o o' start end write v r → r ≡ Some e → Laid o o' start end write v e
 laid_of {o} {o'} {start} {end} {e} {write} {v} (all_laid {e = k} h) q = let z : k ≡ e = cc in subst (Laid o o' start end write v) z h
 laid_of (some_missing h) q = clash (cc)
 
-pub missing_of : {o o' : List ℕ} {start end : ℕ} {write : Bool} {v : List ℕ} {r : Put} → Placed o o' start end write v r → r ≡ Missed → Missing o o' start end write v
+pub missing_of : {o o' : List ℕ} {start end : ℕ} {write : Bool} {v : List ℕ} {r : Option ℕ} → Placed o o' start end write v r → r ≡ None → Missing o o' start end write v
 missing_of (all_laid h) q = clash (cc)
 missing_of (some_missing h) q = h
+
+pub placed_long : {o o' : List ℕ} {start end : ℕ} {write : Bool} {v : List ℕ} {r : Option ℕ} → Placed o o' start end write v r → length o' ≡ length o
+placed_long (all_laid h) = h.touched.long
+placed_long (some_missing h) = h.touched.long
 
 -- a term: what is put already, and what is left
 pub record Putting (ws s o₀ o : List ℕ) (w start place end : ℕ) (write : Bool) (names goal : List ℕ) : Type 0 where
@@ -205,30 +162,23 @@ pub putting_start : {ws s o : List ℕ} {w start end : ℕ} {names : List ℕ} (
 putting_start {o = o} {start = start} {end = end} write t h q = record { term = t; here = h; known = q.known; put = []; laid = laid_none o start end write q.from; is = refl }
 
 module _ {ws s o₀ o : List ℕ} {w start place end : ℕ} {write : Bool} {names goal : List ℕ} (g : Putting ws s o₀ o w start place end write names goal) where
-  finish : {o' : List ℕ} {r : Put} → Placed o o' place end write (term_words (reify names g.term)) r → Placed o₀ o' start end write goal r
+  finish : {o' : List ℕ} {r : Option ℕ} → Placed o o' place end write (term_words (reify names g.term)) r → Placed o₀ o' start end write goal r
   finish {o'} {r} p = subst (λ v. Placed o₀ o' start end write v r) g.is (placed_then g.laid p)
 
-  pub putting_full : end ≤ place → Placed o₀ o start end write goal Missed
+  pub putting_full : end ≤ place → Placed o₀ o start end write goal None
   putting_full l = finish (some_missing (missing_end o place end write (term_words (reify names g.term)) l (term_some (reify names g.term))))
 
   module _ {r : Shape} (f : FollowedAs ws s w r) where
     pub putting_low : {x : ℕ} → r ≡ Open x → x < 2048
     putting_low e = (told_open g.term f e g.here).1
 
-    pub putting_named : {top x : ℕ} → Names s top names → r ≡ Open x → at s (4096 + x) % 4096 ≡ index x names + 1
-    putting_named {top} {x} n e =
-        let o = told_open g.term f e g.here in
-        let m : member x names ≡ true = subst (λ t. vars_in names t ≡ true) o.0 g.known in
-        name_number n x o.1 (name_member n x o.1 m)
+    pub puts_open : {x : ℕ} {a : Bool} → Puts s o₀ start end names a → r ≡ Open x → Puts s o place end names (member x names)
+    puts_open q e = puts_behind q g.laid (subst (λ t. vars_in names t ≡ true) (told_open g.term f e g.here).0 g.known)
 
-    pub putting_open : {x top bits : ℕ} {o' : List ℕ} {q : Put} → Names s top names → r ≡ Open x → bits ≡ word (0 % 16) ((at s (4096 + x) % 4096 - 1) % 268435456) → Placed o o' place end write (bits ∷ []) q → Placed o₀ o' start end write goal q
-    unfolding term_words
-    putting_open {x} {top} {bits} {o'} {q} n e b p =
-        let m : at s (4096 + x) % 4096 ≡ index x names + 1 = putting_named n e in
-        let z : bits ≡ word 0 (index x names) = omega arith in
-        finish (subst (λ t. Placed o o' place end write (term_words (reify names t)) q) (sym (told_open g.term f e g.here).0) (subst (λ k. Placed o o' place end write (k ∷ []) q) z p))
+    pub putting_open : {x : ℕ} {o' : List ℕ} {q : Option ℕ} → r ≡ Open x → Placed o o' place end write (term_words (var (index x names))) q → Placed o₀ o' start end write goal q
+    putting_open {x} {o'} {q} e p = finish (subst (λ t. Placed o o' place end write (term_words (reify names t)) q) (sym (told_open g.term f e g.here).0) p)
 
-    pub putting_leaf : {bits : ℕ} {o' : List ℕ} {q : Put} → r ≡ Leaf bits → Placed o o' place end write (bits ∷ []) q → Placed o₀ o' start end write goal q
+    pub putting_leaf : {bits : ℕ} {o' : List ℕ} {q : Option ℕ} → r ≡ Leaf bits → Placed o o' place end write (bits ∷ []) q → Placed o₀ o' start end write goal q
     unfolding term_words Shaped
     putting_leaf {bits} {o'} {q} e p =
         let d = told_leaf g.term f e g.here in
@@ -245,72 +195,60 @@ module _ {ws s o₀ o : List ℕ} {w start place end : ℕ} {write : Bool} {name
     pub puts_first : {a : Bool} → Puts s o₀ start end names a → place < end → Puts s o (place + 1) end names (vars_in names p.first)
     puts_first q l = puts_at q g.laid.touched.long (omega arith) parts_known.0
 
-    pair_words : term_words (reify names g.term) ≡ word 4 (length (term_words (reify names p.first))) ∷ (term_words (reify names p.first) ++ term_words (reify names p.second))
+    pair_words : term_words (reify names g.term) ≡ part 4 (term_words (reify names p.first)) ++ term_words (reify names p.second)
     unfolding term_words
     pair_words = ap (λ t. term_words (reify names t)) p.is
 
-    pub putting_missed : {o' : List ℕ} {q : Put} → Placed o o' (place + 1) end write (term_words (reify names p.first)) q → q ≡ Missed → Placed o₀ o' start end write goal Missed
-    putting_missed {o'} h e = finish (subst (λ v. Placed o o' place end write v Missed) (sym pair_words) (some_missing (missing_inner _ (term_words (reify names p.second)) (missing_of h e))))
+    putting_short : {o' : List ℕ} → Missing o o' place end write (part 4 (term_words (reify names p.first))) → Placed o₀ o' start end write goal None
+    putting_short {o'} h = finish (subst (λ v. Placed o o' place end write v None) (sym pair_words) (some_missing (missing_more (term_words (reify names p.second)) h)))
 
-    module _ {o₁ o₂ : List ℕ} {next bits : ℕ} {ok : Bool} (short : end < 268435456) (h : Laid o o₁ (place + 1) end write (term_words (reify names p.first)) next)
-        (back : WordPut o₁ o₂ place bits write ok) (is_bits : bits ≡ word (4 % 16) ((next - place - 1) % 268435456)) where
-      pair_word : bits ≡ word 4 (length (term_words (reify names p.first)))
-      pair_word = let k : next ≡ place + 1 + length (term_words (reify names p.first)) = h.is in let l : next ≤ end = h.fits in omega arith
+    pub putting_missed : {o' : List ℕ} {q : Option ℕ} → Placed o o' (place + 1) end write (term_words (reify names p.first)) q → q ≡ None → Placed o₀ o' start end write goal None
+    putting_missed h e = putting_short (missed_part (missing_of h e))
 
-      pub putting_no : ok ≡ false → Placed o₀ o₂ start end write goal Missed
-      putting_no e =
-          finish (subst (λ v. Placed o o₂ place end write v Missed) (sym pair_words)
-          (some_missing (missing_front _ (term_words (reify names p.second)) h (subst (λ k. WordPut o₁ o₂ place k write ok) pair_word back) e)))
+    module _ {o₂ : List ℕ} {q : Option ℕ} (h : Placed o o₂ place end write (part 4 (term_words (reify names p.first))) q) where
+      pub putting_no : q ≡ None → Placed o₀ o₂ start end write goal None
+      putting_no e = putting_short (missing_of h e)
 
-      pub putting_next : ok ≡ true → Putting ws s o₀ o₂ b start next end write names goal
+      pub putting_next : {next : ℕ} → q ≡ Some next → Putting ws s o₀ o₂ b start next end write names goal
       putting_next e = record {
         term = p.second;
         here = p.second_here;
         known = parts_known.1;
-        put = g.put ++ (word 4 (length (term_words (reify names p.first))) ∷ term_words (reify names p.first));
-        laid = laid_then g.laid (laid_front _ h (subst (λ k. WordPut o₁ o₂ place k write ok) pair_word back) e);
+        put = g.put ++ part 4 (term_words (reify names p.first));
+        laid = laid_then g.laid (laid_of h e);
         is = append_assoc g.put _ _ ∙ ap (λ v. g.put ++ v) (sym pair_words) ∙ g.is;
       }
 
-pub placed_long : {o o' : List ℕ} {start end : ℕ} {write : Bool} {v : List ℕ} {r : Put} → Placed o o' start end write v r → length o' ≡ length o
-placed_long (all_laid h) = h.touched.long
-placed_long (some_missing h) = h.touched.long
-
 -- a part: its word is put last, in front
-pub missed_part : {o o₁ : List ℕ} {place end w : ℕ} {write : Bool} {v : List ℕ} → Missing o o₁ (place + 1) end write v → Missing o o₁ place end write (w ∷ v)
+pub head_put : (kind : ℕ) {o₁ o₂ : List ℕ} {start next bits : ℕ} {write : Bool} (r : Bool) → next < 268435456 → WordPut o₁ o₂ start bits write r → bits ≡ word kind ((next - start - 1) % 268435456)
+    → (o : List ℕ) (end : ℕ) (v : List ℕ) → Laid o o₁ (start + 1) end write v next → Placed o o₂ start end write (part kind v) (then_some r next)
 unfolding Spells
-missed_part {o} {o₁} {place} {end} h = record {
-  no_room = λ k. omega (arith, h.no_room k);
-  differs = λ k l s. h.differs k (omega arith) s.1;
-  touched = touched_wide place end (omega arith) (omega arith) h.touched;
-  read_only = h.read_only;
-}
+head_put kind {o₁} {o₂} {start} {next} {bits} {write} r short back is_bits o end v h = go r (subst (λ k. WordPut o₁ o₂ start k write r) head_word back)
+  where
+    behind : next ≡ start + 1 + length v
+    behind = h.is
 
-module _ {o₁ o₂ : List ℕ} {start next kind bits : ℕ} {write ok : Bool} (low : kind < 16) (short : next < 268435456) (back : WordPut o₁ o₂ start bits write ok)
-    (is_bits : bits ≡ word (kind % 16) ((next - start - 1) % 268435456)) (o : List ℕ) (end : ℕ) (v : List ℕ) (h : Laid o o₁ (start + 1) end write v next) where
-  head_word : bits ≡ word kind (length v)
-  head_word = let k : next ≡ start + 1 + length v = h.is in let m : (next - start - 1) % 268435456 ≡ length v = omega arith in let n : kind % 16 ≡ kind = omega arith in is_bits ∙ ap₂ word n m
+    head_word : bits ≡ word kind (length v)
+    head_word = let m : (next - start - 1) % 268435456 ≡ length v = omega arith in is_bits ∙ ap (word kind) m
 
-  back_word : WordPut o₁ o₂ start (word kind (length v)) write ok
-  back_word = subst (λ k. WordPut o₁ o₂ start k write ok) head_word back
+    go : (r : Bool) → WordPut o₁ o₂ start (word kind (length v)) write r → Placed o o₂ start end write (part kind v) (then_some r next)
+    go true p = all_laid (record {
+      is = omega (arith, behind);
+      fits = h.fits;
+      words = (p.yes refl, spells_same o₁ o₂ (start + 1) v (λ k l m. p.touched.above k (omega arith)) h.words);
+      touched = touched_then (start + 1) next start (start + 1) start next (omega arith) (omega arith) (omega arith) (omega (arith, behind)) h.touched p.touched;
+      read_only = λ k. p.read_only k ∙ h.read_only k;
+    })
+    go false p =
+        let f : next ≤ end = h.fits in
+        some_missing (record {
+          no_room = λ k. absurd (true≢false (sym k ∙ (p.no refl).0));
+          differs = λ k l s. (p.no refl).1 (subst (λ x. at x start ≡ word kind (length v)) (sym (h.read_only k)) s.0);
+          touched = touched_then (start + 1) next start (start + 1) start end (omega arith) (omega arith) (omega arith) (omega (arith, behind)) h.touched p.touched;
+          read_only = λ k. p.read_only k ∙ h.read_only k;
+        })
 
-  pub head_put : ok ≡ true → Placed o o₂ start end write (part kind v) (End next)
-  head_put e = all_laid (laid_front _ h back_word e)
-
-  pub head_missed : ok ≡ false → Placed o o₂ start end write (part kind v) Missed
-  unfolding Spells
-  head_missed e =
-      let a : next ≡ start + 1 + length v = h.is in
-      let f : next ≤ end = h.fits in
-      let z = back_word.no e in
-      some_missing (record {
-        no_room = λ k. absurd (true≢false (sym k ∙ z.0));
-        differs = λ k l s. z.1 (subst (λ x. at x start ≡ word kind (length v)) (sym (h.read_only k)) s.0);
-        touched = touched_then (start + 1) next start (start + 1) start end (omega arith) (omega arith) (omega arith) (omega arith) h.touched back_word.touched;
-        read_only = λ k. back_word.read_only k ∙ h.read_only k;
-      })
-
-pub one_full : {o : List ℕ} {place end w : ℕ} {write : Bool} → end ≤ place → Placed o o place end write (w ∷ []) Missed
+pub one_full : {o : List ℕ} {place end w : ℕ} {write : Bool} → end ≤ place → Placed o o place end write (w ∷ []) None
 one_full {o} {place} {end} {w} {write} l = some_missing (missing_end o place end write (w ∷ []) l (omega arith))
 
 -- a variable that has a name
@@ -318,7 +256,7 @@ module _ {s : List ℕ} {top x : ℕ} {names : List ℕ} (low : x < 2048) (n : N
   pub variable_number : at s (4096 + x) % 4096 ≡ index x names + 1
   variable_number = name_number n x low (name_member n x low m)
 
-  pub variable_put : {o o' : List ℕ} {place end bits : ℕ} {write : Bool} {q : Put} → bits ≡ word (0 % 16) ((at s (4096 + x) % 4096 - 1) % 268435456) → Placed o o' place end write (bits ∷ []) q → Placed o o' place end write (term_words (var (index x names))) q
+  pub variable_put : {o o' : List ℕ} {place end bits : ℕ} {write : Bool} {q : Option ℕ} → bits ≡ word 0 ((at s (4096 + x) % 4096 - 1) % 268435456) → Placed o o' place end write (bits ∷ []) q → Placed o o' place end write (term_words (var (index x names))) q
   unfolding term_words
   variable_put {o} {o'} {place} {end} {bits} {write} {q} b p =
       let k : at s (4096 + x) % 4096 ≡ index x names + 1 = variable_number in

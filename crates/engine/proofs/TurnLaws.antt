@@ -1,7 +1,8 @@
 -- A turn, as the code does it: one law for each way in which `leave_path`, `go_on` and `turn` return.
+use Rattle.std.specs.Prelude.{Option, None, Some}
 use Prim.Native.Nat.{ℕ, ◌≤◌}
 use mathlib.Core.Path.{◌≡◌, refl, sym, ap, subst, ◌∙◌}
-use mathlib.Core.Bool.{true, false}
+use mathlib.Core.Bool.{Bool, true, false}
 use mathlib.Core.List.{List, [], ◌∷◌}
 use native.Mathlib.Omega.{arith}
 use lib.Dec.{eqb}
@@ -18,11 +19,9 @@ use Rattle.engine.specs.Memory.{goal_at, next_at, StackIn, Stored}
 use Rattle.engine.specs.Take.{registers, PathHeld, took_says, TookHolds, TookAs, OverAs, ResumedAs, BacktrackAs}
 use Rattle.engine.specs.Turn.{took_goal, tallied, NextAs, TurnedAs}
 use Rattle.engine.specs.declared.search.state.State.{State}
-use Rattle.engine.specs.declared.search.state.Stop.{Stop}
+use Rattle.engine.specs.declared.steps.Stopped.{Stopped}
 use Rattle.engine.specs.declared.search.state.Way.{Way}
 use Rattle.engine.specs.declared.search.state.Way.TheVariants as way
-use Rattle.engine.specs.declared.search.state.Resumed.{Resumed}
-use Rattle.engine.specs.declared.search.state.Resumed.TheVariants as resumed
 use Rattle.engine.specs.declared.search.state.Lead.{Lead}
 use Rattle.engine.specs.declared.search.state.Lead.TheVariants.{Goal, Over, Answer, Stops}
 use Rattle.engine.specs.declared.search.state.Turned.{Turned}
@@ -31,15 +30,15 @@ use Rattle.engine.proofs.ClaimLaws.{pop}
 -- The path is left.
 
 -- backtracking keeps the steps left, so the tally is the one that it was given
-tally_left : (t : Tally) (l m c : ℕ) → m ≡ l → tallied t l c ≡ tallied t m c
+tally_left : (t : Tally) (l m : ℕ) (c : Bool) → m ≡ l → tallied t l c ≡ tallied t m c
 tally_left t l m c e = ap (λ x. tallied t x c) (sym e)
 
-module _ (P : Program) (n k : ℕ) (ws s : List ℕ) (st : State) (t : Tally) (o : Outcome Taken) (c : ℕ) where
-  pub left_over : (x : Next) {r : Resumed} → r ≡ resumed.Over → BacktrackAs P ws s st (tallied t st.steps c) x r → NextAs P n k ws s t o x Over st 0 c
+module _ (P : Program) (n k : ℕ) (ws s : List ℕ) (st : State) (t : Tally) (o : Outcome Taken) (c : Bool) where
+  pub left_over : (x : Next) {r : Option (State × ℕ)} → r ≡ None → BacktrackAs P ws s st (tallied t st.steps c) x r → NextAs P n k ws s t o x Over st c
   unfolding BacktrackAs NextAs
   left_over x e b = let q : OverAs P ws s st (tallied t st.steps c) x = rw e at b in (q.says, (q.path, q.held))
 
-  pub left_goal : (x : Next) {r : Resumed} {next : State} {w : ℕ} → r ≡ resumed.Goal next w → BacktrackAs P ws s st (tallied t st.steps c) x r → NextAs P n k ws s t o x Goal next w c
+  pub left_goal : (x : Next) {r : Option (State × ℕ)} {next : State} {w : ℕ} → r ≡ Some (next, w) → BacktrackAs P ws s st (tallied t st.steps c) x r → NextAs P n k ws s t o x (Goal w) next c
   unfolding BacktrackAs NextAs
   left_goal x {next = next} {w = w} e b =
       let q : ResumedAs P ws s st (tallied t st.steps c) x next w = rw e at b in
@@ -56,8 +55,8 @@ cell_there {P} {ws} {s} st {p} h e = go p.stack h.path_in.tasks
     go (x ∷ xs) q = omega (arith, q.0.low, h.roomy.put)
 
 module _ (P : Program) (n k : ℕ) (ws s : List ℕ) (st : State) (p : Path) (cs : List ChoicePoint) (t : Tally) (h : PathHeld P ws s st p cs) where
-  abbrev pub goes_to : List ℕ → Lead → State → ℕ → ℕ → Type 0
-  goes_to s' lead next w c = NextAs P n k ws s' t (done (goes p cs) st.steps) (go_on (once argument) n k p p.stack cs (spend t st.steps)) lead next w c
+  abbrev pub goes_to : List ℕ → Lead → State → Bool → Type 0
+  goes_to s' lead next c = NextAs P n k ws s' t (done (goes p cs) st.steps) (go_on (once argument) n k p p.stack cs (spend t st.steps)) lead next c
 
   no_stack : st.head ≡ 0 → p.stack ≡ []
   no_stack e = go p.stack h.path_in.tasks
@@ -66,7 +65,7 @@ module _ (P : Program) (n k : ℕ) (ws s : List ℕ) (st : State) (p : Path) (cs
       go [] q = refl
       go (x ∷ xs) q = absurd (omega (arith, q.0.is_cell))
 
-  pub goes_answer : st.head ≡ 0 → st.calls ≡ k → goes_to s Answer st 0 0
+  pub goes_answer : st.head ≡ 0 → st.calls ≡ k → goes_to s Answer st false
   unfolding NextAs
   goes_answer e f =
       let calls : p.calls ≡ k = sym h.path_in.calls ∙ f in
@@ -75,18 +74,18 @@ module _ (P : Program) (n k : ℕ) (ws s : List ℕ) (st : State) (p : Path) (cs
       (p, cs, ap (λ ts. go_on (once argument) n k p ts cs (spend t st.steps)) (no_stack e) ∙ x, h, no_stack e, calls, refl)
 
   pub goes_fewer : (s' : List ℕ) (r : Turned) → st.head ≡ 0 → (st.calls ≡ k → ⊥)
-      → ((Q : Program) (m j : ℕ) (q : Path) (ds : List ChoicePoint) (u : Tally) (o : Outcome Taken) → PathHeld Q ws s st q ds → TurnedAs Q m j ws s' u o (backtrack ds (tallied u st.steps 0)) r) → goes_to s' r.lead r.state r.goal r.cuts
+      → ((Q : Program) (m j : ℕ) (q : Path) (ds : List ChoicePoint) (u : Tally) (o : Outcome Taken) → PathHeld Q ws s st q ds → TurnedAs Q m j ws s' u o (backtrack ds (tallied u st.steps false)) r) → goes_to s' r.lead r.state r.cut
   goes_fewer s' r e f left =
       let y : eqb p.calls k ≡ false = ne_eqb p.calls k (λ q. f (h.path_in.calls ∙ q)) in
       let x : go_on (once argument) n k p [] cs (spend t st.steps) ≡ backtrack cs (spend t st.steps) = rw y refl in
       subst (λ z. TurnedAs P n k ws s' t (done (goes p cs) st.steps) z r) (sym (ap (λ ts. go_on (once argument) n k p ts cs (spend t st.steps)) (no_stack e) ∙ x)) (left P n k p cs t (done (goes p cs) st.steps) h)
 
   pub goes_goal : (st.head ≡ 0 → ⊥)
-      → goes_to s Goal (record { head = at s (next_at st.head); trail = st.trail; variables = st.variables; goals = st.goals; constraints = st.constraints; calls = st.calls; choices = st.choices; steps = st.steps }) (at s (goal_at st.head)) 0
+      → goes_to s (Goal (at s (goal_at st.head))) (record { head = at s (next_at st.head); trail = st.trail; variables = st.variables; goals = st.goals; constraints = st.constraints; calls = st.calls; choices = st.choices; steps = st.steps }) false
   unfolding NextAs
   goes_goal e = go p.stack refl
     where
-      go : (ts : List Task) → p.stack ≡ ts → goes_to s Goal (record { head = at s (next_at st.head); trail = st.trail; variables = st.variables; goals = st.goals; constraints = st.constraints; calls = st.calls; choices = st.choices; steps = st.steps }) (at s (goal_at st.head)) 0
+      go : (ts : List Task) → p.stack ≡ ts → goes_to s (Goal (at s (goal_at st.head))) (record { head = at s (next_at st.head); trail = st.trail; variables = st.variables; goals = st.goals; constraints = st.constraints; calls = st.calls; choices = st.choices; steps = st.steps }) false
       go [] q = absurd (e (subst (StackIn ws s st.goals st.head) q h.path_in.tasks))
       go (x ∷ xs) q =
           let g : Stored P ws s (registers st) st.choices (waiting_on p (x ∷ xs) p.put) cs = subst (λ ts. Stored P ws s (registers st) st.choices (waiting_on p ts p.put) cs) q h in
@@ -120,25 +119,25 @@ module _ (P : Program) (n k : ℕ) (ws s s' : List ℕ) (state : round.State) (l
     took_as : {z : Way} → y ≡ z → (took_goal k P state left) ≡ took_says b.path b.choices z st.steps
     took_as e = b.says ∙ ap (λ z. took_says b.path b.choices z st.steps) e
 
-    pub turn_stops : {why : Stop} {l : ℕ} (w c : ℕ) → y ≡ way.Stops why l → turns_to (record { lead = Stops why l; state = st; goal = w; cuts = c })
+    pub turn_stops : {e : Stopped} (c : Bool) → y ≡ way.Stops e → turns_to (record { lead = Stops e; state = st; cut = c })
     unfolding took_says NextAs
-    turn_stops w c e = turn_is (took_as e)
+    turn_stops c is = turn_is (took_as is)
 
     -- and what comes of it
     module _ (said : Turned) where
-      abbrev Leaves_as : ℕ → Type 0
+      abbrev Leaves_as : Bool → Type 0
       Leaves_as c = (Q : Program) (m j : ℕ) (q : Path) (ds : List ChoicePoint) (u : Tally) (o : Outcome Taken) → PathHeld Q ws s st q ds → TurnedAs Q m j ws s' u o (backtrack ds (tallied u st.steps c)) said
 
-      leaves_to : (c : ℕ) → turn P n k state ≡ backtrack state.choices (tallied state.tally st.steps c) → PathHeld P ws s st b.path state.choices → Leaves_as c → turns_to said
+      leaves_to : (c : Bool) → turn P n k state ≡ backtrack state.choices (tallied state.tally st.steps c) → PathHeld P ws s st b.path state.choices → Leaves_as c → turns_to said
       leaves_to c q h f = subst (λ x. TurnedAs P n k ws s' state.tally (took_goal k P state left) x said) (sym q) (f P n k b.path state.choices state.tally (took_goal k P state left) h)
 
-      pub turn_leaves : y ≡ way.Leaves → Leaves_as 0 → turns_to said
+      pub turn_leaves : y ≡ way.Leaves → Leaves_as false → turns_to said
       unfolding took_says
-      turn_leaves e = leaves_to 0 (turn_is (took_as e)) (held_left b e)
+      turn_leaves e = leaves_to false (turn_is (took_as e)) (held_left b e)
 
-      pub turn_cuts : y ≡ way.Cut → Leaves_as 1 → turns_to said
+      pub turn_cuts : y ≡ way.Cut → Leaves_as true → turns_to said
       unfolding took_says
-      turn_cuts e = leaves_to 1 (turn_is (took_as e)) (held_cut b e)
+      turn_cuts e = leaves_to true (turn_is (took_as e)) (held_cut b e)
 
       pub turn_onward : y ≡ way.Goes
           → ((Q : Program) (m : ℕ) (q : Path) (ds : List ChoicePoint) (u : Tally) → PathHeld Q ws s st q ds → TurnedAs Q m k ws s' u (done (goes q ds) st.steps) (go_on (once argument) m k q q.stack ds (spend u st.steps)) said)

@@ -2,24 +2,28 @@
 use Prim.Native.Nat.{ℕ, zero, suc, ◌+◌, ◌*◌, ◌-◌, ◌≤◌, ◌<◌}
 use mathlib.Core.Path.{◌≡◌, refl, sym, ap, subst, ◌∙◌}
 use mathlib.Core.Logic.{◌⊎◌, inl, inr, ⊎_elim}
+use mathlib.Core.Bool.{true, false}
 use mathlib.Core.Option.{none, some}
 use mathlib.Core.List.{List, [], ◌∷◌, ◌++◌, append_assoc}
 use native.Mathlib.Omega.{arith}
 use lib.ListN.{length, set, length-set}
 use lib.Seq.{get_or-set_same, get_or-set_other}
 use borrow.Author.Tests.{lt-ltb, le-ltb}
+use Rattle.std.specs.Prelude.{Result, Ok, Err}
 use Rattle.rules.specs.Syntax.{Term}
 use Rattle.rules.specs.Settings.{scratch_words}
 use Rattle.semantics.specs.Substitution.{Substitution}
-use Rattle.semantics.specs.Steps.{waiting, no_steps, at_bound, done, stop}
+use Rattle.semantics.specs.Steps.{done}
 use Rattle.semantics.specs.Unify.{Pairs, unify_next, unify, unify_terms}
 use Rattle.engine.specs.Reference.{at, Stands}
 use Rattle.engine.specs.Memory.{BindingsIn}
 use Rattle.engine.specs.Trail.{Same}
 use Rattle.engine.specs.Unify.{TwoTerms, PairGoes, PairParts, PairEnds, PairUnifiedAs, Went, UnifiedAs}
+use Rattle.engine.specs.Steps.{stops, no_steps, at_bound}
+use Rattle.engine.specs.declared.report.Bound.TheVariants.{Waiting}
+use Rattle.engine.specs.declared.steps.Stopped.{Stopped}
 use Rattle.engine.specs.declared.terms.unify.PairUnified.{PairUnified}
 use Rattle.engine.specs.declared.terms.unify.PairUnified.TheVariants as paired
-use Rattle.engine.specs.declared.terms.unify.Unified.TheVariants as unified
 use Rattle.engine.proofs.FrameLaws.{bindings_same}
 use Rattle.engine.proofs.TrailLaws.{fresh_few, apart_same, apart_trans}
 
@@ -41,7 +45,6 @@ pub record Unifying (ws s₀ : List ℕ) (bs₀ : Substitution) (u₀ v₀ : Ter
   pub pairs : Pairs
   pub pairs_in : PairsIn ws s pairs
   pub top_is : top ≡ length pairs
-  pub few : top ≤ 512
   pub left : Term
   pub right : Term
   pub stands_left : Stands ws a left
@@ -56,7 +59,6 @@ unifying_start {s = s} {bs = bs} {u = u} {v = v} {steps = steps} m = record {
   pairs = [];
   pairs_in = tt;
   top_is = refl;
-  few = omega arith;
   left = u;
   right = v;
   stands_left = m.first;
@@ -70,11 +72,10 @@ module _ {ws s₀ : List ℕ} {bs₀ : Substitution} {u₀ v₀ : Term} {steps :
   pub unifying_two : TwoTerms ws s g.went.next a g.left b g.right trail
   unifying_two = record { held = g.went.held; first = g.stands_left; second = g.stands_right; trail_is = g.went.trail_is }
 
-  pub unify_out : rest ≡ 0 → UnifiedAs ws s₀ s bs₀ (unify_terms bs₀ u₀ v₀ steps) (unified.StepsOut trail)
-  unfolding UnifiedAs
+  pub unify_out : rest ≡ 0 → UnifiedAs ws s₀ s bs₀ (unify_terms bs₀ u₀ v₀ steps) (record { trail = trail; outcome = Err no_steps })
   unify_out z = (g.went, g.same ∙ ap (unify g.fuel g.went.next g.pairs g.left g.right) z ∙ none_left g.fuel)
     where
-      none_left : (fuel : ℕ) → unify fuel g.went.next g.pairs g.left g.right 0 ≡ stop no_steps 0
+      none_left : (fuel : ℕ) → unify fuel g.went.next g.pairs g.left g.right 0 ≡ stops no_steps
       none_left zero = refl
       none_left (suc fuel) = refl
 
@@ -85,35 +86,29 @@ module _ {ws s₀ : List ℕ} {bs₀ : Substitution} {u₀ v₀ : Term} {steps :
     went_still : {s' : List ℕ} → s' ≡ s → Went ws s₀ bs₀ s' trail
     went_still e = subst (λ z. Went ws s₀ bs₀ z trail) (sym e) g.went
 
-    module _ (s' : List ℕ) (r : PairUnified) (m : PairUnifiedAs ws s s' g.went.next g.left g.right rest r) where
-      pub paired_long : length s' ≡ length s₀
+    -- what the pair came to
+    module _ (s' : List ℕ) where
+      abbrev pub Told : Result PairUnified Stopped → Type 0
+      Told r = (bs : Substitution) (u v : Term) → TwoTerms ws s bs a u b v trail → PairUnifiedAs ws s s' bs u v rest r
+
+      told : (r : Result PairUnified Stopped) → Told r → PairUnifiedAs ws s s' g.went.next g.left g.right rest r
+      told r tells = tells g.went.next g.left g.right unifying_two
+
+      pub unify_stops : (e : Stopped) → Told (Err e) → UnifiedAs ws s₀ s' bs₀ (unify_terms bs₀ u₀ v₀ steps) (record { trail = trail; outcome = Err e })
       unfolding PairUnifiedAs
-      paired_long = go r m ∙ g.went.apart.long
-        where
-          go : (r : PairUnified) → PairUnifiedAs ws s s' g.went.next g.left g.right rest r → length s' ≡ length s
-          go (paired.Fails left) m = ap length m.untouched
-          go (paired.Goes n left) m = m.long
-          go (paired.Parts c d e f) m = ap length m.untouched
-          go paired.StepsOut m = ap length m.untouched
-          go (paired.WaitingOut left) m = ap length m.untouched
+      unify_stops e tells =
+          let q : PairEnds s s' g.went.next g.left g.right rest (stops e) = told (Err e) tells in (went_still q.untouched, step_same ∙ q.same (g.fuel - 1) g.pairs)
 
-      pub unify_failed : {after : ℕ} → r ≡ paired.Fails after → UnifiedAs ws s₀ s' bs₀ (unify_terms bs₀ u₀ v₀ steps) (unified.Failed trail after)
-      unfolding PairUnifiedAs UnifiedAs
-      unify_failed {after} e = let q : PairEnds s s' g.went.next g.left g.right rest (done none after) = rw e at m in (went_still q.untouched, step_same ∙ q.same (g.fuel - 1) g.pairs)
-
-      pub unify_stepped : r ≡ paired.StepsOut → UnifiedAs ws s₀ s' bs₀ (unify_terms bs₀ u₀ v₀ steps) (unified.StepsOut trail)
-      unfolding PairUnifiedAs UnifiedAs
-      unify_stepped e = let q : PairEnds s s' g.went.next g.left g.right rest (stop no_steps 0) = rw e at m in (went_still q.untouched, step_same ∙ q.same (g.fuel - 1) g.pairs)
-
-      pub unify_pathed : {after : ℕ} → r ≡ paired.WaitingOut after → UnifiedAs ws s₀ s' bs₀ (unify_terms bs₀ u₀ v₀ steps) (unified.WaitingOut trail after)
-      unfolding PairUnifiedAs UnifiedAs
-      unify_pathed {after} e = let q : PairEnds s s' g.went.next g.left g.right rest (stop (at_bound waiting) after) = rw e at m in (went_still q.untouched, step_same ∙ q.same (g.fuel - 1) g.pairs)
+      pub unify_failed : (r : PairUnified) → Told (Ok r) → {after : ℕ} → r ≡ paired.Fails after → UnifiedAs ws s₀ s' bs₀ (unify_terms bs₀ u₀ v₀ steps) (record { trail = trail; outcome = Ok (false, after) })
+      unfolding PairUnifiedAs
+      unify_failed r tells {after} e =
+          let q : PairEnds s s' g.went.next g.left g.right rest (done none after) = rw e at (told (Ok r) tells) in (went_still q.untouched, step_same ∙ q.same (g.fuel - 1) g.pairs)
 
       -- the pair is done with
-      module _ {n after : ℕ} (e : r ≡ paired.Goes n after) where
+      module _ (r : PairUnified) (tells : Told (Ok r)) {n after : ℕ} (e : r ≡ paired.Goes n after) where
         goes : PairGoes ws s s' g.went.next g.left g.right rest n after
         unfolding PairUnifiedAs
-        goes = rw e at m
+        goes = rw e at (told (Ok r) tells)
 
         went_on : Went ws s₀ bs₀ s' n
         went_on = record {
@@ -128,8 +123,8 @@ module _ {ws s₀ : List ℕ} {bs₀ : Substitution} {u₀ v₀ : Term} {steps :
         next_same : (vs : Pairs) → g.pairs ≡ vs → unify_terms bs₀ u₀ v₀ steps ≡ unify_next vs goes.next after (λ bs' us x y l. unify (g.fuel - 1) bs' us x y l)
         next_same vs q = step_same ∙ goes.same (g.fuel - 1) g.pairs ∙ ap (λ z. unify_next z goes.next after (λ bs' us x y l. unify (g.fuel - 1) bs' us x y l)) q
 
-        pub unify_joined : top ≡ 0 → UnifiedAs ws s₀ s' bs₀ (unify_terms bs₀ u₀ v₀ steps) (unified.Joined n after)
-        unfolding UnifiedAs went_on goes
+        pub unify_joined : top ≡ 0 → UnifiedAs ws s₀ s' bs₀ (unify_terms bs₀ u₀ v₀ steps) (record { trail = n; outcome = Ok (true, after) })
+        unfolding went_on goes
         unify_joined z = (went_on, go g.pairs refl)
           where
             go : (vs : Pairs) → g.pairs ≡ vs → unify_terms bs₀ u₀ v₀ steps ≡ done (some goes.next) after
@@ -153,7 +148,6 @@ module _ {ws s₀ : List ℕ} {bs₀ : Substitution} {u₀ v₀ : Term} {steps :
                   pairs = vs;
                   pairs_in = j.2;
                   top_is = l;
-                  few = omega (arith, g.few);
                   left = v.0;
                   right = v.1;
                   stands_left = rw l j.0;
@@ -164,14 +158,13 @@ module _ {ws s₀ : List ℕ} {bs₀ : Substitution} {u₀ v₀ : Term} {steps :
                 }
 
       -- its parts come next
-      module _ {c d e f : ℕ} (y : r ≡ paired.Parts c d e f) where
+      module _ (r : PairUnified) (tells : Told (Ok r)) {c d e f : ℕ} (y : r ≡ paired.Parts c d e f) where
         splits : PairParts ws s s' g.went.next g.left g.right rest c d e f
         unfolding PairUnifiedAs
-        splits = rw y at m
+        splits = rw y at (told (Ok r) tells)
 
-        pub unify_full : 512 ≤ top → UnifiedAs ws s₀ s' bs₀ (unify_terms bs₀ u₀ v₀ steps) (unified.WaitingOut trail rest)
-        unfolding UnifiedAs
-        unify_full le = (went_still splits.untouched, step_same ∙ splits.same (g.fuel - 1) g.pairs ∙ rw (le-ltb (length g.pairs) 512 (omega (arith, g.top_is))))
+        pub unify_full : {z : Stopped} → 512 ≤ top → z ≡ at_bound Waiting rest → UnifiedAs ws s₀ s' bs₀ (unify_terms bs₀ u₀ v₀ steps) (record { trail = trail; outcome = Err z })
+        unify_full le i = rw i (went_still splits.untouched, step_same ∙ splits.same (g.fuel - 1) g.pairs ∙ rw (le-ltb (length g.pairs) 512 (omega (arith, g.top_is))))
 
         pub unify_push : top < 512 → Unifying ws s₀ bs₀ u₀ v₀ steps (set (set s' (10752 + 2 * top) d) (10752 + 2 * top + 1) f) c e (top + 1) trail (rest - 1)
         unify_push lt = subst (λ z. Unifying ws s₀ bs₀ u₀ v₀ steps (set (set z (10752 + 2 * top) d) (10752 + 2 * top + 1) f) c e (top + 1) trail (rest - 1)) (sym splits.untouched) pushed
@@ -220,7 +213,6 @@ module _ {ws s₀ : List ℕ} {bs₀ : Substitution} {u₀ v₀ : Term} {steps :
                 pairs_same ws s s₁ g.pairs (λ i lo hi. other i (inl (omega arith))) g.pairs_in,
               );
               top_is = omega arith;
-              few = omega arith;
               left = splits.first;
               right = splits.third;
               stands_left = splits.stands_first;

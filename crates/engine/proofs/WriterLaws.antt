@@ -10,6 +10,7 @@ use lib.Dec.{eqb}
 use lib.ListN.{length, take, length-append}
 use lib.Seq.{take-append_seam}
 use borrow.Author.Tests.{eqb-true}
+use Rattle.std.specs.Prelude.{Option as RustOption, Result, Ok, Err}
 use Rattle.rules.specs.Reading.{choose}
 use Rattle.rules.specs.Syntax.{Atom, Term, var, atom, pair}
 use Rattle.rules.specs.Written.{term_words}
@@ -26,9 +27,8 @@ use Rattle.engine.specs.Walk.{Binds, Follows, Resolves}
 use Rattle.engine.specs.Names.{Named}
 use Rattle.engine.specs.Term.{Puts, Placed}
 use Rattle.engine.specs.Look.{LookedThroughAs}
-use Rattle.engine.specs.declared.writer.term.Put.{Put}
-use Rattle.engine.specs.declared.writer.look.LookedThrough.{LookedThrough}
-use Rattle.engine.specs.declared.writer.look.LookedThrough.TheVariants as looked
+use Rattle.engine.specs.Steps.{no_steps}
+use Rattle.engine.specs.declared.steps.Stopped.{Stopped}
 use Rattle.engine.specs.Line.{Equations}
 use Rattle.engine.specs.Trial.{EquationsKept}
 use Rattle.engine.specs.Lines.{add_line, add_lines, occurrences}
@@ -158,19 +158,19 @@ module _ {ws s : List ℕ} {bs : Substitution} (x : ℕ) (b : Binds ws s bs) (lo
   pub parameter_puts : {o : List ℕ} {start end : ℕ} {names : List ℕ} → at s x ≡ 0 → Puts s o start end names (vars_in names (resolve bs (var x))) → Puts s o start end names (member x names)
   parameter_puts {o} {start} {end} {names} z g = subst (λ t. Puts s o start end names (vars_in names t)) (parameter_itself z) g
 
-  pub parameter_put : {o o' : List ℕ} {start end : ℕ} {write : Bool} {r : Put} (names : List ℕ) → at s x ≡ 0 → Placed o o' start end write (term_words (var (index x names))) r → Placed o o' start end write (term_words (reify names (resolve bs (var x)))) r
+  pub parameter_put : {o o' : List ℕ} {start end : ℕ} {write : Bool} {r : RustOption ℕ} (names : List ℕ) → at s x ≡ 0 → Placed o o' start end write (term_words (var (index x names))) r → Placed o o' start end write (term_words (reify names (resolve bs (var x)))) r
   parameter_put {o} {o'} {start} {end} {write} {r} names z h = subst (λ t. Placed o o' start end write (term_words (reify names t)) r) (sym (parameter_itself z)) h
 
-  pub parameter_no_steps : (steps : ℕ) → steps ≡ 0 → LookedThroughAs bs (var x) steps looked.StepsOut
+  pub parameter_no_steps : (steps : ℕ) → steps ≡ 0 → LookedThroughAs bs (var x) steps (Err no_steps)
   unfolding LookedThroughAs
   parameter_no_steps zero e = refl
   parameter_no_steps (suc n) e = absurd (omega arith)
 
-  pub parameter_step : (steps : ℕ) → at s x ≡ 0 → ¬ (steps ≡ 0) → LookedThroughAs bs (var x) steps (looked.Done (steps - 1))
+  pub parameter_step : (steps : ℕ) → at s x ≡ 0 → ¬ (steps ≡ 0) → LookedThroughAs bs (var x) steps (Ok (steps - 1))
   unfolding LookedThroughAs
   parameter_step zero z n = absurd (n refl)
   parameter_step (suc m) z n = let k : suc m - 1 ≡ m = omega arith in scan_open bs x m (parameter_open x b.bindings_in low z) ∙ ap (λ l. done false l) (sym k)
 
-  pub parameter_looked : (steps : ℕ) (r : LookedThrough) (n : ¬ (at s x ≡ 0)) → LookedThroughAs bs (binding_at x b.bindings_in low n).term steps r → LookedThroughAs bs (var x) steps r
+  pub parameter_looked : (steps : ℕ) (r : Result ℕ Stopped) (n : ¬ (at s x ≡ 0)) → LookedThroughAs bs (binding_at x b.bindings_in low n).term steps r → LookedThroughAs bs (var x) steps r
   unfolding LookedThroughAs
   parameter_looked steps r n h = let p = binding_at x b.bindings_in low n in scan_bound never bs b.good [] x p.term steps p.is ∙ h

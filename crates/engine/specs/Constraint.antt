@@ -1,8 +1,8 @@
 -- The lines of a path's constraints, added to an answer under way.
-use Rattle.std.specs.Prelude.{ℕ, ◌≡◌, List, length}
+use Rattle.std.specs.Prelude.{ℕ, ◌≡◌, List, length, Result, Ok, Err}
 use Rattle.rules.specs.Syntax.{Term, Constraint}
 use Rattle.semantics.specs.Substitution.{Substitution}
-use Rattle.semantics.specs.Steps.{waiting, no_steps, at_bound, Outcome, done, stop}
+use Rattle.semantics.specs.Steps.{Outcome, done}
 use Rattle.semantics.specs.Answer.{Line}
 use Rattle.semantics.specs.Invariant.{Unforced, Passes}
 use Rattle.engine.specs.Reference.{KeepsAt}
@@ -12,20 +12,19 @@ use Rattle.engine.specs.Unify.{TwoTerms}
 use Rattle.engine.specs.Trail.{Apart}
 use Rattle.engine.specs.Term.{Touched}
 use Rattle.engine.specs.Lines.{Writing, Extended}
-use Rattle.engine.specs.declared.writer.constraint.Added.{Added}
-use Rattle.engine.specs.declared.writer.constraint.Added.TheVariants.{Done, StepsOut, WaitingOut}
+use Rattle.engine.specs.declared.steps.Stopped.{Stopped}
+use Rattle.engine.specs.Steps.{stops}
 
 -- what each case says of the lines
-abbrev pub added_says : List Line → Added → Outcome (List Line)
-added_says ls (Done next left) = done ls left
-added_says ls StepsOut = stop no_steps 0
-added_says ls (WaitingOut left) = stop (at_bound waiting) left
+abbrev pub added_says : List Line → Result (ℕ × ℕ) Stopped → Outcome (List Line)
+added_says ls (Ok (next, left)) = done ls left
+added_says ls (Err s) = stops s
 
 -- as the definition says; lines that are done stand on the page, and a trial's bindings are taken back, also where it stops
-pub record AddedAs (ws s s' : List ℕ) {out : List ℕ} {first end place : ℕ} (g : Writing s out first end place) (out' : List ℕ) (bs : Substitution) (o : Outcome (List Line)) (r : Added) : Type 0 where
+pub record AddedAs (ws s s' : List ℕ) {out : List ℕ} {first end place : ℕ} (g : Writing s out first end place) (out' : List ℕ) (bs : Substitution) (o : Outcome (List Line)) (r : Result (ℕ × ℕ) Stopped) : Type 0 where
   pub lines : List Line
   pub says : o ≡ added_says lines r
-  pub page : (next left : ℕ) → r ≡ Done next left → Extended g out' next lines
+  pub page : (next left : ℕ) → r ≡ Ok (next, left) → Extended g out' next lines
   pub bindings_in : BindingsIn ws s' bs
   pub apart : Apart s s'
   pub touched : Touched g.before out' g.begin end

@@ -4,9 +4,12 @@ pub mod Memory
 pub mod Walk
 pub mod Trail
 pub mod Scan
+pub mod Traverse
 pub mod Occurs
+pub mod Entering
 pub mod Unify
 pub mod Review
+pub mod Steps
 pub mod Take
 pub mod Call
 pub mod Turn

@@ -1,5 +1,7 @@
 -- Lines of an answer, as the writer holds them: a trial's equations stay in its own entries of the trail (right sides) and in the pairs' area (variables).
 use Rattle.std.specs.Prelude.{ℕ, ◌+◌, ◌/◌, ◌%◌, ◌≤◌, ◌<◌, ◌≡◌, Bool, ◌&&◌, List, [], ◌∷◌, ◌++◌, eqb, length}
+use Rattle.word.specs.Kind.{kind_number}
+use Rattle.word.specs.declared.kind.Kind.{Kind}
 use Rattle.rules.specs.Reading.{choose}
 use Rattle.rules.specs.Syntax.{Atom, Term, Sort}
 use Rattle.rules.specs.Written.{atom_word, sort_kind, goal_words}
@@ -46,6 +48,6 @@ equations_words names (b ∷ cs) = equation_words names b ++ equations_words nam
 
 -- what the code's line says
 pub data LineAs (ws s : List ℕ) : Listed → Line → Type 0 where
-  as_sort : {k x : ℕ} (sort : Sort) → k ≡ sort_kind sort → x < most_variables → LineAs ws s (Typed k x) (is_sort sort x)
+  as_sort : {k : Kind} {x : ℕ} (sort : Sort) → kind_number k ≡ sort_kind sort → x < most_variables → LineAs ws s (Typed k x) (is_sort sort x)
   as_lacks : {tag x : ℕ} (a : Atom) → tag ≡ atom_word a → x < most_variables → LineAs ws s (Lacks tag x) (lacks a x)
   as_differ : {mark count : ℕ} (b : ℕ × Term) (cs : List (ℕ × Term)) → EquationsIn ws s mark count (b ∷ cs) → LineAs ws s (Differ mark count) (not_all (b ∷ cs))

@@ -1,25 +1,18 @@
 -- What looking at all nodes of a term, or of several, promises.
-use Rattle.std.specs.Prelude.{ℕ, ◌+◌, ◌≤◌, ◌≡◌, false, List, [], map, length}
+use Rattle.std.specs.Prelude.{ℕ, ◌+◌, ◌≤◌, ◌≡◌, false, List, [], map, length, Result}
 use Rattle.rules.specs.Syntax.{Term}
 use Rattle.semantics.specs.Substitution.{Substitution}
-use Rattle.semantics.specs.Steps.{waiting, no_steps, at_bound, Outcome, done, stop}
 use Rattle.semantics.specs.Unify.{scan, never}
 use Rattle.semantics.specs.Answer.{look_through}
 use Rattle.engine.specs.Layout.{most_variables}
 use Rattle.engine.specs.Walk.{Binds}
 use Rattle.engine.specs.Trial.{EquationsKept}
-use Rattle.engine.specs.declared.writer.look.LookedThrough.{LookedThrough}
-use Rattle.engine.specs.declared.writer.look.LookedThrough.TheVariants.{Done, StepsOut, WaitingOut}
-
--- what each case says of a look that comes to `a`
-abbrev pub look_says : {A : Type 0} → A → LookedThrough → Outcome A
-look_says a (Done left) = done a left
-look_says a StepsOut = stop no_steps 0
-look_says a (WaitingOut left) = stop (at_bound waiting) left
+use Rattle.engine.specs.declared.steps.Stopped.{Stopped}
+use Rattle.engine.specs.Steps.{outcome_of}
 
 -- one term: nothing is found
-unfoldable pub LookedThroughAs : Substitution → Term → ℕ → LookedThrough → Type 0
-LookedThroughAs bs t steps r = scan never bs [] t steps ≡ look_says false r
+unfoldable pub LookedThroughAs : Substitution → Term → ℕ → Result ℕ Stopped → Type 0
+LookedThroughAs bs t steps r = scan never bs [] t steps ≡ outcome_of false r
 
 -- a trial's equations, all of them kept
 pub record Looks (ws s : List ℕ) (bs : Substitution) (cs : List (ℕ × Term)) (mark count : ℕ) : Type 0 where
@@ -33,5 +26,5 @@ abbrev pub rights : List (ℕ × Term) → List Term
 rights cs = map (λ (b : ℕ × Term). b.1) cs
 
 -- terms one after the other
-unfoldable pub ThroughAs : Substitution → List Term → ℕ → LookedThrough → Type 0
-ThroughAs bs ts steps r = look_through bs ts steps ≡ look_says tt r
+unfoldable pub ThroughAs : Substitution → List Term → ℕ → Result ℕ Stopped → Type 0
+ThroughAs bs ts steps r = look_through bs ts steps ≡ outcome_of tt r

@@ -1,15 +1,15 @@
 -- What the reviews of constraints promise.
-use Rattle.std.specs.Prelude.{ℕ, ◌≤◌, ◌≡◌, Bool, true, false, List, length}
+use Rattle.std.specs.Prelude.{ℕ, ◌≤◌, ◌≡◌, Bool, List, length, Result}
 use Rattle.rules.specs.Syntax.{Term, Sort, symbols, numbers, Constraint}
 use Rattle.semantics.specs.Substitution.{Substitution}
-use Rattle.semantics.specs.Steps.{waiting, no_steps, at_bound, Outcome, done, stop}
+use Rattle.semantics.specs.Steps.{Outcome}
 use Rattle.engine.specs.Layout.{most_constraints}
 use Rattle.engine.specs.Reference.{Stands, KeepsAt}
 use Rattle.engine.specs.Memory.{BindingsIn, KeptIn}
 use Rattle.engine.specs.Walk.{Binds}
 use Rattle.engine.specs.Trail.{Apart}
-use Rattle.engine.specs.declared.terms.review.Reviewed.{Reviewed}
-use Rattle.engine.specs.declared.terms.review.Reviewed.TheVariants.{Fails, Holds, StepsOut, WaitingOut}
+use Rattle.engine.specs.declared.steps.Stopped.{Stopped}
+use Rattle.engine.specs.Steps.{outcome}
 
 -- the kind of the atoms of a sort
 abbrev pub atom_kind : Sort → ℕ
@@ -46,15 +46,8 @@ pub record Typing (ws s : List ℕ) (bs : Substitution) (cs : List Constraint) (
   pub is_atom : atom ≡ atom_kind k
   pub is_other : other ≡ other_kind k
 
--- what each case says
-unfoldable pub review_says : Reviewed → Outcome Bool
-review_says (Fails left) = done true left
-review_says (Holds left) = done false left
-review_says StepsOut = stop no_steps 0
-review_says (WaitingOut left) = stop (at_bound waiting) left
-
 -- as the definition says; trials are undone, also where they stop, and what they used is free
-pub record ReviewedAs (ws s s' : List ℕ) (bs : Substitution) (o : Outcome Bool) (r : Reviewed) : Type 0 where
-  pub says : o ≡ review_says r
+pub record ReviewedAs (ws s s' : List ℕ) (bs : Substitution) (o : Outcome Bool) (r : Result (Bool × ℕ) Stopped) : Type 0 where
+  pub says : o ≡ outcome r
   pub bindings_in : BindingsIn ws s' bs
   pub apart : Apart s s'

@@ -1,5 +1,5 @@
 -- What `round` and `rounds` promise.
-use Rattle.std.specs.Prelude.{ℕ, ◌+◌, ◌-◌, ◌≤◌, ◌<◌, ◌≡◌, List, length, take}
+use Rattle.std.specs.Prelude.{ℕ, ◌+◌, ◌-◌, ◌≤◌, ◌<◌, ◌≡◌, List, [], length, take, Result, Ok, Err, Option, Some, None}
 use Rattle.std.proofs.Math.Option.{some}
 use Rattle.std.proofs.Math.ListN.{get_elem?}
 use Rattle.rules.specs.Syntax.{Program, Relation}
@@ -11,7 +11,7 @@ use Rattle.semantics.specs.Run.{usable, page}
 use Rattle.engine.specs.Layout.{most_variables}
 use Rattle.engine.specs.Reference.{at, TaskAt}
 use Rattle.engine.specs.Memory.{TableIn, Nameless}
-use Rattle.engine.specs.Report.{ran, end_says}
+use Rattle.engine.specs.Report.{end_says}
 use Rattle.engine.specs.Take.{PathHeld}
 use Rattle.engine.specs.Answer.{Answering, AnswerStands}
 use Rattle.engine.specs.Lines.{Wholes}
@@ -19,12 +19,11 @@ use Rattle.engine.specs.Index.{Indexed}
 use Rattle.engine.specs.declared.report.End.{End}
 use Rattle.engine.specs.declared.report.Report.{Report}
 use Rattle.engine.specs.declared.search.state.State.{State}
-use Rattle.engine.specs.declared.round.AnswerGiven.{AnswerGiven}
-use Rattle.engine.specs.declared.round.AnswerGiven.TheVariants.{Ends, Goes}
+use Rattle.engine.specs.declared.round.Given.{Given}
 use Rattle.engine.specs.declared.round.Filled.{Filled}
 use Rattle.engine.specs.declared.round.Tally.{Tally}
-use Rattle.engine.specs.declared.round.Rounded.{Rounded}
-use Rattle.engine.specs.declared.round.Rounded.TheVariants.{Completed, Broken}
+use Rattle.engine.specs.declared.round.Completed.{Completed}
+use Rattle.engine.specs.declared.round.Broken.{Broken}
 
 -- The scratch as a round finds and leaves it: the table of relations filled, no variable bound or named.
 pub record Clean (ws s : List ℕ) (P : Program) : Type 0 where
@@ -79,11 +78,11 @@ pub record BrokenAs (output' : List ℕ) (x : definition.Rounded) (d : End) (t :
   pub last : definition.Tally
   pub is_round : x ≡ definition.broken end last
   pub tally : TallyAs output' t last
-  pub is_end : end_says d ≡ ran end
+  pub is_end : end_says d ≡ end
 
-unfoldable pub RoundedAs : List ℕ → List ℕ → List ℕ → Program → definition.Rounded → Rounded → Type 0
-RoundedAs ws s' output' P x (Completed t cuts) = CompletedAs ws s' output' P x t cuts
-RoundedAs ws s' output' P x (Broken d t) = BrokenAs output' x d t
+unfoldable pub RoundedAs : List ℕ → List ℕ → List ℕ → Program → definition.Rounded → Result Completed Broken → Type 0
+RoundedAs ws s' output' P x (Ok c) = CompletedAs ws s' output' P x c.tally c.cuts
+RoundedAs ws s' output' P x (Err b) = BrokenAs output' x b.end b.tally
 
 -- An answer of these words was written up to `next`, where the output was o before. One answer more is a number.
 pub record Listing (o output : List ℕ) (f : Filled) (next : ℕ) (a : definition.Tally) (ws : List ℕ) : Type 0 where
@@ -113,13 +112,33 @@ pub record GoesAs (P : Program) (ws s' output' : List ℕ) (st : State) (cuts : 
   pub cuts_are : state.tally.cuts ≡ cuts
   pub fewer : next.steps ≤ st.steps
 
-unfoldable pub AnswerGivenAs : Program → List ℕ → List ℕ → List ℕ → State → ℕ → definition.Next → AnswerGiven → Type 0
-AnswerGivenAs P ws s' output' st cuts x (Ends r) = (y : definition.Rounded) × (x ≡ definition.over y) × RoundedAs ws s' output' P y r
-AnswerGivenAs P ws s' output' st cuts x (Goes next goal f) = GoesAs P ws s' output' st cuts x next goal f
+-- or the round is over, with this state ..
+pub record LastAs (P : Program) (ws s' output' : List ℕ) (cuts : ℕ) (x : definition.Next) (st : State) (f : Filled) : Type 0 where
+  pub last : definition.Tally
+  pub is_next : x ≡ definition.over (definition.completed last)
+  pub path : Path
+  pub held : PathHeld P ws s' st path []
+  pub tally : TallyAs output' (record { left = st.steps; filled = f }) last
+  pub index : IndexAs output' f last
+  pub cuts_are : last.cuts ≡ cuts
+
+-- .. or it is broken off
+pub record LostAs (output' : List ℕ) (x : definition.Next) (b : Broken) : Type 0 where
+  pub round : definition.Rounded
+  pub is_next : x ≡ definition.over round
+  pub broken : BrokenAs output' round b.end b.tally
+
+abbrev pub GivenAs : Program → List ℕ → List ℕ → List ℕ → State → ℕ → definition.Next → State → Filled → Option ℕ → Type 0
+GivenAs P ws s' output' st cuts x next f (Some goal) = GoesAs P ws s' output' st cuts x next goal f
+GivenAs P ws s' output' st cuts x last f None = LastAs P ws s' output' cuts x last f
+
+unfoldable pub AnswerGivenAs : Program → List ℕ → List ℕ → List ℕ → State → ℕ → definition.Next → Result Given Broken → Type 0
+AnswerGivenAs P ws s' output' st cuts x (Ok g) = GivenAs P ws s' output' st cuts x g.state g.filled g.goal
+AnswerGivenAs P ws s' output' st cuts x (Err b) = LostAs output' x b
 
 -- a report is that of a result, and the output begins with its answers
 pub record ResultAs (output' : List ℕ) (x : definition.Result) (r : Report) : Type 0 where
-  pub is_end : end_says r.end ≡ ran x.end
+  pub is_end : end_says r.end ≡ x.end
   pub is_round : r.round ≡ x.round
   pub is_steps : r.steps ≡ x.steps
   pub is_answers : r.answers ≡ length x.answers

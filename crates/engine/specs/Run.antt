@@ -4,21 +4,10 @@ use Rattle.rules.specs.Syntax.{Program}
 use Rattle.rules.specs.Accept.{read, accepted}
 use Rattle.rules.specs.Settings.{scratch_words}
 use Rattle.semantics.specs.Run.{zeroed}
-use Rattle.engine.specs.declared.report.End.TheVariants.{Refused}
-use Rattle.engine.specs.declared.report.Report.{Report}
 
 -- the words from one place up to another are 0, and all others stay
 abbrev pub cleared : List ℕ → ℕ → ℕ → List ℕ
 cleared ws from to = take from ws ++ zeroed (to - from) (drop from ws)
-
--- the report of a refused call: "number and place with all counts 0"
-pub record RefusalReport (number place : ℕ) (r : Report) : Type 0 where
-  pub is_end : r.end ≡ Refused number place
-  pub is_round : r.round ≡ 0
-  pub is_steps : r.steps ≡ 0
-  pub is_answers : r.answers ≡ 0
-  pub is_words : r.words ≡ 0
-  pub is_cut : r.cut ≡ 0
 
 -- an accepted program, with settings in their bounds, and just the scratch that a run uses
 pub record Admitted (words : List ℕ) (round_limit : ℕ) (scratch : List ℕ) : Type 0 where

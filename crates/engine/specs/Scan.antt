@@ -1,13 +1,13 @@
 -- What `leaf_word` and `scan` promise.
-use Rattle.std.specs.Prelude.{ℕ, ◌+◌, ◌<◌, ◌≡◌, Bool, true, false, List, eqb, length}
+use Rattle.std.specs.Prelude.{ℕ, ◌+◌, ◌<◌, ◌≡◌, Bool, true, false, List, eqb, length, Result, Ok, Err}
 use Rattle.rules.specs.Syntax.{Atom, Term, var, atom, pair}
 use Rattle.semantics.specs.Substitution.{Substitution}
-use Rattle.semantics.specs.Steps.{waiting, no_steps, at_bound, Outcome, done, stop}
+use Rattle.semantics.specs.Steps.{Outcome, done}
 use Rattle.semantics.specs.Unify.{scan, scan_next}
 use Rattle.engine.specs.Layout.{most_variables}
 use Rattle.engine.specs.Reference.{AtomIs, base_of}
-use Rattle.engine.specs.declared.terms.scan.Scanned.{Scanned}
-use Rattle.engine.specs.declared.terms.scan.Scanned.TheVariants.{Found, Clear, StepsOut, WaitingOut}
+use Rattle.engine.specs.Steps.{stops}
+use Rattle.engine.specs.declared.steps.Stopped.{Stopped}
 
 -- the word by which a leaf is sought, from what stands at its reference
 pub record LeafWord (w bits k p r : ℕ) : Type 0 where
@@ -21,12 +21,11 @@ pub record TestAs (sought : ℕ) (test : Term → Bool) : Type 0 where
   pub on_pair : (s t : Term) → test (pair s t) ≡ false
 
 -- What each case says of a scan with the nodes vs waiting: found, cleared so that the next that waits is looked at, or stopped.
-unfoldable pub scan_says : Scanned → List Term → (List Term → Term → ℕ → Outcome Bool) → Outcome Bool
-scan_says (Found left) vs go = done true left
-scan_says (Clear left) vs go = scan_next vs left (λ us u. go us u left)
-scan_says StepsOut vs go = stop no_steps 0
-scan_says (WaitingOut left) vs go = stop (at_bound waiting) left
+unfoldable pub scan_says : Result (Bool × ℕ) Stopped → List Term → (List Term → Term → ℕ → Outcome Bool) → Outcome Bool
+scan_says (Ok (true, left)) vs go = done true left
+scan_says (Ok (false, left)) vs go = scan_next vs left (λ us u. go us u left)
+scan_says (Err s) vs go = stops s
 
 -- the scan of t, whatever the nodes that wait, as many as the code counts, and whatever test agrees with the word sought
-abbrev pub ScanAs : ℕ → Substitution → Term → ℕ → ℕ → Scanned → Type 0
+abbrev pub ScanAs : ℕ → Substitution → Term → ℕ → ℕ → Result (Bool × ℕ) Stopped → Type 0
 ScanAs sought bs t n steps r = (test : Term → Bool) (vs : List Term) → TestAs sought test → length vs ≡ n → scan test bs vs t steps ≡ scan_says r vs (λ us u left. scan test bs us u left)

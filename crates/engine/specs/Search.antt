@@ -1,5 +1,5 @@
 -- What turn after turn promises.
-use Rattle.std.specs.Prelude.{ℕ, zero, suc, ◌+◌, ◌≤◌, ◌<◌, ◌≡◌, List, [], length}
+use Rattle.std.specs.Prelude.{ℕ, suc, ◌+◌, ◌≤◌, ◌<◌, ◌≡◌, Bool, true, false, List, [], length, Result, Ok, Err}
 use Rattle.rules.specs.Syntax.{Program}
 use Rattle.semantics.specs.Substitution.{argument}
 use Rattle.semantics.specs.Path.{Path, ChoicePoint}
@@ -8,16 +8,18 @@ use Rattle.semantics.specs.Round as round
 use Rattle.semantics.specs.Round.{Tally, broken, completed, end_of, give, going, once, onward, search}
 use Rattle.semantics.specs.Invariant.{ProgramIn, Fine, StateFine}
 use Rattle.engine.specs.Reference.{TaskAt}
-use Rattle.engine.specs.Take.{PathHeld, stop_of}
+use Rattle.engine.specs.Steps.{stop_of}
+use Rattle.engine.specs.Take.{PathHeld}
 use Rattle.rules.specs.Settings.{most_words}
 use Rattle.engine.specs.declared.search.state.State.{State}
 use Rattle.engine.specs.declared.search.state.Searched.{Searched}
-use Rattle.engine.specs.declared.search.state.Searched.TheVariants.{Answer, Over, Stops}
+use Rattle.engine.specs.declared.search.state.Searched.TheVariants.{Answer, Over}
+use Rattle.engine.specs.declared.steps.Stopped.{Stopped}
 
 -- one more if a branch was cut
-abbrev pub count_cuts : ℕ → ℕ → ℕ
-count_cuts c zero = c
-count_cuts c (suc x) = suc c
+abbrev pub count_cuts : ℕ → Bool → ℕ
+count_cuts c false = c
+count_cuts c true = suc c
 
 -- a round under way, with a goal to be taken
 pub record Searching (P : Program) (wf : ProgramIn P) (n k : ℕ) (ws s : List ℕ) (st : State) (w cuts : ℕ) (state : round.State) : Type 0 where
@@ -46,7 +48,7 @@ pub record Answers (P : Program) (wf : ProgramIn P) (n k : ℕ) (ws s : List ℕ
   pub next_fine : (next : round.State) → give (once argument) n k choices (counted_to state.tally st.steps cuts) (answer path n st.steps) ≡ going next → StateFine P wf n k next
   pub fits : cuts + st.steps ≤ 4294967295
 
-unfoldable pub SearchedAs : (P : Program) → ProgramIn P → ℕ → ℕ → List ℕ → List ℕ → round.State → ℕ → Searched → Type 0
-SearchedAs P wf n k ws s state fuel (Answer st c) = Answers P wf n k ws s st c state fuel
-SearchedAs P wf n k ws s state fuel (Over st c) = (search P n k fuel state ≡ completed (counted_to state.tally st.steps c)) × ((p : Path) × PathHeld P ws s st p [])
-SearchedAs P wf n k ws s state fuel (Stops why l) = (c : ℕ) × (search P n k fuel state ≡ broken (end_of (stop_of why)) (counted_to state.tally l c))
+unfoldable pub SearchedAs : (P : Program) → ProgramIn P → ℕ → ℕ → List ℕ → List ℕ → round.State → ℕ → Result Searched Stopped → Type 0
+SearchedAs P wf n k ws s state fuel (Ok (Answer st c)) = Answers P wf n k ws s st c state fuel
+SearchedAs P wf n k ws s state fuel (Ok (Over st c)) = (search P n k fuel state ≡ completed (counted_to state.tally st.steps c)) × ((p : Path) × PathHeld P ws s st p [])
+SearchedAs P wf n k ws s state fuel (Err e) = (c : ℕ) × (search P n k fuel state ≡ broken (end_of (stop_of e.why)) (counted_to state.tally e.left c))

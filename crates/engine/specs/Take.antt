@@ -1,27 +1,21 @@
 -- What the functions that take a goal promise: the code's state and answers, and what they say of a path.
-use Rattle.std.specs.Prelude.{ℕ, ◌+◌, ◌-◌, ◌≤◌, ◌<◌, ◌≡◌, List, [], length}
+use Rattle.std.specs.Prelude.{ℕ, ◌+◌, ◌-◌, ◌≤◌, ◌<◌, ◌≡◌, Bool, true, false, List, [], length, Result, Ok, Err, Option, Some, None}
 use Rattle.rules.specs.Syntax.{Relation, Program}
 use Rattle.rules.specs.Reading.{after}
-use Rattle.semantics.specs.Steps as steps
-use Rattle.semantics.specs.Steps.{Outcome, done, stop}
+use Rattle.semantics.specs.Steps.{Outcome, done}
 use Rattle.semantics.specs.Path.{Task, Path, ChoicePoint, Taken, leaves, cut, goes}
 use Rattle.semantics.specs.Round.{Tally, Next, going, over, completed}
 use Rattle.semantics.specs.Invariant.{Sound, ProgramIn, TaskIn}
 use Rattle.engine.specs.Reference.{GoalAt, TaskAt}
 use Rattle.engine.specs.Memory.{Registers, saved, Stored}
-use Rattle.engine.specs.Report.{bound_of}
+use Rattle.engine.specs.Steps.{at_bound, stops}
 use Rattle.rules.specs.Settings.{most_words}
+use Rattle.engine.specs.declared.report.Bound.{Bound}
 use Rattle.engine.specs.declared.search.state.State.{State}
-use Rattle.engine.specs.declared.report.Bound.TheVariants.{Waiting}
-use Rattle.engine.specs.declared.search.state.Stop.{Stop}
-use Rattle.engine.specs.declared.search.state.Stop.TheVariants.{Steps, Path as PathLimit}
+use Rattle.engine.specs.declared.steps.Stopped.{Stopped}
 use Rattle.engine.specs.declared.search.state.Way.{Way}
 use Rattle.engine.specs.declared.search.state.Way.TheVariants.{Goes, Leaves, Cut, Stops}
 use Rattle.engine.specs.declared.search.state.Took.{Took}
-use Rattle.engine.specs.declared.terms.review.Reviewed.{Reviewed}
-use Rattle.engine.specs.declared.terms.review.Reviewed.TheVariants as reviewed
-use Rattle.engine.specs.declared.search.state.Resumed.{Resumed}
-use Rattle.engine.specs.declared.search.state.Resumed.TheVariants.{Over, Goal}
 
 -- the registers of a state, beside which it has the number of choice points and the steps left
 abbrev pub registers : State → Registers
@@ -54,24 +48,19 @@ pub record Due (P : Program) (ws s : List ℕ) (st : State) (w : ℕ) (p : Path)
   pub sound : Sound p.bindings p.kept p.made
   pub task_in : TaskIn P p.made task
 
--- what each case of the code's enum says
-abbrev pub stop_of : Stop → steps.Stop
-stop_of Steps = steps.no_steps
-stop_of (PathLimit b) = steps.at_bound (bound_of b)
-
 -- what each case says, with the path and the choice points that go on, and the steps left
 unfoldable pub took_says : Path → List ChoicePoint → Way → ℕ → Outcome Taken
 took_says p cs Goes l = done (goes p cs) l
 took_says p cs Leaves l = done leaves l
 took_says p cs Cut l = done cut l
-took_says p cs (Stops why m) l = stop (stop_of why) m
+took_says p cs (Stops s) l = stops s
 
 -- What the state holds then, when cs were the choice points before: where the path is left or cut it is some path, because one that fails in the middle has more bindings than the definition's. After a stop it is not used.
 unfoldable pub TookHolds : Program → List ℕ → List ℕ → List ChoicePoint → State → Path → List ChoicePoint → Way → Type 0
 TookHolds P ws s cs st p cs' Goes = PathHeld P ws s st p cs'
 TookHolds P ws s cs st p cs' Leaves = PathHeld P ws s st p cs
 TookHolds P ws s cs st p cs' Cut = PathHeld P ws s st p cs
-TookHolds P ws s cs st p cs' (Stops why m) = Unit {0}
+TookHolds P ws s cs st p cs' (Stops e) = Unit {0}
 
 -- a goal has been taken, with this state then
 pub record TookAs (P : Program) (ws s : List ℕ) (cs : List ChoicePoint) (o : Outcome Taken) (y : Way) (st : State) : Type 0 where
@@ -104,9 +93,9 @@ pub record ResumedAs (P : Program) (ws s : List ℕ) (st : State) (t : Tally) (x
   pub held : PathHeld P ws s next path choices
   pub left_is : next.steps ≡ st.steps
 
-unfoldable pub BacktrackAs : Program → List ℕ → List ℕ → State → Tally → Next → Resumed → Type 0
-BacktrackAs P ws s st t x Over = OverAs P ws s st t x
-BacktrackAs P ws s st t x (Goal next w) = ResumedAs P ws s st t x next w
+unfoldable pub BacktrackAs : Program → List ℕ → List ℕ → State → Tally → Next → Option (State × ℕ) → Type 0
+BacktrackAs P ws s st t x None = OverAs P ws s st t x
+BacktrackAs P ws s st t x (Some (next, w)) = ResumedAs P ws s st t x next w
 
 -- the state of the newest choice point, with one goal more put to wait, and so many choice points
 abbrev pub resumed : List ℕ → State → ℕ → State
@@ -130,9 +119,12 @@ with_counts st n k l = record { head = st.head; trail = n; variables = st.variab
 abbrev pub took_as : Way → State → Took
 took_as y st = record { way = y; state = st }
 
+-- a bound is met, and the goal's own step is given back
+abbrev pub took_stopped : Bound → State → Took
+took_stopped b st = took_as (Stops (at_bound b (st.steps + 1))) st
+
 -- what a review comes to for its path
-abbrev pub review_took : State → Reviewed → Took
-review_took st (reviewed.Fails l) = took_as Leaves (with_counts st st.trail st.constraints l)
-review_took st (reviewed.Holds l) = took_as Goes (with_counts st st.trail st.constraints l)
-review_took st reviewed.StepsOut = took_as (Stops Steps 0) st
-review_took st (reviewed.WaitingOut l) = took_as (Stops (PathLimit Waiting) l) st
+abbrev pub review_took : State → Result (Bool × ℕ) Stopped → Took
+review_took st (Ok (true, l)) = took_as Leaves (with_counts st st.trail st.constraints l)
+review_took st (Ok (false, l)) = took_as Goes (with_counts st st.trail st.constraints l)
+review_took st (Err s) = took_as (Stops s) st

@@ -1,10 +1,8 @@
 -- What the functions that put words promise. With `write` words are stored, without it they are compared with those that are there: success says the same for both.
-use Rattle.std.specs.Prelude.{ℕ, ◌+◌, ◌≤◌, ◌<◌, ◌≡◌, Bool, true, false, List, length}
+use Rattle.std.specs.Prelude.{ℕ, ◌+◌, ◌≤◌, ◌<◌, ◌≡◌, Bool, true, false, List, length, Option, Some, None}
 use Rattle.rules.specs.Inner.{Spells}
 use Rattle.engine.specs.Reference.{at}
 use Rattle.engine.specs.Names.{NamesGiven}
-use Rattle.engine.specs.declared.writer.term.Put.{Put}
-use Rattle.engine.specs.declared.writer.term.Put.TheVariants.{End, Missed}
 
 -- the output can be used up to `end`, and a part's word can count that far
 pub record Room (o : List ℕ) (end : ℕ) : Type 0 where
@@ -47,6 +45,6 @@ pub record Missing (o o' : List ℕ) (start end : ℕ) (write : Bool) (v : List 
   pub read_only : write ≡ false → o' ≡ o
 
 -- what each case says
-pub data Placed (o o' : List ℕ) (start end : ℕ) (write : Bool) (v : List ℕ) : Put → Type 0 where
-  all_laid : {e : ℕ} → Laid o o' start end write v e → Placed o o' start end write v (End e)
-  some_missing : Missing o o' start end write v → Placed o o' start end write v Missed
+pub data Placed (o o' : List ℕ) (start end : ℕ) (write : Bool) (v : List ℕ) : Option ℕ → Type 0 where
+  all_laid : {e : ℕ} → Laid o o' start end write v e → Placed o o' start end write v (Some e)
+  some_missing : Missing o o' start end write v → Placed o o' start end write v None

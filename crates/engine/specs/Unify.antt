@@ -1,10 +1,10 @@
 -- What unification promises.
-use Rattle.std.specs.Prelude.{ℕ, suc, ◌-◌, ◌≤◌, ◌<◌, ◌≡◌, List, ◌∷◌, ◌++◌, ltb, length}
+use Rattle.std.specs.Prelude.{ℕ, suc, ◌-◌, ◌≤◌, ◌<◌, ◌≡◌, Bool, true, false, List, ◌∷◌, ◌++◌, ltb, length, Result, Ok, Err}
 use Rattle.std.proofs.Math.Option.{Option, none, some}
 use Rattle.rules.specs.Reading.{choose}
 use Rattle.rules.specs.Syntax.{Term}
 use Rattle.semantics.specs.Substitution.{Substitution}
-use Rattle.semantics.specs.Steps.{waiting, no_steps, at_bound, Outcome, done, stop}
+use Rattle.semantics.specs.Steps.{waiting, at_bound, Outcome, done, stop}
 use Rattle.semantics.specs.Unify.{Looked, fails, agrees, binds, parts, Pairs, unify_next, unify}
 use Rattle.engine.specs.Layout.{most_variables, most_pairs, names_area}
 use Rattle.engine.specs.Reference.{at, Stands}
@@ -15,7 +15,8 @@ use Rattle.engine.specs.declared.terms.unify.Looked.TheVariants as looked
 use Rattle.engine.specs.declared.terms.unify.PairUnified.{PairUnified}
 use Rattle.engine.specs.declared.terms.unify.PairUnified.TheVariants as pair
 use Rattle.engine.specs.declared.terms.unify.Unified.{Unified}
-use Rattle.engine.specs.declared.terms.unify.Unified.TheVariants as unified
+use Rattle.engine.specs.declared.steps.Stopped.{Stopped}
+use Rattle.engine.specs.Steps.{stops}
 
 -- `look`: what looking at two followed terms comes to
 
@@ -78,12 +79,11 @@ pub record PairEnds (s s' : List ℕ) (bs : Substitution) (u v : Term) (steps : 
   pub untouched : s' ≡ s
   pub same : (fuel : ℕ) (vs : Pairs) → unify (suc fuel) bs vs u v steps ≡ o
 
-unfoldable pub PairUnifiedAs : List ℕ → List ℕ → List ℕ → Substitution → Term → Term → ℕ → PairUnified → Type 0
-PairUnifiedAs ws s s' bs u v steps (pair.Fails left) = PairEnds s s' bs u v steps (done none left)
-PairUnifiedAs ws s s' bs u v steps (pair.Goes n left) = PairGoes ws s s' bs u v steps n left
-PairUnifiedAs ws s s' bs u v steps (pair.Parts a b c d) = PairParts ws s s' bs u v steps a b c d
-PairUnifiedAs ws s s' bs u v steps pair.StepsOut = PairEnds s s' bs u v steps (stop no_steps 0)
-PairUnifiedAs ws s s' bs u v steps (pair.WaitingOut left) = PairEnds s s' bs u v steps (stop (at_bound waiting) left)
+unfoldable pub PairUnifiedAs : List ℕ → List ℕ → List ℕ → Substitution → Term → Term → ℕ → Result PairUnified Stopped → Type 0
+PairUnifiedAs ws s s' bs u v steps (Ok (pair.Fails left)) = PairEnds s s' bs u v steps (done none left)
+PairUnifiedAs ws s s' bs u v steps (Ok (pair.Goes n left)) = PairGoes ws s s' bs u v steps n left
+PairUnifiedAs ws s s' bs u v steps (Ok (pair.Parts a b c d)) = PairParts ws s s' bs u v steps a b c d
+PairUnifiedAs ws s s' bs u v steps (Err e) = PairEnds s s' bs u v steps (stops e)
 
 -- `unify`
 
@@ -96,8 +96,11 @@ pub record Went (ws s : List ℕ) (bs : Substitution) (s' : List ℕ) (n : ℕ) 
   pub trail_is : n ≡ length next
   pub apart : Apart s s'
 
-unfoldable pub UnifiedAs : List ℕ → List ℕ → List ℕ → Substitution → Outcome (Option Substitution) → Unified → Type 0
-UnifiedAs ws s s' bs o (unified.Joined n left) = (w : Went ws s bs s' n) × (o ≡ done (some w.next) left)
-UnifiedAs ws s s' bs o (unified.Failed n left) = (w : Went ws s bs s' n) × (o ≡ done none left)
-UnifiedAs ws s s' bs o (unified.StepsOut n) = (w : Went ws s bs s' n) × (o ≡ stop no_steps 0)
-UnifiedAs ws s s' bs o (unified.WaitingOut n left) = (w : Went ws s bs s' n) × (o ≡ stop (at_bound waiting) left)
+-- what each case says, where the bindings have grown to `next`
+abbrev pub unified_says : Substitution → Result (Bool × ℕ) Stopped → Outcome (Option Substitution)
+unified_says next (Ok (true, left)) = done (some next) left
+unified_says next (Ok (false, left)) = done none left
+unified_says next (Err e) = stops e
+
+abbrev pub UnifiedAs : List ℕ → List ℕ → List ℕ → Substitution → Outcome (Option Substitution) → Unified → Type 0
+UnifiedAs ws s s' bs o r = (w : Went ws s bs s' r.trail) × (o ≡ unified_says w.next r.outcome)

@@ -1,6 +1,7 @@
 -- What `part_at`, `walk` and `follow` promise.
-use Rattle.std.specs.Prelude.{ℕ, suc, ◌≤◌, ◌<◌, ◌≡◌, List, length}
-use Rattle.std.proofs.Math.Option.{Option, none, some}
+use Rattle.std.specs.Prelude.{ℕ, ◌≤◌, ◌<◌, ◌≡◌, List, length, Option, Some, None}
+use Rattle.std.proofs.Math.Option.{Option as MathOption, none, some}
+use Rattle.word.specs.Kind.{kind_number}
 use Rattle.rules.specs.Reading.{kind_at, payload_at}
 use Rattle.rules.specs.Syntax.{Term, Atom, var, atom, pair}
 use Rattle.semantics.specs.Substitution.{Substitution, walk, resolve}
@@ -23,7 +24,7 @@ pub record PartRead (ws : List ℕ) (w bits k p : ℕ) : Type 0 where
 
 -- a followed term has the word at its reference
 abbrev pub IsNode : List ℕ → Walked → Type 0
-IsNode ws n = PartRead ws n.at n.bits n.kind n.payload
+IsNode ws n = PartRead ws n.at n.bits (kind_number n.kind) n.payload
 
 -- the scratch holds a path's bindings, and they are acyclic
 pub record Binds (ws s : List ℕ) (bs : Substitution) : Type 0 where
@@ -37,16 +38,16 @@ pub record Follows (ws s : List ℕ) (bs : Substitution) (w : ℕ) (t : Term) : 
   pub binds : Binds ws s bs
   pub stands : Stands ws w t
 
--- the last variable on a way, plus 1; 0 where it leads through none
-abbrev pub through_word : Option ℕ → ℕ
-through_word none = 0
-through_word (some x) = suc x
+-- the last variable on a way, as the code has it
+abbrev pub through_of : MathOption ℕ → Option ℕ
+through_of none = None
+through_of (some x) = Some x
 
 -- what `walk` gives: the word at a reference, which stands for the term that the definition walks to; and of a way to a pair the last variable
 pub record WalkedTo (ws s : List ℕ) (w : ℕ) (r : Walked) : Type 0 where
   pub node : IsNode ws r
   pub stands : (bs : Substitution) (t : Term) → Follows ws s bs w t → Stands ws r.at (walk bs t)
-  pub led : (bs : Substitution) (t : Term) → Follows ws s bs w t → (a b : Term) → walk bs t ≡ pair a b → r.through ≡ through_word (way_end bs t)
+  pub led : (bs : Substitution) (t : Term) → Follows ws s bs w t → (a b : Term) → walk bs t ≡ pair a b → r.through ≡ through_of (way_end bs t)
 
 -- the reference, with bindings followed, is the term
 pub record Resolves (ws s : List ℕ) (w : ℕ) (r : Term) : Type 0 where

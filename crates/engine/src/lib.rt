@@ -8,31 +8,19 @@ mod report;
 mod round;
 mod rounds;
 mod search;
+mod steps;
 mod terms;
 mod writer;
 
+ghost use Rattle.std.specs.Prelude.{Ok};
 ghost use Rattle.engine.specs.Report.{RunPromise};
-ghost use Rattle.engine.specs.Run.{Admitted, RefusalReport};
+ghost use Rattle.engine.specs.Run.{Admitted};
 
 use crate::clear::clear;
-pub use crate::report::{Bound, End, Report};
+pub use crate::report::{Bound, End, Refusal, Report};
 use crate::rounds::rounds;
 use crate::search::table::fill_relations;
-use rules::{SCRATCH_WORDS, Verdict};
-
-// The report of a refused call: number and place, all counts 0.
-fn refuse(number: u32, place: usize) -> Report
-    ensures { RefusalReport number place result }
-{
-    Report {
-        end: End::Refused(number, place),
-        round: 0,
-        steps: 0,
-        answers: 0,
-        words: 0,
-        cut: 0,
-    }
-}
+use rules::SCRATCH_WORDS;
 
 // Runs the program through its rounds. Answers go to `output`, one after the other; one with the same words as an earlier one is not written, but the run ends as output full if it would not fit. The first
 // `SCRATCH_WORDS` of `scratch` are 0 afterwards, and those beyond as lent. A refusal leaves both as lent.
@@ -42,22 +30,20 @@ pub fn run(
     steps: u32,
     output: &mut [u32],
     scratch: &mut [u32],
-) -> Report
+) -> Result<Report, Refusal>
     ensures { RunPromise program.now rounds steps output.old scratch.old result output.new scratch.new }
 {
     if !rules::settings_good(rounds, scratch.len()) {
-        return refuse(9, 0);
+        return Err(Refusal::Settings);
     }
-    match rules::check(program) {
-        Verdict::Refused(condition, place) => refuse(condition.number(), place),
-        Verdict::Accepted => run_accepted(
-            program,
-            rounds,
-            steps,
-            output,
-            &mut scratch[..SCRATCH_WORDS],
-        ),
-    }
+    rules::check(program)?;
+    Ok(run_accepted(
+        program,
+        rounds,
+        steps,
+        output,
+        &mut scratch[..SCRATCH_WORDS],
+    ))
 }
 
 // Runs a program that is accepted, with settings in their bounds, over just the scratch that a run uses.
@@ -69,7 +55,7 @@ fn run_accepted(
     scratch: &mut [u32],
 ) -> Report
     requires { Admitted program.now limit scratch.old }
-    ensures { RunPromise program.now limit steps output.old scratch.old result output.new scratch.new }
+    ensures { RunPromise program.now limit steps output.old scratch.old (Ok result) output.new scratch.new }
 {
     let size = scratch.len();
     clear(scratch, 0, size);

@@ -4,23 +4,23 @@ ghost use Rattle.rules.specs.Syntax.{Program, Relation};
 ghost use Rattle.semantics.specs.Path.{Path, ChoicePoint};
 ghost use Rattle.semantics.specs.Answer.{answer};
 ghost use Rattle.semantics.specs.Round as definition;
-ghost use Rattle.engine.specs.Report.{ran, end_says};
-ghost use Rattle.engine.specs.Take.{PathHeld, stop_of};
+ghost use Rattle.engine.specs.Report.{end_says};
+ghost use Rattle.engine.specs.Steps.{stop_of};
+ghost use Rattle.engine.specs.Take.{PathHeld};
 ghost use Rattle.semantics.specs.Substitution.{argument};
 ghost use Rattle.engine.specs.Rounds.{Clean, FilledAs, IndexAs, Starting, RoundedAs, Listing, Giving, AnswerGivenAs};
-ghost use Rattle.engine.specs.declared.round.Rounded.TheVariants.{Completed, Broken};
 
 use crate::layout::MOST_OUTPUT;
 use crate::repeats::repeated::{Compared, repeated};
-use crate::report::{Bound, End};
+use crate::report::End;
 use crate::search::choice::backtrack;
 use crate::search::constrain::with_counts;
 use crate::search::search::search;
-use crate::search::state::{Resumed, Searched, State, Stop};
+use crate::search::state::{Searched, State};
 use crate::search::table::relation;
+use crate::steps::{Stop, Stopped};
 use crate::terms::trail::undo;
-use crate::writer::answer::{Answered, write_answer};
-use word::at_most;
+use crate::writer::answer::write_answer;
 
 // How far the output is filled: the words used, the answers, and the length of their index at the end of its usable words, 0 if there is none.
 #[derive(Clone, Copy)]
@@ -37,22 +37,30 @@ pub struct Tally {
     pub filled: Filled,
 }
 
-// How a round ended: completed, with the number of branches it cut, or broken off.
+// A completed round, with the number of branches it cut.
 #[derive(Clone, Copy)]
-pub enum Rounded {
-    Completed(Tally, u32),
-    Broken(End, Tally),
+pub struct Completed {
+    pub tally: Tally,
+    pub cuts: u32,
 }
 
-// What comes of an answer: the round's end, or a goal to be taken next, by its reference, and how far the output is filled then.
+// A round that was broken off.
 #[derive(Clone, Copy)]
-enum AnswerGiven {
-    Ends(Rounded),
-    Goes(State, u32, Filled),
+pub struct Broken {
+    pub end: End,
+    pub tally: Tally,
+}
+
+// What comes of an answer: how far the output is filled then, and the state; with the goal to be taken next, by its reference, if the round is not over.
+#[derive(Clone, Copy)]
+struct Given {
+    filled: Filled,
+    state: State,
+    goal: Option<u32>,
 }
 
 fn end_of(stop: Stop) -> End
-    ensures { end_says result ≡ ran (definition.end_of (stop_of stop)) }
+    ensures { end_says result ≡ definition.end_of (stop_of stop) }
 {
     match stop {
         Stop::Steps => End::Steps,
@@ -60,26 +68,36 @@ fn end_of(stop: Stop) -> End
     }
 }
 
-fn broken(end: End, left: u32, filled: Filled) -> Rounded
-    ensures { result ≡ Broken end (record { left = left; filled = filled }) }
+fn break_off(end: End, left: u32, filled: Filled) -> Broken
+    ensures { result ≡ record { end = end; tally = record { left = left; filled = filled } } }
 {
-    Rounded::Broken(end, Tally { left, filled })
+    Broken {
+        end,
+        tally: Tally { left, filled },
+    }
+}
+
+// A round that met a stop.
+fn stop_round(stopped: Stopped, filled: Filled) -> Broken
+    ensures { (end_says result.end ≡ definition.end_of (stop_of stopped.why)) × (result.tally ≡ record { left = stopped.left; filled = filled }) }
+{
+    break_off(end_of(stopped.why), stopped.left, filled)
 }
 
 // The round is completed: all that is bound is undone for the next.
-fn completed(scratch: &mut [u32], state: State, filled: Filled, cuts: u32) -> Rounded
+fn complete(scratch: &mut [u32], state: State, filled: Filled, cuts: u32) -> Completed
     requires { (P : Program) × (ws : List ℕ) × (p : Path) × (cs : List ChoicePoint) × PathHeld P ws scratch.old state p cs }
-    ensures { (result ≡ Completed (record { left = state.steps; filled = filled }) cuts)
+    ensures { (result ≡ record { tally = record { left = state.steps; filled = filled }; cuts = cuts })
         × ((P : Program) (ws : List ℕ) (p : Path) (cs : List ChoicePoint) → PathHeld P ws scratch.old state p cs → Clean ws scratch.new P) }
 {
     undo(scratch, 0, state.trail);
-    Rounded::Completed(
-        Tally {
+    Completed {
+        tally: Tally {
             left: state.steps,
             filled,
         },
         cuts,
-    )
+    }
 }
 
 // The output with the answer that was written up to `next`, or without it if it repeats an earlier one of the run.
@@ -88,7 +106,7 @@ fn list_answer(output: &mut [u32], filled: Filled, next: u32) -> Filled
     ensures { (o : List ℕ) (k l : ℕ) (a : definition.Tally) (ws : List ℕ) → Listing o output.old filled next a ws
         → FilledAs output.new result (definition.list_answer (definition.once argument) a k l ws) × IndexAs output.new result (definition.list_answer (definition.once argument) a k l ws) }
 {
-    let end = at_most(output.len(), MOST_OUTPUT);
+    let end = output.len().min(MOST_OUTPUT);
     match repeated(output, filled.used, next, end, filled.answers, filled.index) {
         Compared::Repeated(index) => Filled {
             used: filled.used,
@@ -112,26 +130,29 @@ fn give(
     params: u32,
     filled: Filled,
     cuts: u32,
-) -> AnswerGiven
+) -> Result<Given, Broken>
     requires { (P : Program) × (p : Path) × (cs : List ChoicePoint) × (a : definition.Tally) × Giving P program.now scratch.old output.old st p cs params filled cuts a }
     ensures { (P : Program) (k : ℕ) (p : Path) (cs : List ChoicePoint) (a : definition.Tally)
         → Giving P program.now scratch.old output.old st p cs params filled cuts a
         → AnswerGivenAs P program.now scratch.new output.new st cuts (definition.give (definition.once argument) params k cs a (answer p params st.steps)) result }
 {
     match write_answer(program, scratch, output, st, params, filled.used) {
-        Answered::Full(left) => AnswerGiven::Ends(broken(End::Output, left, filled)),
-        Answered::StepsOut => AnswerGiven::Ends(broken(End::Steps, 0, filled)),
-        Answered::WaitingOut(left) => AnswerGiven::Ends(broken(
-            End::Path(Bound::Waiting),
-            left,
-            filled,
-        )),
-        Answered::Written(next, left) => {
+        Err(stopped) => Err(stop_round(stopped, filled)),
+        Ok((None, left)) => Err(break_off(End::Output, left, filled)),
+        Ok((Some(next), left)) => {
             let listed = list_answer(output, filled, next);
             let after = with_counts(st, st.trail, st.constraints, left);
             match backtrack(program, scratch, after) {
-                Resumed::Over => AnswerGiven::Ends(completed(scratch, after, listed, cuts)),
-                Resumed::Goal(resumed, goal) => AnswerGiven::Goes(resumed, goal, listed),
+                None => Ok(Given {
+                    filled: listed,
+                    state: after,
+                    goal: None,
+                }),
+                Some((resumed, goal)) => Ok(Given {
+                    filled: listed,
+                    state: resumed,
+                    goal: Some(goal),
+                }),
             }
         }
     }
@@ -145,7 +166,7 @@ pub(crate) fn round(
     query: u32,
     number: u32,
     tally: Tally,
-) -> Rounded
+) -> Result<Completed, Broken>
     requires { (P : Program) × (R : Relation) × (a : definition.Tally) × Starting program.now scratch.old output.old P query R number tally a }
     ensures { (P : Program) (R : Relation) (a : definition.Tally) → Starting program.now scratch.old output.old P query R number tally a
         → RoundedAs program.now scratch.new output.new P (definition.one_round P R number a.room a.left a.written) result }
@@ -166,23 +187,27 @@ pub(crate) fn round(
     let mut filled = tally.filled;
     let mut cuts = 0;
     loop {
-        match search(program, scratch, state, goal, number, cuts) {
-            Searched::Stops(why, left) => {
-                return broken(end_of(why), left, filled);
+        let searched = match search(program, scratch, state, goal, number, cuts) {
+            Ok(searched) => searched,
+            Err(stopped) => {
+                return Err(stop_round(stopped, filled));
             }
+        };
+        match searched {
             Searched::Over(last, cut) => {
-                return completed(scratch, last, filled, cut);
+                return Ok(complete(scratch, last, filled, cut));
             }
             Searched::Answer(last, cut) => {
-                match give(program, scratch, output, last, params, filled, cut) {
-                    AnswerGiven::Ends(rounded) => {
-                        return rounded;
+                let given = give(program, scratch, output, last, params, filled, cut)?;
+                filled = given.filled;
+                state = given.state;
+                cuts = cut;
+                match given.goal {
+                    None => {
+                        return Ok(complete(scratch, state, filled, cuts));
                     }
-                    AnswerGiven::Goes(next, found, listed) => {
-                        state = next;
-                        goal = found;
-                        filled = listed;
-                        cuts = cut;
+                    Some(next) => {
+                        goal = next;
                     }
                 }
             }

@@ -6,7 +6,7 @@ ghost use Rattle.semantics.specs.Run.{usable};
 ghost use Rattle.engine.specs.Rounds.{RunReady, Reported, ResultAs};
 
 use crate::report::{End, Report};
-use crate::round::{Filled, Rounded, Tally, round};
+use crate::round::{Filled, Tally, round};
 
 // The report of a run with this step limit, whose last completed round cut so many branches.
 fn report(end: End, round: u32, steps: u32, tally: Tally, cut: u32) -> Report
@@ -48,18 +48,18 @@ pub(crate) fn rounds(
     };
     loop {
         match round(program, scratch, output, query, number, tally) {
-            Rounded::Broken(end, last) => {
-                return report(end, number, steps, last, cut);
+            Err(broken) => {
+                return report(broken.end, number, steps, broken.tally, cut);
             }
-            Rounded::Completed(last, cuts) => {
-                if cuts == 0 {
-                    return report(End::Finished, number, steps, last, cuts);
+            Ok(completed) => {
+                tally = completed.tally;
+                cut = completed.cuts;
+                if cut == 0 {
+                    return report(End::Finished, number, steps, tally, cut);
                 }
                 if limit <= number {
-                    return report(End::Rounds, number, steps, last, cuts);
+                    return report(End::Rounds, number, steps, tally, cut);
                 }
-                tally = last;
-                cut = cuts;
                 number += 1;
             }
         }

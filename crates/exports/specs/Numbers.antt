@@ -24,8 +24,11 @@ end_numbers (ran round.output_full) = 3 ∷ 0 ∷ 0 ∷ []
 end_numbers (ran (round.path_limit b)) = 4 ∷ steps.bound_number b ∷ 0 ∷ []
 end_numbers (refused number place) = 5 ∷ number ∷ place ∷ []
 
+abbrev pub numbers_of : Ended → run.Counts → List ℕ
+numbers_of e c = end_numbers e ++ (c.round ∷ c.steps ∷ c.answers ∷ c.words ∷ c.cut ∷ [])
+
 abbrev pub numbers : run.Report → List ℕ
-numbers x = end_numbers (report_ended x) ++ ((run.counts x).round ∷ (run.counts x).steps ∷ (run.counts x).answers ∷ (run.counts x).words ∷ (run.counts x).cut ∷ [])
+numbers x = numbers_of (report_ended x) (run.counts x)
 
 -- what such a call returns and leaves
 pub record Call : Type 0 where

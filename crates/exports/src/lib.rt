@@ -1,16 +1,14 @@
 // The functions for other languages: `check` of crate rules, `run` of crate engine and `find` of crate page, with their results in numbers.
 #![tactic(auto)]
 
-ghost use Rattle.std.specs.Prelude.{◌≡◌, [], ◌∷◌};
+ghost use Rattle.std.specs.Prelude.{◌≡◌, ◌<◌, IfErr};
 ghost use Rattle.rules.specs.Accept.{read};
 ghost use Rattle.rules.specs.Verdict.{said};
-ghost use Rattle.engine.specs.Report.{end_says};
+ghost use Rattle.engine.specs.Report.{counts, ended, refusal_place};
 ghost use Rattle.page.specs.Page.{find};
-ghost use Rattle.exports.specs.Numbers.{CallPromise, end_numbers, packed, view_call};
+ghost use Rattle.exports.specs.Numbers.{CallPromise, numbers_of, packed, view_call};
 
-use engine::End;
-use page::Found;
-use rules::Verdict;
+use engine::{End, Refusal, Report};
 
 // 0 if the program is accepted, else the number times 2^32 plus the place.
 #[unsafe(no_mangle)]
@@ -18,36 +16,40 @@ pub extern "C" fn kindcanvas_check(program: &[u32]) -> u64
     ensures { result ≡ packed (said (read program.now)) }
 {
     match rules::check(program) {
-        Verdict::Accepted => 0,
-        Verdict::Refused(c, place) => (c.number() as u64) * 4294967296 + (place as u64),
+        Ok(()) => 0,
+        Err(refusal) => {
+            (refusal.condition.number() as u64) * 4294967296 + (refusal.place as u64)
+        }
     }
 }
 
-// An end in numbers: how, which bound or refusal, and where.
-#[derive(Clone, Copy)]
-struct EndNumbers {
-    end: u32,
-    which: u32,
-    place: usize,
-}
-
-fn numbered(end: End) -> EndNumbers
-    ensures { end_numbers (end_says end) ≡ result.end ∷ result.which ∷ result.place ∷ [] }
+// What a run returns, in eight numbers.
+fn numbered(returned: Result<Report, Refusal>) -> [u32; 8]
+    requires { IfErr returned (λ refusal. refusal_place refusal < 4294967296) }
+    ensures { result ≡ numbers_of (ended returned) (counts returned) }
 {
-    match end {
-        End::Finished => by_number(0, 0, 0),
-        End::Rounds => by_number(1, 0, 0),
-        End::Steps => by_number(2, 0, 0),
-        End::Output => by_number(3, 0, 0),
-        End::Path(bound) => by_number(4, bound.number(), 0),
-        End::Refused(number, place) => by_number(5, number, place),
+    match returned {
+        Ok(report) => {
+            let (end, bound) = match report.end {
+                End::Finished => (0, 0),
+                End::Rounds => (1, 0),
+                End::Steps => (2, 0),
+                End::Output => (3, 0),
+                End::Path(bound) => (4, bound.number()),
+            };
+            [
+                end,
+                bound,
+                0,
+                report.round,
+                report.steps,
+                report.answers,
+                report.words,
+                report.cut,
+            ]
+        }
+        Err(refusal) => [5, refusal.number(), refusal.place() as u32, 0, 0, 0, 0, 0],
     }
-}
-
-fn by_number(end: u32, which: u32, place: usize) -> EndNumbers
-    ensures { (result.end ≡ end) × (result.which ≡ which) × (result.place ≡ place) }
-{
-    EndNumbers { end, which, place }
 }
 
 // `run`, with its result as eight numbers at the start of `numbers`. Returns how many it wrote there: 8, or 0 if `numbers` is too short; then nothing is run.
@@ -65,17 +67,8 @@ pub extern "C" fn kindcanvas_run(
     if numbers.len() < 8 {
         return 0;
     }
-    let report = engine::run(program, rounds, steps, output, scratch);
-    let end = report.end;
-    let told = numbered(end);
-    numbers[0] = told.end;
-    numbers[1] = told.which;
-    numbers[2] = told.place as u32;
-    numbers[3] = report.round;
-    numbers[4] = report.steps;
-    numbers[5] = report.answers;
-    numbers[6] = report.words;
-    numbers[7] = report.cut;
+    let returned = engine::run(program, rounds, steps, output, scratch);
+    numbers[..8].copy_from_slice(&numbered(returned));
     8
 }
 
@@ -91,15 +84,15 @@ pub extern "C" fn kindcanvas_view(
     ensures { view_call (find page.now answer) ≡ record { result = result; start = start.new; end = end.new } }
 {
     match page::find(page, answer) {
-        Found::Part(from, to) => {
-            *start = from;
-            *end = to;
+        Ok(part) => {
+            *start = part.start;
+            *end = part.end;
             0
         }
-        Found::Refused(number, place) => {
-            *start = place;
-            *end = place;
-            number
+        Err(missing) => {
+            *start = missing.place;
+            *end = missing.place;
+            missing.number()
         }
     }
 }

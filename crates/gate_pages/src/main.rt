@@ -3,24 +3,17 @@
 #![tactic(auto)]
 
 use input::read_full;
-use page::Found;
 use std::io;
 use std::io::Read;
-use word::{Word, at_most};
+use word::Word;
 
 // The longest page that is taken, in words.
 const MOST: usize = 256;
 
-fn print_word(rt: &impl Print, bits: u32) -> io::Result<()> {
-    let word = Word::from_bits(bits);
-    print!(rt; "{}:{} ", word.kind(), word.payload())
-}
-
 fn print_words(rt: &impl Print, words: &[u32]) -> io::Result<()> {
-    let mut i = 0;
-    while i < words.len() {
-        print_word(rt, words[i])?;
-        i += 1;
+    for &bits in words {
+        let word = Word::from_bits(bits);
+        print!(rt; "{word} ")?;
     }
     Ok(())
 }
@@ -32,10 +25,10 @@ fn print_place(rt: &impl Print, place: usize) -> io::Result<()> {
 fn show(rt: &impl Print, page: &[u32], answer: u32) -> io::Result<()> {
     print_words(rt, page::view(page, answer))?;
     match page::find(page, answer) {
-        Found::Part(start, _) => print_place(rt, start),
-        Found::Refused(number, place) => {
-            print!(rt; "refused {number} ")?;
-            print_place(rt, place)
+        Ok(part) => print_place(rt, part.start),
+        Err(missing) => {
+            print!(rt; "refused {} ", missing.number())?;
+            print_place(rt, missing.place)
         }
     }
 }
@@ -50,22 +43,19 @@ fn read_word(input: &mut impl Read) -> io::Result<u32> {
 
 fn show_next(rt: &impl Print, input: &mut impl Read) -> io::Result<()> {
     let answer = read_word(input)?;
-    let count = at_most(read_word(input)? as usize, MOST);
+    let count = MOST.min(read_word(input)? as usize);
     let mut words = [0u32; MOST];
-    let mut i = 0;
-    while i < count {
-        words[i] = read_word(input)?;
-        i += 1;
+    for bits in &mut words[..count] {
+        *bits = read_word(input)?;
     }
     show(rt, &words[..count], answer)
 }
 
 fn main(rt: HostRuntime) -> io::Result<()> {
     let mut input = rt.stdin();
-    let mut left = read_word(&mut input)?;
-    while 0 < left {
+    let count = read_word(&mut input)?;
+    for _ in 0..count {
         show_next(&rt, &mut input)?;
-        left -= 1;
     }
     Ok(())
 }

@@ -4,32 +4,17 @@
 ghost use Rattle.std.specs.Prelude.{◌<◌, IfOk};
 
 use input::read_full;
-use rules::Verdict;
 use std::io;
-
-// The word whose low byte is at `at`.
-fn word_at(bytes: &[u8; 262144], at: usize) -> u32 {
-    if 262140 < at {
-        return 0;
-    }
-    let low = wide(bytes[at]) + 256 * wide(bytes[at + 1]);
-    let high = wide(bytes[at + 2]) + 256 * wide(bytes[at + 3]);
-    low + 65536 * high
-}
-
-fn wide(byte: u8) -> u32
-    ensures { result < 256 }
-{
-    byte as u32
-}
+use word::Word;
 
 fn show(rt: &impl Print, program: &[u32]) -> io::Result<()> {
     match rules::check(program) {
-        Verdict::Accepted => println!(rt; "accepted"),
-        Verdict::Refused(condition, place) => {
-            let number = condition.number();
-            println!(rt; "refused {number} at {place}")
-        }
+        Ok(()) => println!(rt; "accepted"),
+        Err(refusal) => println!(rt;
+            "refused {} at {}",
+            refusal.condition.number(),
+            refusal.place
+        ),
     }
 }
 
@@ -55,10 +40,9 @@ fn main(rt: HostRuntime) -> io::Result<()> {
     let mut bytes = [0u8; 262144];
     let got = read_full(&mut rt.stdin(), &mut bytes)?;
     let mut words = [0u32; 65536];
-    let mut i = 0;
-    while i < 65536 {
-        words[i] = word_at(&bytes, 4 * i);
-        i += 1;
+    for (word, part) in words.iter_mut().zip(bytes.as_chunks::<4>().0) {
+        let [low, second, third, high] = *part;
+        *word = Word::from_bytes(low, second, third, high).bits;
     }
     let end = got / 4;
     let mut at = 0;

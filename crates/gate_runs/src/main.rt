@@ -2,19 +2,12 @@
 // Prints what the listing program prints of each.
 #![tactic(auto)]
 
-ghost use Rattle.std.specs.Prelude.{◌≤◌, length};
+ghost use Rattle.std.specs.Prelude.{◌≤◌};
 
 use input::read_full;
 use std::io;
 use std::io::Read;
-use word::{Word, at_most};
-
-fn read_part(input: &mut impl Read, bytes: &mut [u8], size: usize) -> io::Result<()>
-    requires { size ≤ length bytes.old }
-{
-    read_full(input, &mut bytes[..size])?;
-    Ok(())
-}
+use word::Word;
 
 // The word from byte `at` on of the settings.
 fn setting(settings: &[u8; 16], at: usize) -> u32
@@ -39,8 +32,8 @@ fn list_with(
     let rounds = setting(settings, 0);
     let steps = setting(settings, 4);
     let room = setting(settings, 8) as usize;
-    let size = at_most(setting(settings, 12) as usize, bytes.len());
-    read_part(input, bytes, size)?;
+    let size = bytes.len().min(setting(settings, 12) as usize);
+    read_full(input, &mut bytes[..size])?;
     let mut out = [0u8; 65536];
     let count = list_text::text(&bytes[..size], rounds, steps, room, &mut out);
     rt.write_all(&out[..count])
@@ -59,12 +52,9 @@ fn list_next(rt: &impl Print, input: &mut impl Read) -> io::Result<bool> {
 
 fn main(rt: HostRuntime) -> io::Result<()> {
     let mut input = rt.stdin();
-    let mut left = 1000u32;
-    while 0 < left {
-        if list_next(&rt, &mut input)? {
-            left -= 1;
-        } else {
-            return Ok(());
+    for _ in 0..1000 {
+        if !list_next(&rt, &mut input)? {
+            break;
         }
     }
     Ok(())

@@ -6,7 +6,9 @@ use native.Mathlib.Omega.{arith}
 use lib.ListN.{length, replicate, take}
 use Rattle.semantics.specs.Round.{Result, once}
 use Rattle.semantics.specs.Run as run
-use Rattle.engine.specs.Report.{RunPromise, end_says}
+use Rattle.std.specs.Prelude.{Result as Returned}
+use Rattle.engine.specs.Report.{RunPromise, counts, ended}
+use Rattle.engine.specs.declared.report.Refusal.{Refusal}
 use Rattle.engine.specs.declared.report.Report.{Report}
 use Rattle.semantics.specs.Path.{as_written}
 use Rattle.page.specs.Page.{answers_on, refused}
@@ -27,18 +29,18 @@ page_answers : (x : run.Run) (y : run.Report) (output scratch : List ℕ) → x 
 page_answers x (run.refusal number place) output scratch e z h = rw (e, z) (none_on_zeros (length output))
 page_answers x (run.ran r) output scratch e z h = h r (ap (λ (w : run.Run). w.report) e) ∙ ap (λ (w : run.Run). report_answers w.report) (sym e)
 
-listed : {words : List ℕ} {rounds steps : ℕ} {output scratch : List ℕ} {r : Report} {output_after scratch_after : List ℕ} → output ≡ replicate (length output) 0 → RunPromise words rounds steps output scratch r output_after scratch_after →
-    first_line (end_says r.end) r.round r.steps r.answers r.cut ++ joined (map line (answers_on output_after)) ≡ report_text (run.run_as_written words rounds steps output scratch).report
+listed : {words : List ℕ} {rounds steps : ℕ} {output scratch : List ℕ} {r : Returned Report Refusal} {output_after scratch_after : List ℕ} → output ≡ replicate (length output) 0 → RunPromise words rounds steps output scratch r output_after scratch_after →
+    first_line (ended r) (counts r).round (counts r).steps (counts r).answers (counts r).cut ++ joined (map line (answers_on output_after)) ≡ report_text (run.run_as_written words rounds steps output scratch).report
 listed {words} {rounds} {steps} {output} {scratch} {r} {output_after} z kept =
     let x = run.run_as_written words rounds steps output scratch in
     let s = kept.says in
     let a : answers_on x.output ≡ report_answers x.report = page_answers x (run.returns_by (once as_written) words rounds steps (length output) (length scratch)) output scratch refl z (λ w e. rw s.is_output at (kept.demands.runs w e).on_output.page_is) in
-    rw (s.is_end, s.is_round, s.is_steps, s.is_answers, s.is_cut, s.is_output, a)
+    rw (s.is_end, s.is_counts, s.is_output, a)
 
 -- first line and answers behind it
-pub list_text : {words : List ℕ} {rounds steps : ℕ} {output scratch : List ℕ} {r : Report} {output_after scratch_after : List ℕ} {out mid after : List ℕ} {m next : ℕ} →
+pub list_text : {words : List ℕ} {rounds steps : ℕ} {output scratch : List ℕ} {r : Returned Report Refusal} {output_after scratch_after : List ℕ} {out mid after : List ℕ} {m next : ℕ} →
     output ≡ replicate (length output) 0 → RunPromise words rounds steps output scratch r output_after scratch_after →
-    Wrote (first_line (end_says r.end) r.round r.steps r.answers r.cut) 0 out m mid → Wrote (joined (map line (answers_on output_after))) m mid next after →
+    Wrote (first_line (ended r) (counts r).round (counts r).steps (counts r).answers (counts r).cut) 0 out m mid → Wrote (joined (map line (answers_on output_after))) m mid next after →
     Wrote (report_text (run.run_as_written words rounds steps output scratch).report) 0 out next after
 list_text {out = out} {after = after} {next = next} z kept w v = subst (λ (t : List ℕ). Wrote t 0 out next after) (listed z kept) (behind w v)
 

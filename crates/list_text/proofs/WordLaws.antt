@@ -19,7 +19,7 @@ use Rattle.semantics.specs.Path.{as_written}
 use Rattle.word.specs.Word.{from_bytes}
 use Rattle.list_text.specs.Listing.{whole_words, words_of}
 use Rattle.list_text.specs.Writing.{words_read}
-use Rattle.list_text.proofs.PartLaws.{take_within}
+use Rattle.std.proofs.lemmas.List.{take_min}
 
 four : (i : ℕ) → 4 * suc i ≡ suc (suc (suc (suc (4 * i))))
 four i = omega arith
@@ -51,7 +51,7 @@ read_start : (bytes : List ℕ) → take (words_read (length bytes)) (whole_word
 read_start bytes = by_test (eqb (length bytes % 4) 0)
   where
     by_test : (b : Bool) → take (choose b (λ _. min (length bytes / 4) 16385) (λ _. 0)) (whole_words bytes) ≡ take 16385 (choose b (λ _. whole_words bytes) (λ _. []))
-    by_test true = rw (min_comm (length bytes / 4) 16385, ← words_long bytes) (take_within 16385 (whole_words bytes))
+    by_test true = rw (min_comm (length bytes / 4) 16385, ← words_long bytes) (take_min 16385 (whole_words bytes))
     by_test false = refl
 
 pub read_program : (bytes words : List ℕ) {count : ℕ} → count ≡ words_read (length bytes) → take count words ≡ take count (whole_words bytes) → take count words ≡ take 16385 (words_of bytes)

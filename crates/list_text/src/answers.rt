@@ -6,7 +6,7 @@ ghost use Rattle.list_text.specs.Listing.{line, word_text};
 ghost use Rattle.list_text.specs.Writing.{Wrote};
 
 use crate::put::{put_byte, put_number};
-use page::{Found, answer_at};
+use page::answer_at;
 use word::Word;
 
 // A word takes at most 12 bytes: two for its kind, nine for its payload.
@@ -15,7 +15,7 @@ fn put_word(bits: u32, at: usize, out: &mut [u8]) -> usize
     ensures { Wrote (word_text bits) at out.old result out.new × (result ≤ at + 12) }
 {
     let word = Word::from_bits(bits);
-    let kind = word.kind() as usize;
+    let kind = word.kind().number() as usize;
     let payload = word.payload() as usize;
     let mut next = put_number(kind, at, out);
     next = put_byte(b':', next, out);
@@ -27,11 +27,9 @@ fn put_line(words: &[u32], at: usize, out: &mut [u8]) -> usize
     ensures { Wrote (line words.now) at out.old result out.new × (result ≤ at + 13 * length words.now) }
 {
     let mut next = put_word(words[0], at, out);
-    let mut i = 1;
-    while i < words.len() {
+    for &word in &words[1..] {
         next = put_byte(b' ', next, out);
-        next = put_word(words[i], next, out);
-        i += 1;
+        next = put_word(word, next, out);
     }
     put_byte(b'\n', next, out)
 }
@@ -43,15 +41,9 @@ pub(crate) fn put_answers(page: &[u32], at: usize, out: &mut [u8]) -> usize
 {
     let mut next = at;
     let mut i = 0;
-    loop {
-        match answer_at(page, i) {
-            Found::Part(_, end) => {
-                next = put_line(&page[i..end], next, out);
-                i = end;
-            }
-            Found::Refused(_, _) => {
-                return next;
-            }
-        }
+    while let Ok(part) = answer_at(page, i) {
+        next = put_line(&page[i..part.end], next, out);
+        i = part.end;
     }
+    next
 }

@@ -16,7 +16,6 @@ use crate::answers::put_answers;
 use crate::report::put_report;
 use crate::words::{read_words, word_count};
 use rules::SCRATCH_WORDS;
-use word::at_most;
 
 // Runs the program with this output, which is all 0, and writes its list.
 fn list(program: &[u32], rounds: u32, steps: u32, output: &mut [u32], out: &mut [u8]) -> usize
@@ -38,7 +37,7 @@ pub fn text(bytes: &[u8], rounds: u32, steps: u32, room: usize, out: &mut [u8]) 
     let count = word_count(bytes.len());
     read_words(bytes, &mut words, count);
     let mut output = [0u32; 4096];
-    let lent = at_most(room, 4096);
+    let lent = room.min(4096);
     list(&words[..count], rounds, steps, &mut output[..lent], out)
 }
 

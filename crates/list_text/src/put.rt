@@ -18,10 +18,8 @@ pub(crate) fn put_text(text: &[u8], at: usize, out: &mut [u8]) -> usize
     ensures { Wrote text.now at out.old result out.new }
 {
     let mut next = at;
-    let mut i = 0;
-    while i < text.len() {
-        next = put_byte(text[i], next, out);
-        i += 1;
+    for &byte in text {
+        next = put_byte(byte, next, out);
     }
     next
 }
@@ -31,8 +29,8 @@ pub(crate) fn put_number(n: usize, at: usize, out: &mut [u8]) -> usize
     ensures { Wrote (decimal n) at out.old result out.new }
 {
     if n < 10 {
-        return put_byte(48 + n as u8, at, out);
+        return put_byte(b'0' + n as u8, at, out);
     }
     let last = put_number(n / 10, at, out);
-    put_byte(48 + (n % 10) as u8, last, out)
+    put_byte(b'0' + (n % 10) as u8, last, out)
 }

@@ -47,7 +47,7 @@ module _ (ws : List ℕ) (some : 1 ≤ length ws) (few : length ws ≤ most_word
 
 -- what is said of a refusal, back to the reading
 pub refused_said : (r : Accept) (c p : ℕ) → no_said c p ≡ said r → r ≡ refused c p
-refused_said (accepted P) c p e = absurd (let z : ◌≡◌ {A = ℕ} 0 1 = cc in omega arith)
+refused_said (accepted P) c p e = cc
 refused_said (refused d q) c p e = let x : c ≡ d = cc in let y : p ≡ q = cc in rw (x, y) refl
 
 -- the place of a refusal is at most the largest word count, so that it goes into 32 bits

@@ -2,14 +2,13 @@
 use mathlib.Core.Path.{◌≡◌, refl, sym, ap, ◌∙◌, subst₂}
 use mathlib.Core.Bool.{Bool, true, false, ◌&&◌}
 use Prim.Native.Nat.{ℕ, ◌≤◌}
-use native.Mathlib.Omega.{arith}
 use lib.Dec.{leb}
 use borrow.Author.Tests.{leb-true}
 use Rattle.rules.specs.Reading.{Reading, found, refuse, next, require, choose, filled, fill}
 use Rattle.rules.specs.Inner.{ReadOutcome, ends, stops, told, filled_told, Settles}
 
 pub found_not_refused : {A : Type 0} {C : Type 0} (a : A) (n c p : ℕ) → refuse c p ≡ found a n → C
-found_not_refused a n c p e = absurd (let z : ◌≡◌ {A = ℕ} 0 1 = cc in omega arith)
+found_not_refused a n c p e = cc
 
 -- a fact of what was found holds of the same finding
 pub found_carries : {A : Type 0} (Q : A → ℕ → Type 0) {a b : A} {n m : ℕ} → found a n ≡ found b m → Q a n → Q b m
@@ -42,13 +41,8 @@ fill_found {A} (found a m) end b n e =
     (u.1, found_carries (λ (_ : A) n. end ≤ n) u.1 u.0)
 fill_found (refuse c p) end b n e = found_not_refused b n c p e
 
-bool_code : Bool → ℕ
-bool_code true = 1
-bool_code false = 0
-
 pub false_true : false ≡ true → ⊥
-unfolding bool_code
-false_true e = let z : ◌≡◌ {A = ℕ} 0 1 = ap bool_code e in omega arith
+false_true e = cc
 
 pub and_true : (a b : Bool) → a && b ≡ true → (a ≡ true) × (b ≡ true)
 and_true true b e = (refl, e)
@@ -57,10 +51,10 @@ and_true false b e = absurd (false_true e)
 -- a reading that ended has found something
 pub ended : {A : Type 0} (r : Reading A) (n : ℕ) → ends n ≡ told r → (a : A) × (r ≡ found a n)
 ended (found a m) n e = let z : n ≡ m = cc in (a, rw z refl)
-ended (refuse c p) n e = absurd (let z : ◌≡◌ {A = ℕ} 0 1 = cc in omega arith)
+ended (refuse c p) n e = cc
 
 pub stopped : {A : Type 0} (r : Reading A) (c p : ℕ) → stops c p ≡ told r → r ≡ refuse c p
-stopped (found a m) c p e = absurd (let z : ◌≡◌ {A = ℕ} 0 1 = cc in omega arith)
+stopped (found a m) c p e = cc
 stopped (refuse d q) c p e = let z : c ≡ d = cc in let y : p ≡ q = cc in rw (z, y) refl
 
 -- a refusal goes through

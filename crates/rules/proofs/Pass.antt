@@ -1,11 +1,12 @@
 -- The second pass: what it skips, finds and goes on to, one law for each way in which its functions return or go on.
 use mathlib.Core.Path.{◌≡◌, refl, sym, ap, ◌∙◌}
-use mathlib.Core.Option.{Option, some, none}
+use mathlib.Core.Option as maybe
 use mathlib.Core.List.{List, [], ◌∷◌, ◌++◌, append_assoc}
-use Prim.Native.Nat.{ℕ, zero, suc, ◌+◌, ◌-◌, ◌<◌, ◌≤◌}
+use Prim.Native.Nat.{ℕ, zero, suc, ◌+◌, ◌<◌, ◌≤◌}
 use native.Mathlib.Omega.{arith}
 use lib.ListN.{length, get_or, get_elem?, length-append}
 use borrow.Author.Tests.{eq-eqb, ne_eqb}
+use Rattle.std.specs.Prelude.{Option, Some, None}
 use Rattle.word.specs.Word.{word}
 use Rattle.rules.specs.Syntax.{symbol, number, empty, Term, var, atom, pair, symbols, numbers, Constraint, differ, typed, absento, Goal, Goals, equal, constrain, conj, disj, call, one, more, Relation, Program}
 use Rattle.rules.specs.Written.{atom_word, term_words, terms_words, goal_words, goals_words, relation_words, written, part, sort_kind}
@@ -128,12 +129,8 @@ relations_none ws at (R ∷ Qs) h l =
 pub params_read : (ws : List ℕ) (at k p q m : ℕ) (R : Relation) (Rs : List Relation) → Ahead ws at k p R Rs → PartAt ws (at + 1) q m → m ≡ R.params
 params_read ws at k p q m R Rs a s = part_size ws (at + 1) q m 2 R.params s a.params_word (omega (arith, a.good.vars_bound, a.good.params_bound))
 
--- relation `n` of a list, past its first
-pub lookup_later : (R : Relation) (Rs : List Relation) (n : ℕ) → (n ≡ 0 → ⊥) → get_elem? (R ∷ Rs) n ≡ get_elem? Rs (n - 1)
-lookup_later R Rs zero h = absurd (h refl)
-lookup_later R Rs (suc n) h = let z : suc n - 1 ≡ n = omega arith in rw z
-
-pub lookup_none : (n : ℕ) → get_elem? {A = Relation} [] n ≡ none
+-- the empty list has no relation
+pub lookup_none : (n : ℕ) → get_elem? {A = Relation} [] n ≡ maybe.none
 lookup_none zero = refl
 lookup_none (suc n) = refl
 
@@ -383,29 +380,29 @@ module _ (ws : List ℕ) (P : Program) (at k p : ℕ) (is : List Item) (s : Part
     pub call_params : (q m : ℕ) → PartAt ws (at + 1) q m → (o : Option ℕ) → o ≡ params_of (get_elem? P m) → params_of (get_elem? P n) ≡ o
     call_params q m t o e = sym (e ∙ ap (λ m. params_of (get_elem? P m)) (call_wanted q m t))
 
-    pub call_missing : params_of (get_elem? P n) ≡ none → Moves ws P at (goal vars (call n ts) ∷ is) (stops 7 at)
+    pub call_missing : params_of (get_elem? P n) ≡ None → Moves ws P at (goal vars (call n ts) ∷ is) (stops 7 at)
     unfolding goal_fault
     call_missing e = go (get_elem? P n) e
       where
-        go : (o : Option Relation) → params_of o ≡ none → or_else (call_fault o (length ts) at) (items_fault is P (at + length (goal_words (call n ts)))) ≡ fault 7 at
-        go none e = refl
-        go (some R) e = absurd (let z : ◌≡◌ {A = ℕ} 0 1 = cc in omega arith)
+        go : (o : maybe.Option Relation) → params_of o ≡ None → or_else (call_fault o (length ts) at) (items_fault is P (at + length (goal_words (call n ts)))) ≡ fault 7 at
+        go maybe.none e = refl
+        go (maybe.some R) e = cc
 
-    pub call_wrong : (c : ℕ) → params_of (get_elem? P n) ≡ some c → (length ts ≡ c → ⊥) → Moves ws P at (goal vars (call n ts) ∷ is) (stops 8 at)
+    pub call_wrong : (c : ℕ) → params_of (get_elem? P n) ≡ Some c → (length ts ≡ c → ⊥) → Moves ws P at (goal vars (call n ts) ∷ is) (stops 8 at)
     unfolding goal_fault
     call_wrong c e d = go (get_elem? P n) e
       where
-        go : (o : Option Relation) → params_of o ≡ some c → or_else (call_fault o (length ts) at) (items_fault is P (at + length (goal_words (call n ts)))) ≡ fault 8 at
-        go none e = absurd (let z : ◌≡◌ {A = ℕ} 0 1 = cc in omega arith)
-        go (some R) e = let z : R.params ≡ c = cc in simp (ne_eqb (length ts) R.params (λ y. d (y ∙ z)))
+        go : (o : maybe.Option Relation) → params_of o ≡ Some c → or_else (call_fault o (length ts) at) (items_fault is P (at + length (goal_words (call n ts)))) ≡ fault 8 at
+        go maybe.none e = cc
+        go (maybe.some R) e = let z : R.params ≡ c = cc in simp (ne_eqb (length ts) R.params (λ y. d (y ∙ z)))
 
-    pub call_right : (c : ℕ) → params_of (get_elem? P n) ≡ some c → length ts ≡ c → Moves ws P at (goal vars (call n ts) ∷ is) (ends (at + 1 + p))
+    pub call_right : (c : ℕ) → params_of (get_elem? P n) ≡ Some c → length ts ≡ c → Moves ws P at (goal vars (call n ts) ∷ is) (ends (at + 1 + p))
     unfolding goal_fault
     call_right c e d = pass_item ws P at k p (goal vars (call n ts)) is called (go (get_elem? P n) e)
       where
-        go : (o : Option Relation) → params_of o ≡ some c → call_fault o (length ts) at ≡ sound
-        go none e = absurd (let z : ◌≡◌ {A = ℕ} 0 1 = cc in omega arith)
-        go (some R) e = let z : R.params ≡ c = cc in simp (eq-eqb (length ts) R.params (d ∙ sym z))
+        go : (o : maybe.Option Relation) → params_of o ≡ Some c → call_fault o (length ts) at ≡ sound
+        go maybe.none e = cc
+        go (maybe.some R) e = let z : R.params ≡ c = cc in simp (eq-eqb (length ts) R.params (d ∙ sym z))
 
 -- the items that a program starts with, and whether any are left
 relation_items : List Relation → List Item
@@ -456,23 +453,20 @@ relation_there ws at k p (R ∷ Qs) h l s = (R, Qs, refl, relations_split ws at 
 pub relation_inside : (ws : List ℕ) (at : ℕ) (Rs : List Relation) → RelationsAt ws at Rs → at < length ws → at + 1 < length ws
 relation_inside ws at Rs h l = (relation_there ws at _ _ Rs h l (record { is_kind = refl; is_size = refl })).3.params_there
 
-pub relation_within : (ws : List ℕ) (at k p : ℕ) (Rs : List Relation) → RelationsAt ws at Rs → at < length ws → PartAt ws at k p → at + 1 + p ≤ length ws
-relation_within ws at k p Rs h l s = omega (arith, (relation_there ws at k p Rs h l s).3.rest.to)
-
-pub seek_here : (ws : List ℕ) (P : Program) (wanted at left q m : ℕ) → Seeking ws P wanted at left → at < length ws → left ≡ 0 → PartAt ws (at + 1) q m → some m ≡ params_of (get_elem? P wanted)
+pub seek_here : (ws : List ℕ) (P : Program) (wanted at left q m : ℕ) → Seeking ws P wanted at left → at < length ws → left ≡ 0 → PartAt ws (at + 1) q m → Some m ≡ params_of (get_elem? P wanted)
 seek_here ws P wanted at left q m h l z s =
     let r = relation_there ws at _ _ h.0 h.1 l (record { is_kind = refl; is_size = refl }) in
-    let e : get_elem? P wanted ≡ some r.0 = h.2 ∙ ap (λ Rs. get_elem? Rs left) r.2 ∙ ap (get_elem? (r.0 ∷ r.1)) z in
-    ap some (params_read ws at _ _ q m r.0 r.1 r.3 s) ∙ sym (ap params_of e)
+    let e : get_elem? P wanted ≡ maybe.some r.0 = h.2 ∙ ap (λ Rs. get_elem? Rs left) r.2 ∙ ap (get_elem? (r.0 ∷ r.1)) z in
+    ap Some (params_read ws at _ _ q m r.0 r.1 r.3 s) ∙ sym (ap params_of e)
 
-pub seek_on : (ws : List ℕ) (P : Program) (wanted at left k p : ℕ) → Seeking ws P wanted at left → at < length ws → (left ≡ 0 → ⊥) → PartAt ws at k p → Seeking ws P wanted (at + 1 + p) (left - 1)
-seek_on ws P wanted at left k p h l n s =
+pub seek_on : (ws : List ℕ) (P : Program) (wanted at left k p : ℕ) → Seeking ws P wanted at (suc left) → at < length ws → PartAt ws at k p → Seeking ws P wanted (at + 1 + p) left
+seek_on ws P wanted at left k p h l s =
     let r = relation_there ws at k p h.0 h.1 l s in
-    (r.1, r.3.rest, h.2 ∙ ap (λ Rs. get_elem? Rs left) r.2 ∙ lookup_later r.0 r.1 left n)
+    (r.1, r.3.rest, h.2 ∙ ap (λ Rs. get_elem? Rs (suc left)) r.2)
 
-pub seek_none : (ws : List ℕ) (P : Program) (wanted at left : ℕ) → Seeking ws P wanted at left → length ws ≤ at → none ≡ params_of (get_elem? P wanted)
+pub seek_none : (ws : List ℕ) (P : Program) (wanted at left : ℕ) → Seeking ws P wanted at left → length ws ≤ at → None ≡ params_of (get_elem? P wanted)
 seek_none ws P wanted at left h l =
-    let e : get_elem? P wanted ≡ none = h.2 ∙ ap (λ Rs. get_elem? Rs left) (relations_none ws at h.0 h.1 l) ∙ lookup_none left in
+    let e : get_elem? P wanted ≡ maybe.none = h.2 ∙ ap (λ Rs. get_elem? Rs left) (relations_none ws at h.0 h.1 l) ∙ lookup_none left in
     sym (ap params_of e)
 
 -- the first of terms that are left, and the rest of them

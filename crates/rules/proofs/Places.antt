@@ -233,7 +233,7 @@ relations_fault_bounded (R ∷ Rs) P at =
 
 judge_placed : (end : ℕ) (P : Program) (f : Fault) (c p : ℕ) → BoundedFault end f → judge P f ≡ refused c p → Placed end c p
 unfolding BoundedFault
-judge_placed end P sound c p h e = absurd (let z : ◌≡◌ {A = ℕ} 0 1 = cc in omega arith)
+judge_placed end P sound c p h e = cc
 judge_placed end P (fault d q) c p h e = let x : d ≡ c = cc in let y : q ≡ p = cc in rw (x, y) at h
 
 calls_placed : (ws : List ℕ) (r : Reading Program) → read_structure ws ≡ r → (c p : ℕ) → Bounded (length ws) r → calls_read r ≡ refused c p → Placed (length ws) c p

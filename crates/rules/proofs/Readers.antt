@@ -1,18 +1,26 @@
 -- What the code's readers tell, test by test: one law for each way in which a reader returns or goes on.
 use mathlib.Core.Path.{◌≡◌, refl, sym, ap, ◌∙◌}
 use mathlib.Core.Bool.{Bool, true, false}
+use mathlib.Core.Logic.{◌⊎◌, inl, inr}
 use mathlib.Core.List.{List, ◌∷◌}
 use Prim.Native.Nat.{ℕ, zero, suc, ◌+◌, ◌-◌, ◌*◌, ◌<◌, ◌≤◌}
 use native.Mathlib.Omega.{arith}
 use lib.Dec.{eqb, ltb}
 use lib.ListN.{length}
 use borrow.Author.Tests.{lt-ltb, le-ltb, le-leb, lt-leb, eq-eqb, ne_eqb, ltb-true, eqb-true}
-use Rattle.rules.specs.Syntax.{symbol, number, Term, var, atom, pair, empty, absento, constrain, call, more}
-use Rattle.rules.specs.Reading.{Reading, found, next, require, fill, kind_at, payload_at, read_word, read_leaf, read_term, read_one, read_two, read_terms, read_tag, read_absento, read_call, goal_parts, read_goal, read_goals, read_body, read_variables, read_relation, read_relations, two_terms, one_term, of_goals}
-use Rattle.rules.specs.Inner.{ReadOutcome, ends, stops, told, filled_told, Settles, PartAt}
+use Rattle.std.specs.Prelude.{Result, Ok, Err, IsErrAnd, MatchResult}
+use Rattle.rules.specs.declared.Refusal.{Refusal}
+use Rattle.rules.specs.Syntax.{symbol, number, pair, absento, constrain, call, more}
+use Rattle.rules.specs.Reading.{Reading, found, next, fill, kind_at, payload_at, read_word, read_leaf, read_term, read_one, read_two, read_terms, read_tag, read_absento, read_call, goal_kind, goal_parts, read_goal, read_goals, read_body, read_variables, read_relation, read_relations, two_terms, one_term, of_goals}
+use Rattle.rules.specs.Inner.{ReadOutcome, ends, stops, told, outcome, filled_told, Settles, PartAt}
 use Rattle.rules.proofs.Combine.{ended, next_stops, told_map, require_found, fill_settles}
 use Rattle.rules.proofs.Spelled.{term_some, goal_some}
 use Rattle.rules.proofs.Sound.{term_sound, tag_sound, goal_sound, relation_sound}
+
+-- `?` passes a refusal on as it is
+pub passed_on : {T : Type 0} (r : Result T Refusal) (e : Refusal) → IsErrAnd r (λ y. y ≡ e) → r ≡ Err e
+passed_on (Ok x) e h = absurd h
+passed_on (Err y) e h = ap Err h
 
 -- any depth over a need is one more than some depth
 pub settle : {A : Type 0} (r : ℕ → Reading A) (need : ℕ) (o : ReadOutcome) → ((g : ℕ) → need < suc g → o ≡ told (r (suc g))) → Settles r need o
@@ -57,14 +65,6 @@ word_read k ws at end n e =
     record { before_end = ltb-true at end q₁.0; to = sym z; is_kind = eqb-true _ _ q₂.0; reads = simp (q₁.0, q₂.0) (ap (found (payload_at ws at)) z) }
 
 -- leaves
-pub leaf_variable : (k p vars at : ℕ) (o : ReadOutcome) → k ≡ 0 → o ≡ told (require {A = Term} (ltb p vars) 5 at (λ _. found (var p) (at + 1))) → o ≡ told (read_leaf k p vars at)
-unfolding read_leaf
-leaf_variable k p vars at o e h = rw e h
-
-pub leaf_empty : (k p vars at : ℕ) (o : ReadOutcome) → k ≡ 3 → o ≡ told (require {A = Term} (eqb p 0) 3 at (λ _. found (atom empty) (at + 1))) → o ≡ told (read_leaf k p vars at)
-unfolding read_leaf
-leaf_empty k p vars at o e h = rw e h
-
 pub leaf_atom : (k p vars at : ℕ) → k < 4 → (k ≡ 0 → ⊥) → (k ≡ 3 → ⊥) → ends (at + 1) ≡ told (read_leaf k p vars at)
 unfolding read_leaf
 leaf_atom zero p vars at l z e = absurd (z refl)
@@ -168,20 +168,26 @@ terms_next ws vars at end n l h o r = settle (λ f. read_terms f ws vars at end)
     simp (lt-ltb at end l) (next_ends (read_term g ws vars at end) _ n o (h g (omega arith)) (λ t _. next_map (read_terms g ws vars n end) (λ ts. t ∷ ts) o (r g (omega (arith, a.past, a.within))))))
 
 -- absento and call
-pub tag_symbol : (ws : List ℕ) (at end n : ℕ) → ends n ≡ told (read_word 1 ws at end) → ends n ≡ told (read_tag ws at end)
+tag_symbol : (ws : List ℕ) (at end n : ℕ) → ends n ≡ told (read_word 1 ws at end) → ends n ≡ told (read_tag ws at end)
 unfolding read_tag
 tag_symbol ws at end n h =
     let r = word_read 1 ws at end n h in
     rw (eq-eqb (kind_at ws at) 1 r.is_kind) (next_map (read_word 1 ws at end) symbol (ends n) h)
 
-pub tag_number : (ws : List ℕ) (at end c q : ℕ) (o : ReadOutcome) → stops c q ≡ told (read_word 1 ws at end) → o ≡ told (read_word 2 ws at end) → o ≡ told (read_tag ws at end)
+tag_number : (ws : List ℕ) (at end c q : ℕ) (o : ReadOutcome) → stops c q ≡ told (read_word 1 ws at end) → o ≡ told (read_word 2 ws at end) → o ≡ told (read_tag ws at end)
 unfolding read_tag read_word
 tag_number ws at end c q o h e = go (eqb (kind_at ws at) 1) refl (ltb at end) refl
   where
     go : (b : Bool) → eqb (kind_at ws at) 1 ≡ b → (d : Bool) → ltb at end ≡ d → o ≡ told (read_tag ws at end)
     go false k d l = rw k (next_map (read_word 2 ws at end) number o e)
-    go true k true l = let y : stops c q ≡ ends (at + 1) = simp (l, k) at h in absurd (let z : ◌≡◌ {A = ℕ} 0 1 = cc in omega arith)
+    go true k true l = let y : stops c q ≡ ends (at + 1) = simp (l, k) at h in cc
     go true k false l = simp (l, k) (simp l at e)
+
+-- a symbol, or else a number
+pub tag_told : (ws : List ℕ) (at end : ℕ) (r s : Result ℕ Refusal) (Q : Refusal → Type 0) → outcome r ≡ told (read_word 1 ws at end) → MatchResult r (λ n. s ≡ Ok n) Q
+    → ((e : Refusal) → Q e → outcome s ≡ told (read_word 2 ws at end)) → outcome s ≡ told (read_tag ws at end)
+tag_told ws at end (Ok n) s Q h e f = rw e (tag_symbol ws at end n h)
+tag_told ws at end (Err r) s Q h e f = tag_number ws at end _ _ (outcome s) h (f r e)
 
 pub absento_stops : (ws : List ℕ) (vars at end c q : ℕ) → stops c q ≡ told (read_tag ws at end) → Settles (λ f. read_absento f ws vars at end) (end - at) (stops c q)
 unfolding read_absento
@@ -216,25 +222,21 @@ unfolding read_goal
 goal_missing ws vars at end l = settle (λ f. read_goal f ws vars at end) (2 * (end - at) + 1) (stops 3 end) (λ g _. simp (le-ltb at end l))
 
 module _ (ws : List ℕ) (vars at end k p : ℕ) (l : at < end) (s : PartAt ws at k p) where
-  pub goal_low : k < 5 → GoalTold ws vars at end (stops 2 at)
+  pub goal_other : goal_kind k ≡ false → GoalTold ws vars at end (stops 2 at)
   unfolding read_goal
-  goal_low b = settle (λ f. read_goal f ws vars at end) (2 * (end - at) + 1) (stops 2 at) (λ g _. simp (lt-ltb at end l, sym s.is_kind, lt-leb 5 k b))
+  goal_other n = settle (λ f. read_goal f ws vars at end) (2 * (end - at) + 1) (stops 2 at) (λ g _. simp (lt-ltb at end l, sym s.is_kind, n))
 
-  pub goal_high : 5 ≤ k → 12 < k → GoalTold ws vars at end (stops 2 at)
-  unfolding read_goal
-  goal_high a b = settle (λ f. read_goal f ws vars at end) (2 * (end - at) + 1) (stops 2 at) (λ g _. simp (lt-ltb at end l, sym s.is_kind, le-leb 5 k a, lt-leb k 12 b))
-
-  module _ (low : 5 ≤ k) (high : k ≤ 12) where
+  module _ (y : goal_kind k ≡ true) where
     pub goal_overrun : end - (at + 1) < p → GoalTold ws vars at end (stops 3 at)
     unfolding read_goal
     goal_overrun b = settle (λ f. read_goal f ws vars at end) (2 * (end - at) + 1) (stops 3 at)
-        (λ g _. simp (lt-ltb at end l, sym s.is_kind, sym s.is_size, le-leb 5 k low, le-leb k 12 high, lt-leb p (end - (at + 1)) b))
+        (λ g _. simp (lt-ltb at end l, sym s.is_kind, sym s.is_size, y, lt-leb p (end - (at + 1)) b))
 
     module _ (b : p ≤ end - (at + 1)) where
       goal_reads : (o : ReadOutcome) → ((g : ℕ) → 2 * (end - at) < g → o ≡ told (goal_parts g ws vars k (at + 1) (at + 1 + p) (λ a e. read_goals g ws vars a e))) → GoalTold ws vars at end o
       unfolding read_goal
       goal_reads o h = settle (λ f. read_goal f ws vars at end) (2 * (end - at) + 1) o
-          (λ g d. simp (lt-ltb at end l, sym s.is_kind, sym s.is_size, le-leb 5 k low, le-leb k 12 high, le-leb p (end - (at + 1)) b) (h g (omega arith)))
+          (λ g d. simp (lt-ltb at end l, sym s.is_kind, sym s.is_size, y, le-leb p (end - (at + 1)) b) (h g (omega arith)))
 
       pub goal_two : k ≤ 6 → (o : ReadOutcome) → Settles (λ f. read_two f ws vars (at + 1) (at + 1 + p)) (at + 1 + p - (at + 1)) o → GoalTold ws vars at end o
       goal_two u o h = goal_reads o (λ g d. simp (le-leb k 6 u) (next_map (read_two g ws vars (at + 1) (at + 1 + p)) (two_terms (eqb k 5)) o (h g (omega arith))))
@@ -248,8 +250,8 @@ module _ (ws : List ℕ) (vars at end k p : ℕ) (l : at < end) (s : PartAt ws a
       pub goal_call : k ≡ 12 → (o : ReadOutcome) → Settles (λ f. read_call f ws vars (at + 1) (at + 1 + p)) (at + 1 + p - (at + 1)) o → GoalTold ws vars at end o
       goal_call e o h = goal_reads o (λ g d. simp e (h g (omega arith)))
 
-      pub goal_nested : 8 < k → (k ≡ 9 → ⊥) → (k ≡ 12 → ⊥) → (o : ReadOutcome) → GoalsTold ws vars (at + 1) (at + 1 + p) o → GoalTold ws vars at end o
-      goal_nested v n m o h = goal_reads o (λ g d. simp (lt-leb k 6 (omega arith), lt-leb k 8 v, ne_eqb k 9 n, le-leb k 11 (omega arith))
+      pub goal_nested : 10 ≤ k → k ≤ 11 → (o : ReadOutcome) → GoalsTold ws vars (at + 1) (at + 1 + p) o → GoalTold ws vars at end o
+      goal_nested v u o h = goal_reads o (λ g d. simp (lt-leb k 6 (omega arith), lt-leb k 8 (omega arith), ne_eqb k 9 (λ e. omega arith), le-leb k 11 u)
           (next_map (read_goals g ws vars (at + 1) (at + 1 + p)) (of_goals (eqb k 10)) o (h g (omega arith))))
 
 pub goal_ahead : (ws : List ℕ) (vars at end n : ℕ) → GoalTold ws vars at end (ends n) → Ahead at end n
@@ -287,13 +289,10 @@ module _ (ws : List ℕ) (params at end n k p : ℕ) (h : ends n ≡ told (read_
   read_p : read_word 2 ws at end ≡ found p n
   read_p = (word_read 2 ws at end n h).reads ∙ ap (λ p. found p n) (sym s.is_size)
 
-  pub variables_many : 255 < p → Settles (λ f. read_variables f ws params at end) (2 * (end - at) + 1) (stops 4 at)
+  pub variables_wrong : (255 < p) ⊎ ((p ≤ 255) × (p < params)) → Settles (λ f. read_variables f ws params at end) (2 * (end - at) + 1) (stops 4 at)
   unfolding read_variables
-  variables_many u f d = simp (read_p, lt-leb p 255 u)
-
-  pub variables_few : p ≤ 255 → p < params → Settles (λ f. read_variables f ws params at end) (2 * (end - at) + 1) (stops 4 at)
-  unfolding read_variables
-  variables_few u v f d = simp (read_p, le-leb p 255 u, lt-leb params p v)
+  variables_wrong (inl u) f d = simp (read_p, lt-leb p 255 u)
+  variables_wrong (inr v) f d = simp (read_p, le-leb p 255 v.0, lt-leb params p v.1)
 
   pub variables_rest : p ≤ 255 → params ≤ p → (o : ReadOutcome) → Settles (λ f. read_body f ws p n end) (2 * (end - n) + 1) o → Settles (λ f. read_variables f ws params at end) (2 * (end - at) + 1) o
   unfolding read_variables

@@ -1,6 +1,6 @@
 -- What the private functions promise one another. Nothing here is part of what `check` promises.
-use Rattle.std.specs.Prelude.{ℕ, ◌+◌, ◌<◌, ◌≤◌, ◌≡◌, List, [], ◌∷◌, ◌++◌, leb, length, get_or}
-use Rattle.std.proofs.Math.Option.{Option, some, none}
+use Rattle.std.specs.Prelude.{ℕ, ◌+◌, ◌<◌, ◌≤◌, ◌≡◌, List, [], ◌∷◌, ◌++◌, leb, length, get_or, Option, Some, None, Result, Ok, Err}
+use Rattle.std.proofs.Math.Option as maybe
 use Rattle.rules.specs.Syntax.{Term, Goal, Relation, Program}
 use Rattle.rules.specs.Written.{term_words, terms_words, goal_words, relation_words, written}
 use Rattle.rules.specs.WellFormed.{TermGood, TermsGood, GoalGood, RelationGood, RelationsGood}
@@ -8,10 +8,7 @@ use Rattle.rules.specs.Calls.{Fault, sound, fault, or_else, goal_fault}
 use Rattle.rules.specs.Reading.{Reading, found, refuse, choose, kind_at, payload_at}
 use Rattle.rules.specs.Verdict.{number_of}
 use Rattle.rules.specs.Settings.{most_words}
-use Rattle.rules.specs.declared.part.Read.{Read}
-use Rattle.rules.specs.declared.part.Read.TheVariants.{Done, Refused}
-use Rattle.rules.specs.declared.calls.Found.{Found}
-use Rattle.rules.specs.declared.calls.Found.TheVariants.{Params, Missing}
+use Rattle.rules.specs.declared.Refusal.{Refusal}
 
 -- the end of the part that was read, without its value
 pub data ReadOutcome : Type 0 where
@@ -23,10 +20,10 @@ abbrev pub told : {A : Type 0} → Reading A → ReadOutcome
 told (found a n) = ends n
 told (refuse c p) = stops c p
 
--- what each case of the code's enum says
-abbrev pub outcome : Read → ReadOutcome
-outcome (Done n) = ends n
-outcome (Refused c p) = stops (number_of c) p
+-- what a reader's result says
+abbrev pub outcome : Result ℕ Refusal → ReadOutcome
+outcome (Ok n) = ends n
+outcome (Err r) = stops (number_of r.condition) r.place
 
 -- what is told of a reading that has to fill its part
 abbrev pub filled_told : ReadOutcome → ℕ → ReadOutcome
@@ -74,13 +71,9 @@ pub record RelationsAt (ws : List ℕ) (at : ℕ) (Rs : List Relation) : Type 0 
   pub short : length ws ≤ most_words
 
 -- the parameters of a relation, if it is there
-abbrev pub params_of : Option Relation → Option ℕ
-params_of none = none
-params_of (some R) = some R.params
-
-abbrev pub found_params : Found → Option ℕ
-found_params (Params n) = some n
-found_params Missing = none
+abbrev pub params_of : maybe.Option Relation → Option ℕ
+params_of maybe.none = None
+params_of (maybe.some R) = Some R.params
 
 -- what the second pass goes through: relations, and goals of a relation with so many variables
 pub data Item : Type 0 where

@@ -1,10 +1,9 @@
--- What `check` answers, in document 01's numbers. `Condition` and `Verdict` are the enums of src/lib.rt; condition 9 is about settings, which `check` is not given.
-use Rattle.std.specs.Prelude.{ℕ}
+-- What `check` answers, in document 01's numbers. `Condition` and `Refusal` are those of src/lib.rt; condition 9 is about settings, which `check` is not given.
+use Rattle.std.specs.Prelude.{ℕ, Result, Ok, Err}
 use Rattle.rules.specs.Accept.{Accept, accepted, refused}
 use Rattle.rules.specs.declared.Condition.{Condition}
 use Rattle.rules.specs.declared.Condition.TheVariants.{WordCount, WrongKind, WrongExtent, VariableCount, UnknownVariable, RelationCount, UnknownRelation, ArgumentCount}
-use Rattle.rules.specs.declared.Verdict.{Verdict}
-use Rattle.rules.specs.declared.Verdict.TheVariants.{Accepted, Refused}
+use Rattle.rules.specs.declared.Refusal.{Refusal}
 
 -- the column "No." of the table of conditions
 abbrev pub number_of : Condition → ℕ
@@ -26,7 +25,7 @@ abbrev pub said : Accept → Said
 said (accepted P) = yes_said
 said (refused c p) = no_said c p
 
--- what each case of `check`'s enum says
-abbrev pub meaning : Verdict → Said
-meaning Accepted = yes_said
-meaning (Refused c p) = no_said (number_of c) p
+-- what each case of `check`'s result says
+abbrev pub meaning : Result (Unit {0}) Refusal → Said
+meaning (Ok _) = yes_said
+meaning (Err r) = no_said (number_of r.condition) r.place

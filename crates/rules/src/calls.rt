@@ -6,18 +6,11 @@ ghost use Rattle.rules.specs.Written.{term_words};
 ghost use Rattle.rules.specs.Calls.{relations_fault};
 ghost use Rattle.rules.specs.Accept.{judge};
 ghost use Rattle.rules.specs.Verdict.{said, meaning};
-ghost use Rattle.rules.specs.Inner.{outcome, GoodTermAt, GoodTermsAt, RelationsAt, params_of, found_params, Item, goal, Rest, Moves};
+ghost use Rattle.rules.specs.Inner.{outcome, GoodTermAt, GoodTermsAt, RelationsAt, params_of, Item, goal, Rest, Moves};
 
-use crate::part::{Read, part_at};
-use crate::{Condition, Verdict};
-use word::Word;
-
-// The parameters of a relation, if it is there.
-#[derive(Clone, Copy)]
-pub enum Found {
-    Params(usize),
-    Missing,
-}
+use crate::part::part_at;
+use crate::{Condition, Refusal};
+use word::Kind;
 
 // Past the term at `at`: a pair's first part is skipped by its payload.
 fn skip_term(program: &[u32], start: usize) -> usize
@@ -27,7 +20,7 @@ fn skip_term(program: &[u32], start: usize) -> usize
     let mut at = start;
     loop {
         let part = part_at(program, at);
-        if part.kind != Word::PAIR {
+        if part.kind != Kind::Pair {
             return at + 1;
         }
         at = at + 1 + part.size;
@@ -48,78 +41,62 @@ fn count_terms(program: &[u32], start: usize, end: usize) -> usize
     count
 }
 
-// The parameters of relation `wanted`, found by going from relation to relation.
-fn find_params(program: &[u32], wanted: usize) -> Found
+// The parameters of relation `wanted`, if it is there, found by going from relation to relation.
+fn find_params(program: &[u32], wanted: usize) -> Option<usize>
     requires { (P : Program) × RelationsAt program.now 0 P }
-    ensures { (P : Program) → RelationsAt program.now 0 P → found_params result ≡ params_of (get_elem? P wanted) }
+    ensures { (P : Program) → RelationsAt program.now 0 P → result ≡ params_of (get_elem? P wanted) }
 {
     let mut at = 0;
-    let mut left = wanted;
-    while at < program.len() {
-        if left == 0 {
-            return Found::Params(part_at(program, at + 1).size);
+    for _ in 0..wanted {
+        if program.len() <= at {
+            return None;
         }
         at = at + 1 + part_at(program, at).size;
-        left -= 1;
     }
-    Found::Missing
+    if program.len() <= at {
+        return None;
+    }
+    Some(part_at(program, at + 1).size)
 }
 
 // The call at `at`: the place after it, or its fault.
-fn check_call(program: &[u32], at: usize) -> Read
+fn check_call(program: &[u32], at: usize) -> Result<usize, Refusal>
     requires { (P : Program) × (vars : ℕ) × (n : ℕ) × (ts : List Term) × (is : List Item) × Rest program.now P at (goal vars (call n ts) ∷ is) }
     ensures { (P : Program) (vars n : ℕ) (ts : List Term) (is : List Item) → Rest program.now P at (goal vars (call n ts) ∷ is) → Moves program.now P at (goal vars (call n ts) ∷ is) (outcome result) }
 {
     let end = at + 1 + part_at(program, at).size;
     let wanted = part_at(program, at + 1).size;
-    match find_params(program, wanted) {
-        Found::Missing => Read::Refused(Condition::UnknownRelation, at),
-        Found::Params(params) => {
-            if count_terms(program, at + 2, end) != params {
-                return Read::Refused(Condition::ArgumentCount, at);
-            }
-            Read::Done(end)
-        }
+    let Some(params) = find_params(program, wanted) else {
+        return Err(Condition::UnknownRelation.at(at));
+    };
+    if count_terms(program, at + 2, end) != params {
+        return Err(Condition::ArgumentCount.at(at));
     }
+    Ok(end)
 }
 
 // The relation or goal at `at`: the place of the next one, inside it or after it, or the fault of a call.
-fn check_item(program: &[u32], at: usize) -> Read
+fn check_item(program: &[u32], at: usize) -> Result<usize, Refusal>
     requires { (P : Program) × (i : Item) × (is : List Item) × Rest program.now P at (i ∷ is) }
     ensures { (P : Program) (i : Item) (is : List Item) → Rest program.now P at (i ∷ is) → Moves program.now P at (i ∷ is) (outcome result) }
 {
     let part = part_at(program, at);
-    let kind = part.kind;
-    if kind == Word::RELATION {
-        return Read::Done(at + 3);
+    match part.kind {
+        Kind::Relation => Ok(at + 3),
+        Kind::Conjunction | Kind::Disjunction => Ok(at + 1),
+        Kind::Call => check_call(program, at),
+        _ => Ok(at + 1 + part.size),
     }
-    if kind == Word::CALL {
-        return check_call(program, at);
-    }
-    if kind == Word::CONJUNCTION {
-        return Read::Done(at + 1);
-    }
-    if kind == Word::DISJUNCTION {
-        return Read::Done(at + 1);
-    }
-    Read::Done(at + 1 + part.size)
 }
 
 // All calls.
-pub(crate) fn check_calls(program: &[u32]) -> Verdict
+pub(crate) fn check_calls(program: &[u32]) -> Result<(), Refusal>
     requires { (P : Program) × RelationsAt program.now 0 P }
     ensures { (P : Program) → RelationsAt program.now 0 P → meaning result ≡ said (judge P (relations_fault P P 0)) }
 {
     let mut at = 0;
     while at < program.len() {
-        match check_item(program, at) {
-            Read::Refused(c, place) => {
-                return Verdict::Refused(c, place);
-            }
-            Read::Done(next) => {
-                at = next;
-            }
-        }
+        at = check_item(program, at)?;
     }
-    Verdict::Accepted
+    Ok(())
 }

@@ -10,23 +10,22 @@ ghost use Rattle.std.specs.Prelude.{◌≡◌};
 ghost use Rattle.rules.specs.Accept.{read};
 ghost use Rattle.rules.specs.Verdict.{number_of, said, meaning};
 
-use crate::part::Read;
 pub use crate::settings::{SCRATCH_WORDS, settings_good};
 
 // The longest program, in words.
 const MOST_WORDS: usize = 16384;
 
-// The conditions 1 to 8 by which document 01 turns a program away.
-#[derive(Clone, Copy)]
+// The conditions 1 to 8 by which document 01 turns a program away, with the numbers of its table.
+#[derive(Clone, Copy, PartialEq, Eq)]
 pub enum Condition {
-    WordCount,
-    WrongKind,
-    WrongExtent,
-    VariableCount,
-    UnknownVariable,
-    RelationCount,
-    UnknownRelation,
-    ArgumentCount,
+    WordCount = 1,
+    WrongKind = 2,
+    WrongExtent = 3,
+    VariableCount = 4,
+    UnknownVariable = 5,
+    RelationCount = 6,
+    UnknownRelation = 7,
+    ArgumentCount = 8,
 }
 
 impl Condition {
@@ -34,38 +33,34 @@ impl Condition {
     pub fn number(self) -> u32
         ensures { result ≡ number_of self }
     {
-        match self {
-            Condition::WordCount => 1,
-            Condition::WrongKind => 2,
-            Condition::WrongExtent => 3,
-            Condition::VariableCount => 4,
-            Condition::UnknownVariable => 5,
-            Condition::RelationCount => 6,
-            Condition::UnknownRelation => 7,
-            Condition::ArgumentCount => 8,
+        self as u32
+    }
+
+    // The refusal by this condition at a place.
+    pub(crate) fn at(self, place: usize) -> Refusal
+        ensures { result ≡ record { condition = self; place = place } }
+    {
+        Refusal {
+            condition: self,
+            place,
         }
     }
 }
 
-// What is said of a program: accepted, or the condition that it fails and the place.
-#[derive(Clone, Copy)]
-pub enum Verdict {
-    Accepted,
-    Refused(Condition, usize),
+// Why a program is refused: the condition that it fails, and the place.
+#[derive(Clone, Copy, PartialEq, Eq)]
+pub struct Refusal {
+    pub condition: Condition,
+    pub place: usize,
 }
 
 // Reads the whole program: its structure first, then its calls.
-pub fn check(program: &[u32]) -> Verdict
+pub fn check(program: &[u32]) -> Result<(), Refusal>
     ensures { meaning result ≡ said (read program.now) }
 {
-    if program.len() < 1 {
-        return Verdict::Refused(Condition::WordCount, 0);
+    if program.is_empty() || MOST_WORDS < program.len() {
+        return Err(Condition::WordCount.at(0));
     }
-    if MOST_WORDS < program.len() {
-        return Verdict::Refused(Condition::WordCount, 0);
-    }
-    match reading::read_relations(program) {
-        Read::Refused(c, place) => Verdict::Refused(c, place),
-        Read::Done(_) => calls::check_calls(program),
-    }
+    reading::read_relations(program)?;
+    calls::check_calls(program)
 }

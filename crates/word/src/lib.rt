@@ -1,8 +1,14 @@
 // A 32-bit word of a program or of an answer: the kind in the top four bits, the payload in the low 28.
 #![tactic(auto)]
 
-ghost use Rattle.std.specs.Prelude.{◌≡◌, ◌%◌, min};
+mod kind;
+
+ghost use Rattle.std.specs.Prelude.{◌≡◌, ◌%◌};
+ghost use Rattle.word.specs.Kind.{kind_number};
 ghost use Rattle.word.specs.Word.{from_bytes, kind, payload, word};
+
+pub use crate::kind::Kind;
+use std::fmt;
 
 #[derive(Clone, Copy)]
 pub struct Word {
@@ -10,7 +16,7 @@ pub struct Word {
 }
 
 impl Word {
-    // The kinds of document 01.
+    // The numbers of the kinds in document 01; it gives none the number 14.
     pub const VARIABLE: u32 = 0;
 
     pub const SYMBOL: u32 = 1;
@@ -48,18 +54,14 @@ impl Word {
         Word { bits }
     }
 
-    // The word of four bytes of a file.
+    // The word of four bytes of a file, the low byte first.
     pub fn from_bytes(low: u8, second: u8, third: u8, high: u8) -> Word
         ensures { result.bits ≡ from_bytes low second third high }
     {
-        let lower = low as u32 + 256 * (second as u32);
-        let upper = third as u32 + 256 * (high as u32);
-        Word {
-            bits: lower + 65536 * upper,
-        }
+        Word::from_bits(u32::from_le_bytes([low, second, third, high]))
     }
 
-    // The word of a kind and a payload. Only the low 4 and 28 bits are taken, so that no input overflows.
+    // The word of a kind's number and a payload. Only the low 4 and 28 bits are taken, so that no input overflows.
     pub fn new(kind: u32, payload: u32) -> Word
         ensures { result.bits ≡ word (kind % 16) (payload % 268435456) }
     {
@@ -68,10 +70,17 @@ impl Word {
         }
     }
 
-    pub fn kind(self) -> u32
-        ensures { result ≡ kind self.bits }
+    // The word of a kind and a payload, of which only the low 28 bits are taken.
+    pub fn of_kind(kind: Kind, payload: u32) -> Word
+        ensures { result.bits ≡ word (kind_number kind) (payload % 268435456) }
     {
-        self.bits / 268435456
+        Word::new(kind.number(), payload)
+    }
+
+    pub fn kind(self) -> Kind
+        ensures { kind_number result ≡ kind self.bits }
+    {
+        Kind::of_number(self.bits / 268435456)
     }
 
     pub fn payload(self) -> u32
@@ -81,12 +90,9 @@ impl Word {
     }
 }
 
-// The smaller of two counts, where one of them is the most there may be.
-pub fn at_most(n: usize, most: usize) -> usize
-    ensures { result ≡ min n most }
-{
-    if n < most {
-        return n;
+// As document 01 writes a word: its kind's number and its payload.
+impl fmt::Display for Word {
+    fn fmt<W: fmt::Write>(&self, f: &mut fmt::Formatter<W>) -> fmt::Result {
+        write!(f, "{}:{}", self.kind().number(), self.payload())
     }
-    most
 }

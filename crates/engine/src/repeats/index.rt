@@ -46,19 +46,18 @@ pub(crate) fn enter(
     ensures { (ws : List (List ℕ)) (v : List ℕ) → Seeking output.old start next table size ws v
         → EnteredAs output.old output.new table size ws v result }
 {
-    let mut slot = home(output, start, next, size);
-    let mut tries = 0;
-    while tries < size {
+    let mut slot = home(&output[start..next], size);
+    for _ in 0..size {
         let entry = output[table + slot] as usize;
         if entry == 0 {
             output[table + slot] = (start + 1) as u32;
             return Entered::New;
         }
-        if same(output, entry - 1, start, next) {
+        let words = &output[..];
+        if same(words, entry - 1, &words[start..next]) {
             return Entered::Repeated;
         }
         slot = next_slot(slot, size);
-        tries += 1;
     }
     Entered::Lost
 }
@@ -77,10 +76,7 @@ fn build(output: &mut [u32], used: usize, table: usize, size: usize) -> bool
             Entered::New => {
                 place = next;
             }
-            Entered::Repeated => {
-                return false;
-            }
-            Entered::Lost => {
+            Entered::Repeated | Entered::Lost => {
                 return false;
             }
         }

@@ -1,5 +1,5 @@
 // An answer compared word by word.
-ghost use Rattle.std.specs.Prelude.{◌≡◌, List, ℕ, ◌≤◌, length};
+ghost use Rattle.std.specs.Prelude.{◌≡◌, List, ℕ, ◌+◌, ◌≤◌, length};
 ghost use Rattle.semantics.specs.Answer.{any_same};
 ghost use Rattle.engine.specs.Term.{Room};
 ghost use Rattle.engine.specs.Lines.{Whole, Stretch, Rows};
@@ -7,21 +7,12 @@ ghost use Rattle.engine.specs.Index.{Standing};
 
 use word::Word;
 
-// Whether the words from `start` up to `next` stand at `place` too.
-pub(crate) fn same(words: &[u32], place: usize, start: usize, next: usize) -> bool
-    requires { (place ≤ start) × (next ≤ length words.now) }
-    ensures { (v : List ℕ) → Stretch words.now start next v → Standing words.now place v result }
+// Whether the words of an answer stand at `place` too.
+pub(crate) fn same(words: &[u32], place: usize, answer: &[u32]) -> bool
+    requires { place + length answer.now ≤ length words.now }
+    ensures { Standing words.now place answer.now result }
 {
-    let mut earlier = place;
-    let mut at = start;
-    while at < next {
-        if words[earlier] != words[at] {
-            return false;
-        }
-        earlier += 1;
-        at += 1;
-    }
-    true
+    words[place..place + answer.len()] == answer[..]
 }
 
 // Whether the answer from `used` up to `next` is among those before it, looked at one after the other.
@@ -31,7 +22,7 @@ pub(crate) fn among(words: &[u32], used: usize, next: usize) -> bool
 {
     let mut place = 0;
     while place < used {
-        if same(words, place, used, next) {
+        if same(words, place, &words[used..next]) {
             return true;
         }
         place += 1 + Word::from_bits(words[place]).payload() as usize;

@@ -11,11 +11,11 @@ ghost use Rattle.engine.specs.Call.{BindingParameters, ParametersBound};
 use crate::layout::{MOST_GOALS, MOST_VARIABLES, POSITIONS};
 use crate::report::Bound;
 use crate::search::goal::push_goal;
-use crate::search::state::{State, Stop, Took, Way};
+use crate::search::state::{State, Took, Way, stopped_at};
 use crate::search::table::relation;
 use crate::terms::trail::bind;
 use crate::terms::walk::{part_at, skip, variable_at};
-use word::Word;
+use word::Kind;
 
 // What a parameter is bound to: its argument, but of a variable the last variable on its way.
 fn last_variable(program: &[u32], scratch: &[u32], term: u32) -> u32
@@ -25,14 +25,14 @@ fn last_variable(program: &[u32], scratch: &[u32], term: u32) -> u32
     let mut at = term;
     loop {
         let part = part_at(program, at);
-        if part.kind != Word::VARIABLE {
+        if part.kind != Kind::Variable {
             return at;
         }
         let entry = scratch[variable_at(at, part.payload) as usize];
         if entry == 0 {
             return at;
         }
-        if part_at(program, entry - 1).kind != Word::VARIABLE {
+        if part_at(program, entry - 1).kind != Kind::Variable {
             return at;
         }
         at = entry - 1;
@@ -53,15 +53,11 @@ fn bind_parameters(
         → ParametersBound program.now scratch.old scratch.new whole result }
 {
     let mut at = arguments;
-    let mut variable = first;
-    let mut left = count;
     let mut bound = trail;
-    while left != 0 {
+    for i in 0..count {
         let term = last_variable(program, scratch, at);
-        bound = bind(scratch, variable, term, bound);
+        bound = bind(scratch, first + i, term, bound);
         at = skip(program, at);
-        variable += 1;
-        left -= 1;
     }
     bound
 }
@@ -86,16 +82,10 @@ pub(crate) fn take_call(
     }
     let called = relation(program, scratch, part_at(program, goal + 1).payload);
     if MOST_VARIABLES < st.variables + called.vars {
-        return Took {
-            way: Way::Stops(Stop::Path(Bound::Variables), st.steps + 1),
-            state: st,
-        };
+        return stopped_at(Bound::Variables, st);
     }
     if MOST_GOALS <= st.goals {
-        return Took {
-            way: Way::Stops(Stop::Path(Bound::Goals), st.steps + 1),
-            state: st,
-        };
+        return stopped_at(Bound::Goals, st);
     }
     let trail = bind_parameters(
         program,
@@ -106,14 +96,10 @@ pub(crate) fn take_call(
         st.trail,
     );
     let made = State {
-        head: st.head,
         trail,
         variables: st.variables + called.vars,
-        goals: st.goals,
-        constraints: st.constraints,
         calls: st.calls + 1,
-        choices: st.choices,
-        steps: st.steps,
+        ..st
     };
     Took {
         way: Way::Goes,

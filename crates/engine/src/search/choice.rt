@@ -11,7 +11,7 @@ ghost use Rattle.engine.specs.Take.{registers, one_choice_more, resumed, PathHel
 use crate::layout::{MOST_DISJUNCTIONS, MOST_GOALS, POINTS};
 use crate::report::Bound;
 use crate::search::goal::push_goal;
-use crate::search::state::{Resumed, State, Stop, Took, Way};
+use crate::search::state::{State, Took, Way, stopped_at};
 use crate::terms::trail::undo;
 use crate::terms::walk::{part_at, part_end};
 
@@ -30,14 +30,8 @@ pub(crate) fn push_choice(scratch: &mut [u32], st: State, rest: u32, end: u32) -
     scratch[at + 6] = st.constraints;
     scratch[at + 7] = st.calls;
     State {
-        head: st.head,
-        trail: st.trail,
-        variables: st.variables,
-        goals: st.goals,
-        constraints: st.constraints,
-        calls: st.calls,
         choices: st.choices + 1,
-        steps: st.steps,
+        ..st
     }
 }
 
@@ -59,14 +53,14 @@ fn saved_state(scratch: &[u32], st: State, choices: u32) -> State
     }
 }
 
-// Backtracks to the newest choice point: all that was bound since is undone, and its next alternative is to be taken. Where that is its last one, the choice point goes.
-pub(crate) fn backtrack(program: &[u32], scratch: &mut [u32], st: State) -> Resumed
+// Backtracks to the newest choice point, if there is one: all that was bound since is undone, and its next alternative is to be taken, by its reference. Where that is its last one, the choice point goes.
+pub(crate) fn backtrack(program: &[u32], scratch: &mut [u32], st: State) -> Option<(State, u32)>
     requires { (P : Program) × (p : Path) × (cs : List ChoicePoint) × PathHeld P program.now scratch.old st p cs }
     ensures { (P : Program) (p : Path) (cs : List ChoicePoint) (t : Tally) → PathHeld P program.now scratch.old st p cs
         → BacktrackAs P program.now scratch.new st t (backtrack cs t) result }
 {
     if st.choices == 0 {
-        return Resumed::Over;
+        return None;
     }
     let at = (POINTS + 8 * (st.choices - 1)) as usize;
     let goal = scratch[at];
@@ -75,10 +69,10 @@ pub(crate) fn backtrack(program: &[u32], scratch: &mut [u32], st: State) -> Resu
     undo(scratch, mark, st.trail);
     let size = part_at(program, goal).payload;
     if part_end(goal, size) == end {
-        return Resumed::Goal(saved_state(scratch, st, st.choices - 1), goal);
+        return Some((saved_state(scratch, st, st.choices - 1), goal));
     }
     scratch[at] = goal + 1 + size;
-    Resumed::Goal(saved_state(scratch, st, st.choices), goal)
+    Some((saved_state(scratch, st, st.choices), goal))
 }
 
 // A disjunction puts its first alternative to wait; where there are more, a choice point has the others.
@@ -88,10 +82,7 @@ pub(crate) fn take_disj(program: &[u32], scratch: &mut [u32], st: State, disjunc
         → TookAs P program.now scratch.new cs (take_disj p cs base gs st.steps) result.way result.state }
 {
     if MOST_GOALS <= st.goals {
-        return Took {
-            way: Way::Stops(Stop::Path(Bound::Goals), st.steps + 1),
-            state: st,
-        };
+        return stopped_at(Bound::Goals, st);
     }
     let end = part_end(disjunction, part_at(program, disjunction).payload);
     let first = disjunction + 1;
@@ -103,10 +94,7 @@ pub(crate) fn take_disj(program: &[u32], scratch: &mut [u32], st: State, disjunc
         };
     }
     if MOST_DISJUNCTIONS <= st.choices {
-        return Took {
-            way: Way::Stops(Stop::Path(Bound::Disjunctions), st.steps + 1),
-            state: st,
-        };
+        return stopped_at(Bound::Disjunctions, st);
     }
     let pushed = push_choice(scratch, st, first + 1 + size, end);
     Took {

@@ -7,9 +7,10 @@ ghost use Rattle.engine.specs.Take.{GoalReady, TookAs, with_counts, review_took}
 
 use crate::layout::{CONSTRAINTS, MOST_CONSTRAINTS};
 use crate::report::Bound;
-use crate::search::state::{State, Stop, Took, Way};
-use crate::terms::review::{Reviewed, review, review_all};
-use crate::terms::unify::{Unified, unify};
+use crate::search::state::{State, Took, Way, stopped_at};
+use crate::steps::Stopped;
+use crate::terms::review::{review, review_all};
+use crate::terms::unify::unify;
 use crate::terms::walk::skip;
 
 // The state with so many entries on the trail, so many constraints, so many steps left.
@@ -17,36 +18,28 @@ pub(crate) fn with_counts(st: State, trail: u32, kept: u32, left: u32) -> State
     ensures { result ≡ with_counts st trail kept left }
 {
     State {
-        head: st.head,
         trail,
-        variables: st.variables,
-        goals: st.goals,
         constraints: kept,
-        calls: st.calls,
-        choices: st.choices,
         steps: left,
+        ..st
     }
 }
 
 // What a review comes to for its path.
-fn after_review(st: State, reviewed: Reviewed) -> Took
+fn after_review(st: State, reviewed: Result<(bool, u32), Stopped>) -> Took
     ensures { result ≡ review_took st reviewed }
 {
     match reviewed {
-        Reviewed::Fails(left) => Took {
+        Ok((true, left)) => Took {
             way: Way::Leaves,
             state: with_counts(st, st.trail, st.constraints, left),
         },
-        Reviewed::Holds(left) => Took {
+        Ok((false, left)) => Took {
             way: Way::Goes,
             state: with_counts(st, st.trail, st.constraints, left),
         },
-        Reviewed::StepsOut => Took {
-            way: Way::Stops(Stop::Steps, 0),
-            state: st,
-        },
-        Reviewed::WaitingOut(left) => Took {
-            way: Way::Stops(Stop::Path(Bound::Waiting), left),
+        Err(stopped) => Took {
+            way: Way::Stops(stopped),
             state: st,
         },
     }
@@ -59,31 +52,31 @@ pub(crate) fn take_equal(program: &[u32], scratch: &mut [u32], st: State, goal: 
         → TookAs P program.now scratch.new cs (take_equal p cs (shift base s) (shift base t) st.steps) result.way result.state }
 {
     let second = skip(program, goal + 1);
-    match unify(&*program, scratch, goal + 1, second, st.trail, st.steps) {
-        Unified::Joined(trail, left) => {
-            let joined = with_counts(st, trail, st.constraints, left);
-            if trail == st.trail {
-                return Took {
-                    way: Way::Goes,
-                    state: joined,
-                };
-            }
-            let reviewed = review_all(&*program, scratch, trail, st.constraints, left);
-            after_review(joined, reviewed)
+    let unified = unify(program, scratch, goal + 1, second, st.trail, st.steps);
+    let (joined, left) = match unified.outcome {
+        Ok(told) => told,
+        Err(stopped) => {
+            return Took {
+                way: Way::Stops(stopped),
+                state: st,
+            };
         }
-        Unified::Failed(trail, left) => Took {
+    };
+    let state = with_counts(st, unified.trail, st.constraints, left);
+    if !joined {
+        return Took {
             way: Way::Leaves,
-            state: with_counts(st, trail, st.constraints, left),
-        },
-        Unified::StepsOut(trail) => Took {
-            way: Way::Stops(Stop::Steps, 0),
-            state: st,
-        },
-        Unified::WaitingOut(trail, left) => Took {
-            way: Way::Stops(Stop::Path(Bound::Waiting), left),
-            state: st,
-        },
+            state,
+        };
     }
+    if unified.trail == st.trail {
+        return Took {
+            way: Way::Goes,
+            state,
+        };
+    }
+    let reviewed = review_all(program, scratch, unified.trail, st.constraints, left);
+    after_review(state, reviewed)
 }
 
 // A constraint is kept, and reviewed.
@@ -93,14 +86,11 @@ pub(crate) fn take_constraint(program: &[u32], scratch: &mut [u32], st: State, g
         → TookAs P program.now scratch.new cs (take_constraint p cs (shift_constraint base c) st.steps) result.way result.state }
 {
     if MOST_CONSTRAINTS <= st.constraints {
-        return Took {
-            way: Way::Stops(Stop::Path(Bound::Constraints), st.steps + 1),
-            state: st,
-        };
+        return stopped_at(Bound::Constraints, st);
     }
     scratch[CONSTRAINTS + st.constraints as usize] = goal;
     let reviewed = review(
-        &*program,
+        program,
         scratch,
         goal,
         st.trail,

@@ -9,7 +9,7 @@ ghost use Rattle.engine.specs.Take.{Taking, TookAs, one_goal_more};
 
 use crate::layout::{CELL_GOAL, CELL_NEXT, MOST_GOALS};
 use crate::report::Bound;
-use crate::search::state::{State, Stop, Took, Way};
+use crate::search::state::{State, Took, Way, stopped_at};
 use crate::terms::walk::{part_at, part_end};
 
 // A conjunction puts its goals to wait: in cells one after the other, each linked to the next and the last to the old head.
@@ -23,10 +23,7 @@ pub(crate) fn take_conj(program: &[u32], scratch: &mut [u32], st: State, conjunc
     let mut filled = st.goals;
     loop {
         if MOST_GOALS <= filled {
-            return Took {
-                way: Way::Stops(Stop::Path(Bound::Goals), st.steps + 1),
-                state: st,
-            };
+            return stopped_at(Bound::Goals, st);
         }
         let size = part_at(program, goal).payload;
         let at = (CELL_GOAL + 2 * (filled + 1)) as usize;
@@ -37,19 +34,14 @@ pub(crate) fn take_conj(program: &[u32], scratch: &mut [u32], st: State, conjunc
                 way: Way::Goes,
                 state: State {
                     head: st.goals + 1,
-                    trail: st.trail,
-                    variables: st.variables,
                     goals: filled + 1,
-                    constraints: st.constraints,
-                    calls: st.calls,
-                    choices: st.choices,
-                    steps: st.steps,
+                    ..st
                 },
             };
         }
         scratch[at + 1] = filled + 2;
         goal = goal + 1 + size;
-        filled = filled + 1;
+        filled += 1;
     }
 }
 
@@ -64,12 +56,7 @@ pub(crate) fn push_goal(scratch: &mut [u32], st: State, goal: u32) -> State
     scratch[next] = st.head;
     State {
         head: st.goals + 1,
-        trail: st.trail,
-        variables: st.variables,
         goals: st.goals + 1,
-        constraints: st.constraints,
-        calls: st.calls,
-        choices: st.choices,
-        steps: st.steps,
+        ..st
     }
 }

@@ -7,16 +7,14 @@ ghost use Rattle.engine.specs.Search.{count_cuts, Searching, SearchedAs};
 
 use crate::search::state::{Lead, Searched, State};
 use crate::search::turn::turn;
+use crate::steps::Stopped;
 
 // One more if a branch was cut.
-fn count_cuts(cuts: u32, cut: u32) -> u32
+fn count_cuts(cuts: u32, cut: bool) -> u32
     requires { cuts < 4294967295 }
     ensures { result ≡ count_cuts cuts cut }
 {
-    if cut == 0 {
-        return cuts;
-    }
-    cuts + 1
+    cuts + u32::from(cut)
 }
 
 pub(crate) fn search(
@@ -26,7 +24,7 @@ pub(crate) fn search(
     task: u32,
     round: u32,
     before: u32,
-) -> Searched
+) -> Result<Searched, Stopped>
     requires { (P : Program) × (wf : ProgramIn P) × (n : ℕ) × (state : definition.State) × Searching P wf n round program.now scratch.old first task before state }
     ensures { (P : Program) (wf : ProgramIn P) (n : ℕ) (state : definition.State) (fuel : ℕ)
         → Searching P wf n round program.now scratch.old first task before state → state.tally.left < fuel
@@ -37,22 +35,20 @@ pub(crate) fn search(
     let mut cuts = before;
     loop {
         let turned = turn(program, scratch, st, goal, round);
-        let lead = turned.lead;
-        let next = turned.state;
-        match lead {
-            Lead::Goal => {
-                st = next;
-                goal = turned.goal;
-                cuts = count_cuts(cuts, turned.cuts);
+        st = turned.state;
+        match turned.lead {
+            Lead::Goal(next) => {
+                goal = next;
+                cuts = count_cuts(cuts, turned.cut);
             }
             Lead::Over => {
-                return Searched::Over(next, count_cuts(cuts, turned.cuts));
+                return Ok(Searched::Over(st, count_cuts(cuts, turned.cut)));
             }
             Lead::Answer => {
-                return Searched::Answer(next, cuts);
+                return Ok(Searched::Answer(st, cuts));
             }
-            Lead::Stops(why, left) => {
-                return Searched::Stops(why, left);
+            Lead::Stops(stopped) => {
+                return Err(stopped);
             }
         }
     }

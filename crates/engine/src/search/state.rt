@@ -1,5 +1,9 @@
 // The state of a search, by value: what it saves in a choice point, and two numbers more. Paths and choice points themselves are in the scratch.
+ghost use Rattle.std.specs.Prelude.{◌≡◌, ◌+◌, ◌<◌};
+ghost use Rattle.engine.specs.Take.{took_stopped};
+
 use crate::report::Bound;
+use crate::steps::{Stopped, at_bound};
 
 #[derive(Clone, Copy)]
 pub struct State {
@@ -15,20 +19,13 @@ pub struct State {
     pub steps: u32,
 }
 
-// Why a run stops before its end.
-#[derive(Clone, Copy)]
-pub enum Stop {
-    Steps,
-    Path(Bound),
-}
-
-// What taking a goal comes to: its path goes on, is left, is cut, or a stop with the steps left.
+// What taking a goal comes to: its path goes on, is left, is cut, or a stop.
 #[derive(Clone, Copy)]
 pub enum Way {
     Goes,
     Leaves,
     Cut,
-    Stops(Stop, u32),
+    Stops(Stopped),
 }
 
 // The state stands beside the case, in one place for every case: as a part of each it would go through memory at every goal. After a stop it is not used.
@@ -38,35 +35,37 @@ pub struct Took {
     pub state: State,
 }
 
-// Where backtracking leads: to a goal to be taken, by its reference, or to the round's end.
-#[derive(Clone, Copy)]
-pub enum Resumed {
-    Over,
-    Goal(State, u32),
+// A goal meets a bound on its path, and its own step is given back.
+pub(crate) fn stopped_at(bound: Bound, st: State) -> Took
+    requires { st.steps < 4294967295 }
+    ensures { result ≡ took_stopped bound st }
+{
+    Took {
+        way: Way::Stops(at_bound(bound, st.steps + 1)),
+        state: st,
+    }
 }
 
-// What a turn leads to: a goal to be taken next; the round's end; a path that gives an answer; a stop with the steps left.
+// What a turn leads to: a goal to be taken next, by its reference; the round's end; a path that gives an answer; a stop.
 #[derive(Clone, Copy)]
 pub enum Lead {
-    Goal,
+    Goal(u32),
     Over,
     Answer,
-    Stops(Stop, u32),
+    Stops(Stopped),
 }
 
-// The state is beside the case as in `Took`. The goal is a reference, used where one is to be taken next; `cuts` is how many branches the turn cut, 0 or 1.
+// The state is beside the case as in `Took`; `cut` tells whether the turn cut a branch.
 #[derive(Clone, Copy)]
 pub struct Turned {
     pub lead: Lead,
     pub state: State,
-    pub goal: u32,
-    pub cuts: u32,
+    pub cut: bool,
 }
 
-// Where turn after turn leads: a path gives an answer, the round is over, or a stop with the steps left. The second number is how many branches the round has cut.
+// Where turn after turn leads: a path gives an answer, or the round is over. The number is how many branches the round has cut.
 #[derive(Clone, Copy)]
 pub enum Searched {
     Answer(State, u32),
     Over(State, u32),
-    Stops(Stop, u32),
 }

@@ -8,9 +8,10 @@ use crate::search::call::take_call;
 use crate::search::choice::take_disj;
 use crate::search::constrain::{take_constraint, take_equal, with_counts};
 use crate::search::goal::take_conj;
-use crate::search::state::{State, Stop, Took, Way};
+use crate::search::state::{State, Took, Way};
+use crate::steps::NO_STEPS;
 use crate::terms::walk::part_at;
-use word::Word;
+use word::Kind;
 
 // A step, and what the goal asks for; the round's number bounds its calls.
 pub(crate) fn take(program: &[u32], scratch: &mut [u32], st: State, goal: u32, round: u32) -> Took
@@ -20,23 +21,16 @@ pub(crate) fn take(program: &[u32], scratch: &mut [u32], st: State, goal: u32, r
 {
     if st.steps == 0 {
         return Took {
-            way: Way::Stops(Stop::Steps, 0),
+            way: Way::Stops(NO_STEPS),
             state: st,
         };
     }
     let taking = with_counts(st, st.trail, st.constraints, st.steps - 1);
-    let kind = part_at(program, goal).kind;
-    if kind == Word::EQUAL {
-        return take_equal(program, scratch, taking, goal);
+    match part_at(program, goal).kind {
+        Kind::Equal => take_equal(program, scratch, taking, goal),
+        Kind::Conjunction => take_conj(program, scratch, taking, goal),
+        Kind::Disjunction => take_disj(program, scratch, taking, goal),
+        Kind::Call => take_call(program, scratch, taking, goal, round),
+        _ => take_constraint(program, scratch, taking, goal),
     }
-    if kind == Word::CONJUNCTION {
-        return take_conj(program, scratch, taking, goal);
-    }
-    if kind == Word::DISJUNCTION {
-        return take_disj(program, scratch, taking, goal);
-    }
-    if kind == Word::CALL {
-        return take_call(program, scratch, taking, goal, round);
-    }
-    take_constraint(program, scratch, taking, goal)
 }

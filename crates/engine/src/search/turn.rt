@@ -10,27 +10,25 @@ ghost use Rattle.engine.specs.Turn.{Turning, took_goal, tallied, TurnedAs};
 
 use crate::layout::{CELL_GOAL, CELL_NEXT};
 use crate::search::choice::backtrack;
-use crate::search::state::{Lead, Resumed, State, Turned, Way};
+use crate::search::state::{Lead, State, Turned, Way};
 use crate::search::take::take;
 
-// The path is left; `cuts` is 1 if it was cut.
-fn leave_path(program: &[u32], scratch: &mut [u32], st: State, cuts: u32) -> Turned
+// The path is left; `cut` tells whether it was cut.
+fn leave_path(program: &[u32], scratch: &mut [u32], st: State, cut: bool) -> Turned
     requires { (P : Program) × (p : Path) × (cs : List ChoicePoint) × PathHeld P program.now scratch.old st p cs }
     ensures { (P : Program) (n k : ℕ) (p : Path) (cs : List ChoicePoint) (t : definition.Tally) (o : Outcome Taken) → PathHeld P program.now scratch.old st p cs
-        → TurnedAs P n k program.now scratch.new t o (definition.backtrack cs (tallied t st.steps cuts)) result }
+        → TurnedAs P n k program.now scratch.new t o (definition.backtrack cs (tallied t st.steps cut)) result }
 {
     match backtrack(program, scratch, st) {
-        Resumed::Over => Turned {
+        None => Turned {
             lead: Lead::Over,
             state: st,
-            goal: 0,
-            cuts,
+            cut,
         },
-        Resumed::Goal(next, goal) => Turned {
-            lead: Lead::Goal,
+        Some((next, goal)) => Turned {
+            lead: Lead::Goal(goal),
             state: next,
-            goal,
-            cuts,
+            cut,
         },
     }
 }
@@ -46,29 +44,21 @@ fn go_on(program: &[u32], scratch: &mut [u32], st: State, round: u32) -> Turned
             return Turned {
                 lead: Lead::Answer,
                 state: st,
-                goal: 0,
-                cuts: 0,
+                cut: false,
             };
         }
-        return leave_path(program, scratch, st, 0);
+        return leave_path(program, scratch, st, false);
     }
     let goal = (CELL_GOAL + 2 * st.head) as usize;
     let next = (CELL_NEXT + 2 * st.head) as usize;
     let popped = State {
         head: scratch[next],
-        trail: st.trail,
-        variables: st.variables,
-        goals: st.goals,
-        constraints: st.constraints,
-        calls: st.calls,
-        choices: st.choices,
-        steps: st.steps,
+        ..st
     };
     Turned {
-        lead: Lead::Goal,
+        lead: Lead::Goal(scratch[goal]),
         state: popped,
-        goal: scratch[goal],
-        cuts: 0,
+        cut: false,
     }
 }
 
@@ -78,17 +68,15 @@ pub(crate) fn turn(program: &[u32], scratch: &mut [u32], st: State, goal: u32, r
         → TurnedAs P n round program.now scratch.new state.tally (took_goal round P state st.steps) (definition.turn P n round state) result }
 {
     let took = take(program, scratch, st, goal, round);
-    let way = took.way;
     let next = took.state;
-    match way {
+    match took.way {
         Way::Goes => go_on(program, scratch, next, round),
-        Way::Leaves => leave_path(program, scratch, next, 0),
-        Way::Cut => leave_path(program, scratch, next, 1),
-        Way::Stops(why, left) => Turned {
-            lead: Lead::Stops(why, left),
+        Way::Leaves => leave_path(program, scratch, next, false),
+        Way::Cut => leave_path(program, scratch, next, true),
+        Way::Stops(stopped) => Turned {
+            lead: Lead::Stops(stopped),
             state: next,
-            goal,
-            cuts: 0,
+            cut: false,
         },
     }
 }

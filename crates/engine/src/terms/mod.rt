@@ -3,5 +3,6 @@ pub(crate) mod occurs;
 pub(crate) mod review;
 pub(crate) mod scan;
 pub(crate) mod trail;
+pub(crate) mod traverse;
 pub(crate) mod unify;
 pub(crate) mod walk;

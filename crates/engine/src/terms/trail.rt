@@ -23,9 +23,7 @@ pub(crate) fn undo(scratch: &mut [u32], mark: u32, trail: u32)
     requires { (ws : List ℕ) × (new : Substitution) × (bs : Substitution) × Trailed ws scratch.old new bs mark trail }
     ensures { (ws : List ℕ) (new bs : Substitution) → Trailed ws scratch.old new bs mark trail → Undone ws scratch.old scratch.new bs }
 {
-    let mut top = trail;
-    while mark < top {
-        top -= 1;
+    for top in (mark..trail).rev() {
         let variable = scratch[TRAIL + top as usize];
         scratch[variable as usize] = 0;
     }

@@ -8,11 +8,12 @@ ghost use Rattle.engine.specs.Walk.{IsNode};
 ghost use Rattle.engine.specs.Unify.{LookedAs, TwoTerms, PairUnifiedAs, UnifiedAs};
 
 use crate::layout::{MOST_PAIRS, PAIRS};
+use crate::report::Bound;
+use crate::steps::{NO_STEPS, Stopped, at_bound};
 use crate::terms::occurs::occurs;
-use crate::terms::scan::Scanned;
 use crate::terms::trail::bind;
 use crate::terms::walk::{Walked, variable_at, walk};
-use word::Word;
+use word::Kind;
 
 // What two followed terms come to: a variable is to be bound to a term, or the parts (first and second of the one, then of the other) are to be equal.
 #[derive(Clone, Copy)]
@@ -23,23 +24,19 @@ pub enum Looked {
     Parts(u32, u32, u32, u32),
 }
 
-// What one pair comes to: it fails, unification goes on with so many entries on the trail, parts are to be equal, or a stop. The last number is the steps left.
+// What one pair comes to: it fails, unification goes on with so many entries on the trail, or parts are to be equal. The last number of the first two is the steps left.
 #[derive(Clone, Copy)]
 pub enum PairUnified {
     Fails(u32),
     Goes(u32, u32),
     Parts(u32, u32, u32, u32),
-    StepsOut,
-    WaitingOut(u32),
 }
 
-// How unification ended, with the entries of the trail then, and the steps left.
+// How unification ended: the entries of the trail then, which its caller may have to take back however it ended; and whether the terms are equal now, with the steps left, or a stop.
 #[derive(Clone, Copy)]
-pub enum Unified {
-    Joined(u32, u32),
-    Failed(u32, u32),
-    StepsOut(u32),
-    WaitingOut(u32, u32),
+pub struct Unified {
+    pub trail: u32,
+    pub outcome: Result<(bool, u32), Stopped>,
 }
 
 // Two followed terms are looked at.
@@ -47,34 +44,25 @@ fn look(a: Walked, b: Walked) -> Looked
     requires { (ws : List ℕ) × (u : Term) × (v : Term) × IsNode ws a × IsNode ws b × Stands ws a.at u × Stands ws b.at v }
     ensures { (ws : List ℕ) (u v : Term) → IsNode ws a → IsNode ws b → Stands ws a.at u → Stands ws b.at v → LookedAs ws (definition.look u v) result }
 {
-    let a_at = a.at;
-    let b_at = b.at;
-    let a_kind = a.kind;
-    let b_kind = b.kind;
-    let a_payload = a.payload;
-    let b_payload = b.payload;
-    if a_kind == Word::VARIABLE {
-        let x = variable_at(a_at, a_payload);
-        if b_kind != Word::VARIABLE {
-            return Looked::Binds(x, b_at);
-        }
-        if variable_at(b_at, b_payload) == x {
+    if a.kind == Kind::Variable {
+        let x = variable_at(a.at, a.payload);
+        if b.kind == Kind::Variable && variable_at(b.at, b.payload) == x {
             return Looked::Agrees;
         }
-        return Looked::Binds(x, b_at);
+        return Looked::Binds(x, b.at);
     }
-    if b_kind == Word::VARIABLE {
-        return Looked::Binds(variable_at(b_at, b_payload), a_at);
+    if b.kind == Kind::Variable {
+        return Looked::Binds(variable_at(b.at, b.payload), a.at);
     }
-    if a_kind == Word::PAIR {
-        if b_kind != Word::PAIR {
+    if a.kind == Kind::Pair {
+        if b.kind != Kind::Pair {
             return Looked::Fails;
         }
         return Looked::Parts(
-            a_at + 1,
-            a_at + 1 + a_payload,
-            b_at + 1,
-            b_at + 1 + b_payload,
+            a.at + 1,
+            a.at + 1 + a.payload,
+            b.at + 1,
+            b.at + 1 + b.payload,
         );
     }
     if a.bits != b.bits {
@@ -91,7 +79,7 @@ fn unify_pair(
     second: u32,
     trail: u32,
     steps: u32,
-) -> PairUnified
+) -> Result<PairUnified, Stopped>
     requires { (0 < steps) × ((bs : Substitution) × (u : Term) × (v : Term) × TwoTerms program.now scratch.old bs first u second v trail) }
     ensures { (bs : Substitution) (u v : Term) → TwoTerms program.now scratch.old bs first u second v trail
         → PairUnifiedAs program.now scratch.old scratch.new bs u v steps result }
@@ -99,24 +87,17 @@ fn unify_pair(
     let a = walk(program, scratch, first);
     let b = walk(program, scratch, second);
     match look(a, b) {
-        Looked::Fails => PairUnified::Fails(steps - 1),
-        Looked::Agrees => PairUnified::Goes(trail, steps - 1),
-        Looked::Parts(c, d, e, f) => PairUnified::Parts(c, d, e, f),
-        Looked::Binds(variable, term) => match occurs(
-            &*program,
-            scratch,
-            variable,
-            term,
-            steps - 1,
-        ) {
-            Scanned::Found(rest) => PairUnified::Fails(rest),
-            Scanned::Clear(rest) => {
-                let grown = bind(scratch, variable, term, trail);
-                PairUnified::Goes(grown, rest)
+        Looked::Fails => Ok(PairUnified::Fails(steps - 1)),
+        Looked::Agrees => Ok(PairUnified::Goes(trail, steps - 1)),
+        Looked::Parts(c, d, e, f) => Ok(PairUnified::Parts(c, d, e, f)),
+        Looked::Binds(variable, term) => {
+            let (found, rest) = occurs(program, scratch, variable, term, steps - 1)?;
+            if found {
+                return Ok(PairUnified::Fails(rest));
             }
-            Scanned::StepsOut => PairUnified::StepsOut,
-            Scanned::WaitingOut(rest) => PairUnified::WaitingOut(rest),
-        },
+            let grown = bind(scratch, variable, term, trail);
+            Ok(PairUnified::Goes(grown, rest))
+        }
     }
 }
 
@@ -140,15 +121,30 @@ pub(crate) fn unify(
     let mut rest = steps;
     loop {
         if rest == 0 {
-            return Unified::StepsOut(trail);
+            return Unified {
+                trail,
+                outcome: Err(NO_STEPS),
+            };
         }
         match unify_pair(program, scratch, a, b, trail, rest) {
-            PairUnified::Fails(after) => {
-                return Unified::Failed(trail, after);
+            Err(stopped) => {
+                return Unified {
+                    trail,
+                    outcome: Err(stopped),
+                };
             }
-            PairUnified::Goes(grown, after) => {
+            Ok(PairUnified::Fails(after)) => {
+                return Unified {
+                    trail,
+                    outcome: Ok((false, after)),
+                };
+            }
+            Ok(PairUnified::Goes(grown, after)) => {
                 if waiting == 0 {
-                    return Unified::Joined(grown, after);
+                    return Unified {
+                        trail: grown,
+                        outcome: Ok((true, after)),
+                    };
                 }
                 waiting -= 1;
                 let at = PAIRS + 2 * waiting;
@@ -157,9 +153,12 @@ pub(crate) fn unify(
                 trail = grown;
                 rest = after;
             }
-            PairUnified::Parts(c, d, e, f) => {
+            Ok(PairUnified::Parts(c, d, e, f)) => {
                 if MOST_PAIRS <= waiting {
-                    return Unified::WaitingOut(trail, rest);
+                    return Unified {
+                        trail,
+                        outcome: Err(at_bound(Bound::Waiting, rest)),
+                    };
                 }
                 let at = PAIRS + 2 * waiting;
                 scratch[at] = d;
@@ -168,12 +167,6 @@ pub(crate) fn unify(
                 a = c;
                 b = e;
                 rest -= 1;
-            }
-            PairUnified::StepsOut => {
-                return Unified::StepsOut(trail);
-            }
-            PairUnified::WaitingOut(after) => {
-                return Unified::WaitingOut(trail, after);
             }
         }
     }

@@ -1,24 +1,25 @@
 // Terms by reference: a position in the program and, 16,384 times, the base of its environment. Nothing is copied.
 ghost use Rattle.std.specs.Prelude.{◌≡◌, ◌+◌, ◌<◌, length};
+ghost use Rattle.word.specs.Kind.{kind_number};
 ghost use Rattle.rules.specs.Syntax.{Term};
 ghost use Rattle.semantics.specs.Substitution.{Substitution};
 ghost use Rattle.engine.specs.Reference.{base_of, pos_of, Stands};
 ghost use Rattle.engine.specs.Walk.{PartRead, Follows, WalkedTo, Resolves, Shaped};
 
 use crate::layout::POSITIONS;
-use word::Word;
+use word::{Kind, Word};
 
 // The part at a reference: its first word.
 #[derive(Clone, Copy)]
 pub struct Part {
     pub bits: u32,
-    pub kind: u32,
+    pub kind: Kind,
     pub payload: u32,
 }
 
 pub(crate) fn part_at(program: &[u32], reference: u32) -> Part
     requires { pos_of reference < length program.now }
-    ensures { PartRead program.now reference result.bits result.kind result.payload }
+    ensures { PartRead program.now reference result.bits (kind_number result.kind) result.payload }
 {
     let bits = program[(reference % POSITIONS) as usize];
     let word = Word::from_bits(bits);
@@ -45,14 +46,14 @@ pub(crate) fn part_end(reference: u32, size: u32) -> u32
     reference % POSITIONS + 1 + size
 }
 
-// A term that was followed: its reference, and the word there, so that it is read once. `through` is the last bound variable on the way, plus 1, or 0 where the way led through none.
+// A term that was followed: its reference, and the word there, so that it is read once. `through` is the last bound variable on the way, where it led through one.
 #[derive(Clone, Copy)]
 pub struct Walked {
     pub at: u32,
     pub bits: u32,
-    pub kind: u32,
+    pub kind: Kind,
     pub payload: u32,
-    pub through: u32,
+    pub through: Option<u32>,
 }
 
 // The term, followed through the bindings: up to an atom, a pair or an open variable. The position is held in sixteen bits (document 02, Note 4), apart from its base: the last of a program is 16,383.
@@ -62,7 +63,7 @@ pub(crate) fn walk(program: &[u32], scratch: &[u32], term: u32) -> Walked
 {
     let mut position = (term % POSITIONS) as u16;
     let mut base = term / POSITIONS;
-    let mut through = 0;
+    let mut through = None;
     loop {
         let part = part_at(program, position as u32);
         let here = Walked {
@@ -72,7 +73,7 @@ pub(crate) fn walk(program: &[u32], scratch: &[u32], term: u32) -> Walked
             payload: part.payload,
             through,
         };
-        if part.kind != Word::VARIABLE {
+        if part.kind != Kind::Variable {
             return here;
         }
         let variable = base + part.payload;
@@ -80,7 +81,7 @@ pub(crate) fn walk(program: &[u32], scratch: &[u32], term: u32) -> Walked
         if entry == 0 {
             return here;
         }
-        through = variable + 1;
+        through = Some(variable);
         position = ((entry - 1) % POSITIONS) as u16;
         base = (entry - 1) / POSITIONS;
     }
@@ -94,7 +95,7 @@ pub(crate) fn skip(program: &[u32], term: u32) -> u32
     let mut at = term;
     loop {
         let part = part_at(program, at);
-        if part.kind != Word::PAIR {
+        if part.kind != Kind::Pair {
             return at + 1;
         }
         at = at + 1 + part.payload;
@@ -116,14 +117,9 @@ pub(crate) fn follow(program: &[u32], scratch: &[u32], term: u32) -> Shape
     ensures { (t : Term) → Resolves program.now scratch.now term t → Shaped program.now scratch.now result t }
 {
     let node = walk(program, scratch, term);
-    let at = node.at;
-    let kind = node.kind;
-    let payload = node.payload;
-    if kind == Word::VARIABLE {
-        return Shape::Open(variable_at(at, payload));
+    match node.kind {
+        Kind::Variable => Shape::Open(variable_at(node.at, node.payload)),
+        Kind::Pair => Shape::Pair(node.at + 1, node.at + 1 + node.payload),
+        _ => Shape::Atom(node.bits),
     }
-    if kind == Word::PAIR {
-        return Shape::Pair(at + 1, at + 1 + payload);
-    }
-    Shape::Atom(node.bits)
 }

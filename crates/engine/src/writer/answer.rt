@@ -12,21 +12,12 @@ ghost use Rattle.engine.specs.Answer.{Answering, AnsweredAs, Ends, EndedAs};
 
 use crate::layout::MOST_OUTPUT;
 use crate::search::state::State;
-use crate::writer::constraint::{Added, add_constraints};
-use crate::writer::look::LookedThrough;
+use crate::steps::Stopped;
+use crate::writer::constraint::add_constraints;
 use crate::writer::names::clear_names;
 use crate::writer::query::{look_parameters, name_parameters, put_parameters};
-use crate::writer::term::{Put, put_head};
-use word::{Word, at_most};
-
-// The output words used then and the steps left; that it does not fit, with the steps left; or a stop.
-#[derive(Clone, Copy)]
-pub enum Answered {
-    Written(u32, u32),
-    Full(u32),
-    StepsOut,
-    WaitingOut(u32),
-}
+use crate::writer::term::put_head;
+use word::Kind;
 
 // The query terms, one word behind `start`: the answer's own word goes in last, when its length is known.
 fn begin_answer(
@@ -44,38 +35,23 @@ fn begin_answer(
     if end <= start {
         return end + 1;
     }
-    match put_parameters(program, scratch, output, params, start + 1, end) {
-        Put::End(next) => {
-            return next;
-        }
-        Put::Missed => {
-            return end + 1;
-        }
-    }
+    put_parameters(program, scratch, output, params, start + 1, end).unwrap_or(end + 1)
 }
 
-// The answer's own word, if all of it fits.
-fn end_answer(output: &mut [u32], start: usize, end: usize, added: Added) -> Answered
-    requires { Room output.old end × ((o : List ℕ) × (v : List ℕ) × Ends o output.old start end v added) }
-    ensures { (o : List ℕ) (v : List ℕ) → Ends o output.old start end v added → EndedAs o output.old output.new start end v added result }
+// The answer's own word, if all of it fits. The output words used then.
+fn end_answer(output: &mut [u32], start: usize, end: usize, at: usize) -> Option<u32>
+    requires { Room output.old end × ((o : List ℕ) × (v : List ℕ) × Ends o output.old start end v at) }
+    ensures { (o : List ℕ) (v : List ℕ) → Ends o output.old start end v at → EndedAs o output.old output.new start end v at result }
 {
-    match added {
-        Added::StepsOut => {
-            return Answered::StepsOut;
-        }
-        Added::WaitingOut(left) => {
-            return Answered::WaitingOut(left);
-        }
-        Added::Done(at, left) => {
-            if end < at {
-                return Answered::Full(left);
-            }
-            put_head(output, start, at, Word::ANSWER, true);
-            return Answered::Written(at as u32, left);
-        }
+    if end < at {
+        return None;
     }
+    // What is stored is never missed.
+    put_head(output, start, at, Kind::Answer, true);
+    Some(at as u32)
 }
 
+// The output words used then, if the answer fits, and the steps left; or a stop.
 pub(crate) fn write_answer(
     program: &[u32],
     scratch: &mut [u32],
@@ -83,36 +59,28 @@ pub(crate) fn write_answer(
     state: State,
     params: u32,
     used: u32,
-) -> Answered
+) -> Result<(Option<u32>, u32), Stopped>
     requires { (P : Program) × (p : Path) × (cs : List ChoicePoint) × Answering P program.now scratch.old output.old state p cs params used }
     ensures { (P : Program) (p : Path) (cs : List ChoicePoint) → Answering P program.now scratch.old output.old state p cs params used
         → AnsweredAs P program.now scratch.old output.old scratch.new output.new state p cs used (answer p params state.steps) result }
 {
-    match look_parameters(program, scratch, params, state.steps) {
-        LookedThrough::StepsOut => {
-            return Answered::StepsOut;
-        }
-        LookedThrough::WaitingOut(left) => {
-            return Answered::WaitingOut(left);
-        }
-        LookedThrough::Done(left) => {
-            let start = used as usize;
-            let end = at_most(output.len(), MOST_OUTPUT);
-            let top = name_parameters(program, scratch, params);
-            let first = begin_answer(program, scratch, output, params, start, end);
-            let added = add_constraints(
-                program,
-                scratch,
-                output,
-                state.constraints,
-                state.trail,
-                first,
-                end,
-                first,
-                left,
-            );
-            clear_names(scratch, top);
-            return end_answer(output, start, end, added);
-        }
-    }
+    let left = look_parameters(program, scratch, params, state.steps)?;
+    let start = used as usize;
+    let end = output.len().min(MOST_OUTPUT);
+    let top = name_parameters(program, scratch, params);
+    let first = begin_answer(program, scratch, output, params, start, end);
+    let added = add_constraints(
+        program,
+        scratch,
+        output,
+        state.constraints,
+        state.trail,
+        first,
+        end,
+        first,
+        left,
+    );
+    clear_names(scratch, top);
+    let (at, rest) = added?;
+    Ok((end_answer(output, start, end, at), rest))
 }

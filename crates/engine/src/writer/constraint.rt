@@ -1,5 +1,6 @@
 // The lines of the path's constraints, in order.
 ghost use Rattle.std.specs.Prelude.{◌≡◌, List, ℕ};
+ghost use Rattle.word.specs.Kind.{kind_number};
 ghost use Rattle.rules.specs.Syntax.{Atom, Term, Sort, Constraint, differ, typed, absento};
 ghost use Rattle.rules.specs.Written.{sort_kind};
 ghost use Rattle.semantics.specs.Substitution.{Substitution};
@@ -12,22 +13,17 @@ ghost use Rattle.engine.specs.Lines.{Writing};
 ghost use Rattle.engine.specs.Constraint.{AddedAs, Differs, Lists};
 
 use crate::layout::CONSTRAINTS;
+use crate::steps::Stopped;
 use crate::terms::trail::undo;
-use crate::terms::unify::{Unified, unify};
+use crate::terms::unify::unify;
 use crate::terms::walk::{part_at, skip};
 use crate::writer::line::Listed;
 use crate::writer::lines::{add_absent, add_line, add_typed};
-use crate::writer::look::{LookedThrough, look_equations, look_through};
+use crate::writer::look::{look_equations, look_through};
 use crate::writer::trial::keep_equations;
-use word::Word;
+use word::Kind;
 
-// How the lines of constraints end: where the next one goes with the steps left, or a stop.
-#[derive(Clone, Copy)]
-pub enum Added {
-    Done(usize, u32),
-    StepsOut,
-    WaitingOut(u32),
-}
+// Each function tells where the next line goes, with the steps left, or a stop.
 
 // A disequality: its trial again. What it bound is taken back in every case, and listed if it succeeded.
 fn differ_lines(
@@ -41,43 +37,31 @@ fn differ_lines(
     end: usize,
     at: usize,
     steps: u32,
-) -> Added
+) -> Result<(usize, u32), Stopped>
     requires { Writing scratch.old output.old first end at
         × ((bs : Substitution) × (u : Term) × (v : Term) × Differs program.now scratch.old bs one u other v trail) }
     ensures { (g : Writing scratch.old output.old first end at) (bs : Substitution) (u v : Term)
         → Differs program.now scratch.old bs one u other v trail
         → AddedAs program.now scratch.old scratch.new g output.new bs (lines_of bs (differ u v) steps) result }
 {
-    match unify(&*program, scratch, one, other, trail, steps) {
-        Unified::Failed(top, rest) => {
-            undo(scratch, trail, top);
-            return Added::Done(at, rest);
+    let trial = unify(program, scratch, one, other, trail, steps);
+    match trial.outcome {
+        Err(stopped) => {
+            undo(scratch, trail, trial.trail);
+            Err(stopped)
         }
-        Unified::StepsOut(top) => {
-            undo(scratch, trail, top);
-            return Added::StepsOut;
-        }
-        Unified::WaitingOut(top, rest) => {
-            undo(scratch, trail, top);
-            return Added::WaitingOut(rest);
-        }
-        Unified::Joined(top, rest) => {
-            keep_equations(scratch, trail, top);
-            let mark = trail as usize;
-            let count = (top - trail) as usize;
-            match look_equations(program, scratch, mark, count, rest) {
-                LookedThrough::StepsOut => {
-                    return Added::StepsOut;
-                }
-                LookedThrough::WaitingOut(after) => {
-                    return Added::WaitingOut(after);
-                }
-                LookedThrough::Done(after) => {
-                    let line = Listed::Differ(mark, count);
-                    let next = add_line(program, scratch, output, line, first, end, at);
-                    return Added::Done(next, after);
-                }
+        Ok((joined, rest)) => {
+            if !joined {
+                undo(scratch, trail, trial.trail);
+                return Ok((at, rest));
             }
+            keep_equations(scratch, trail, trial.trail);
+            let mark = trail as usize;
+            let count = (trial.trail - trail) as usize;
+            let after = look_equations(program, scratch, mark, count, rest)?;
+            let line = Listed::Differ(mark, count);
+            let next = add_line(program, scratch, output, line, first, end, at);
+            Ok((next, after))
         }
     }
 }
@@ -92,7 +76,7 @@ fn absence_lines(
     end: usize,
     at: usize,
     steps: u32,
-) -> Added
+) -> Result<(usize, u32), Stopped>
     requires { Writing scratch.now output.old first end at
         × ((bs : Substitution) × (a : Atom) × (t : Term) × Binds program.now scratch.now bs × KeepsAt program.now constraint (absento a t)) }
     ensures { (g : Writing scratch.now output.old first end at) (bs : Substitution) (a : Atom) (t : Term)
@@ -100,19 +84,10 @@ fn absence_lines(
         → AddedAs program.now scratch.now scratch.now g output.new bs (lines_of bs (absento a t) steps) result }
 {
     let term = constraint + 2;
-    match look_through(program, scratch, term, steps) {
-        LookedThrough::StepsOut => {
-            return Added::StepsOut;
-        }
-        LookedThrough::WaitingOut(rest) => {
-            return Added::WaitingOut(rest);
-        }
-        LookedThrough::Done(rest) => {
-            let tag = part_at(program, constraint + 1).bits;
-            let next = add_absent(program, scratch, output, tag, term, first, end, at);
-            return Added::Done(next, rest);
-        }
-    }
+    let rest = look_through(program, scratch, term, steps)?;
+    let tag = part_at(program, constraint + 1).bits;
+    let next = add_absent(program, scratch, output, tag, term, first, end, at);
+    Ok((next, rest))
 }
 
 // A type: its term's nodes, then a line if it is an open variable.
@@ -120,31 +95,22 @@ fn type_lines(
     program: &[u32],
     scratch: &[u32],
     output: &mut [u32],
-    kind: u32,
+    kind: Kind,
     term: u32,
     first: usize,
     end: usize,
     at: usize,
     steps: u32,
-) -> Added
+) -> Result<(usize, u32), Stopped>
     requires { Writing scratch.now output.old first end at
-        × ((bs : Substitution) × (k : Sort) × (t : Term) × Follows program.now scratch.now bs term t × (kind ≡ sort_kind k)) }
+        × ((bs : Substitution) × (k : Sort) × (t : Term) × Follows program.now scratch.now bs term t × (kind_number kind ≡ sort_kind k)) }
     ensures { (g : Writing scratch.now output.old first end at) (bs : Substitution) (k : Sort) (t : Term)
-        → Follows program.now scratch.now bs term t → kind ≡ sort_kind k
+        → Follows program.now scratch.now bs term t → kind_number kind ≡ sort_kind k
         → AddedAs program.now scratch.now scratch.now g output.new bs (lines_of bs (typed k t) steps) result }
 {
-    match look_through(program, scratch, term, steps) {
-        LookedThrough::StepsOut => {
-            return Added::StepsOut;
-        }
-        LookedThrough::WaitingOut(rest) => {
-            return Added::WaitingOut(rest);
-        }
-        LookedThrough::Done(rest) => {
-            let next = add_typed(program, scratch, output, kind, term, first, end, at);
-            return Added::Done(next, rest);
-        }
-    }
+    let rest = look_through(program, scratch, term, steps)?;
+    let next = add_typed(program, scratch, output, kind, term, first, end, at);
+    Ok((next, rest))
 }
 
 // One constraint, by the reference of its goal.
@@ -158,43 +124,24 @@ fn add_constraint(
     end: usize,
     at: usize,
     steps: u32,
-) -> Added
+) -> Result<(usize, u32), Stopped>
     requires { Writing scratch.old output.old first end at
         × ((bs : Substitution) × (cs : List Constraint) × (c : Constraint) × Lists program.now scratch.old bs cs constraint c trail) }
     ensures { (g : Writing scratch.old output.old first end at) (bs : Substitution) (cs : List Constraint) (c : Constraint)
         → Lists program.now scratch.old bs cs constraint c trail
         → AddedAs program.now scratch.old scratch.new g output.new bs (lines_of bs c steps) result }
 {
-    let kind = part_at(program, constraint).kind;
-    if kind == Word::DIFFER {
-        let second = skip(program, constraint + 1);
-        return differ_lines(
-            program,
-            scratch,
-            output,
-            constraint + 1,
-            second,
-            trail,
-            first,
-            end,
-            at,
-            steps,
-        );
+    let one = constraint + 1;
+    match part_at(program, constraint).kind {
+        Kind::Differ => {
+            let other = skip(program, one);
+            differ_lines(
+                program, scratch, output, one, other, trail, first, end, at, steps,
+            )
+        }
+        Kind::Absento => absence_lines(program, scratch, output, constraint, first, end, at, steps),
+        kind => type_lines(program, scratch, output, kind, one, first, end, at, steps),
     }
-    if kind == Word::ABSENTO {
-        return absence_lines(program, scratch, output, constraint, first, end, at, steps);
-    }
-    type_lines(
-        program,
-        scratch,
-        output,
-        kind,
-        constraint + 1,
-        first,
-        end,
-        at,
-        steps,
-    )
 }
 
 // All constraints that the path keeps.
@@ -208,7 +155,7 @@ pub(crate) fn add_constraints(
     end: usize,
     at: usize,
     steps: u32,
-) -> Added
+) -> Result<(usize, u32), Stopped>
     requires { Writing scratch.old output.old first end at
         × ((bs : Substitution) × (cs : List Constraint) × (made : ℕ) × ConstraintsHeld program.now scratch.old bs cs trail kept × Sound bs cs made) }
     ensures { (g : Writing scratch.old output.old first end at) (bs : Substitution) (cs : List Constraint) (made : ℕ)
@@ -217,24 +164,11 @@ pub(crate) fn add_constraints(
 {
     let mut place = at;
     let mut left = steps;
-    let mut i = 0;
-    while i < kept {
+    for i in 0..kept {
         let constraint = scratch[CONSTRAINTS + i as usize];
-        match add_constraint(
+        (place, left) = add_constraint(
             program, scratch, output, constraint, trail, first, end, place, left,
-        ) {
-            Added::Done(next, rest) => {
-                place = next;
-                left = rest;
-                i += 1;
-            }
-            Added::StepsOut => {
-                return Added::StepsOut;
-            }
-            Added::WaitingOut(rest) => {
-                return Added::WaitingOut(rest);
-            }
-        }
+        )?;
     }
-    Added::Done(place, left)
+    Ok((place, left))
 }

@@ -1,5 +1,6 @@
 // One line of an answer.
 ghost use Rattle.std.specs.Prelude.{◌≡◌, List, ◌∷◌, ℕ, ◌≤◌, ◌<◌, ◌+◌, length};
+ghost use Rattle.word.specs.Kind.{kind_number};
 ghost use Rattle.rules.specs.Syntax.{Term, var};
 ghost use Rattle.rules.specs.Written.{part, term_words};
 ghost use Rattle.rules.specs.Settings.{scratch_words};
@@ -10,15 +11,15 @@ ghost use Rattle.engine.specs.Names.{NamesGiven};
 ghost use Rattle.engine.specs.Term.{Puts, Placed};
 ghost use Rattle.engine.specs.Line.{half, Equation, EquationsIn, equation_in, equation_words, equations_words, LineAs};
 
-use crate::layout::{NAMES, PAIRS, TRAIL};
-use crate::writer::names::all_named;
-use crate::writer::term::{Put, put_head, put_one, put_term, put_variable};
-use word::Word;
+use crate::layout::{PAIRS, TRAIL};
+use crate::writer::names::{all_named, has_name};
+use crate::writer::term::{put_head, put_one, put_term, put_variable};
+use word::{Kind, Word};
 
 // A type's kind and the variable; absento's tag and the variable; a trial's mark and how many equations it has.
 #[derive(Clone, Copy)]
 pub enum Listed {
-    Typed(u32, u32),
+    Typed(Kind, u32),
     Lacks(u32, u32),
     Differ(usize, usize),
 }
@@ -45,7 +46,7 @@ pub(crate) fn put_equation(
     start: usize,
     end: usize,
     write: bool,
-) -> Put
+) -> Option<usize>
     requires { (mark + i < most_variables) × ((b : ℕ × Term) × (names : List ℕ) × Equation program.now scratch.now mark i b
         × Puts scratch.now output.old start end names (equation_in names b)) }
     ensures { (b : ℕ × Term) (names : List ℕ) → Equation program.now scratch.now mark i b
@@ -53,25 +54,13 @@ pub(crate) fn put_equation(
         → Placed output.old output.new start end write (equation_words names b) result }
 {
     if end <= start {
-        return Put::Missed;
+        return None;
     }
     let x = equation_variable(scratch, i);
-    match put_variable(scratch, output, x, start + 1, end, write) {
-        Put::Missed => {
-            return Put::Missed;
-        }
-        Put::End(middle) => {
-            let right = scratch[TRAIL + mark + i];
-            match put_term(program, scratch, output, right, middle, end, write) {
-                Put::Missed => {
-                    return Put::Missed;
-                }
-                Put::End(next) => {
-                    return put_head(output, start, next, Word::DIFFER, write);
-                }
-            }
-        }
-    }
+    let middle = put_variable(scratch, output, x, start + 1, end, write)?;
+    let right = scratch[TRAIL + mark + i];
+    let next = put_term(program, scratch, output, right, middle, end, write)?;
+    put_head(output, start, next, Kind::Differ, write)
 }
 
 // The first `count` equations, one after the other.
@@ -84,7 +73,7 @@ pub(crate) fn put_equations(
     start: usize,
     end: usize,
     write: bool,
-) -> Put
+) -> Option<usize>
     requires { (cs : List (ℕ × Term)) × (names : List ℕ) × EquationsIn program.now scratch.now mark count cs
         × Puts scratch.now output.old start end names (bindings_in names cs) }
     ensures { (cs : List (ℕ × Term)) (names : List ℕ) → EquationsIn program.now scratch.now mark count cs
@@ -92,43 +81,28 @@ pub(crate) fn put_equations(
         → Placed output.old output.new start end write (equations_words names cs) result }
 {
     let mut at = start;
-    let mut i = 0;
-    while i < count {
-        match put_equation(program, scratch, output, mark, i, at, end, write) {
-            Put::Missed => {
-                return Put::Missed;
-            }
-            Put::End(next) => {
-                at = next;
-                i += 1;
-            }
-        }
+    for i in 0..count {
+        at = put_equation(program, scratch, output, mark, i, at, end, write)?;
     }
-    Put::End(at)
+    Some(at)
 }
 
 // A type.
 pub(crate) fn put_typed(
     scratch: &[u32],
     output: &mut [u32],
-    kind: u32,
+    kind: Kind,
     x: u32,
     start: usize,
     end: usize,
     write: bool,
-) -> Put
-    requires { (x < most_variables) × (kind < 16) × ((names : List ℕ) × Puts scratch.now output.old start end names (member x names)) }
+) -> Option<usize>
+    requires { (x < most_variables) × ((names : List ℕ) × Puts scratch.now output.old start end names (member x names)) }
     ensures { (names : List ℕ) → Puts scratch.now output.old start end names (member x names)
-        → Placed output.old output.new start end write (part kind (term_words (var (index x names)))) result }
+        → Placed output.old output.new start end write (part (kind_number kind) (term_words (var (index x names)))) result }
 {
-    match put_one(output, start, end, Word::new(kind, 1).bits, write) {
-        Put::Missed => {
-            return Put::Missed;
-        }
-        Put::End(next) => {
-            return put_variable(scratch, output, x, next, end, write);
-        }
-    }
+    let next = put_one(output, start, end, Word::of_kind(kind, 1).bits, write)?;
+    put_variable(scratch, output, x, next, end, write)
 }
 
 // An absence.
@@ -140,24 +114,20 @@ pub(crate) fn put_lacks(
     start: usize,
     end: usize,
     write: bool,
-) -> Put
+) -> Option<usize>
     requires { (x < most_variables) × ((names : List ℕ) × Puts scratch.now output.old start end names (member x names)) }
     ensures { (names : List ℕ) → Puts scratch.now output.old start end names (member x names)
         → Placed output.old output.new start end write (part 9 (tag ∷ term_words (var (index x names)))) result }
 {
-    match put_one(output, start, end, Word::new(Word::ABSENTO, 2).bits, write) {
-        Put::Missed => {
-            return Put::Missed;
-        }
-        Put::End(second) => match put_one(output, second, end, tag, write) {
-            Put::Missed => {
-                return Put::Missed;
-            }
-            Put::End(third) => {
-                return put_variable(scratch, output, x, third, end, write);
-            }
-        },
-    }
+    let second = put_one(
+        output,
+        start,
+        end,
+        Word::of_kind(Kind::Absento, 2).bits,
+        write,
+    )?;
+    let third = put_one(output, second, end, tag, write)?;
+    put_variable(scratch, output, x, third, end, write)
 }
 
 // A disequality: several equations are put under one word.
@@ -170,7 +140,7 @@ pub(crate) fn put_differ(
     start: usize,
     end: usize,
     write: bool,
-) -> Put
+) -> Option<usize>
     requires { (b : ℕ × Term) × (cs : List (ℕ × Term)) × (names : List ℕ) × EquationsIn program.now scratch.now mark count (b ∷ cs)
         × Puts scratch.now output.old start end names (bindings_in names (b ∷ cs)) }
     ensures { (b : ℕ × Term) (cs : List (ℕ × Term)) (names : List ℕ) → EquationsIn program.now scratch.now mark count (b ∷ cs)
@@ -181,16 +151,10 @@ pub(crate) fn put_differ(
         return put_equations(program, scratch, output, mark, count, start, end, write);
     }
     if end <= start {
-        return Put::Missed;
+        return None;
     }
-    match put_equations(program, scratch, output, mark, count, start + 1, end, write) {
-        Put::Missed => {
-            return Put::Missed;
-        }
-        Put::End(next) => {
-            return put_head(output, start, next, Word::DISJUNCTION, write);
-        }
-    }
+    let next = put_equations(program, scratch, output, mark, count, start + 1, end, write)?;
+    put_head(output, start, next, Kind::Disjunction, write)
 }
 
 // A line whose variables have names.
@@ -202,33 +166,19 @@ pub(crate) fn put_line(
     start: usize,
     end: usize,
     write: bool,
-) -> Put
+) -> Option<usize>
     requires { (l : Line) × (names : List ℕ) × LineAs program.now scratch.now line l × Puts scratch.now output.old start end names (line_in names l) }
     ensures { (l : Line) (names : List ℕ) → LineAs program.now scratch.now line l
         → Puts scratch.now output.old start end names (line_in names l)
         → Placed output.old output.new start end write (line_words names l) result }
 {
     match line {
-        Listed::Typed(kind, x) => {
-            return put_typed(scratch, output, kind, x, start, end, write);
-        }
-        Listed::Lacks(tag, x) => {
-            return put_lacks(scratch, output, tag, x, start, end, write);
-        }
+        Listed::Typed(kind, x) => put_typed(scratch, output, kind, x, start, end, write),
+        Listed::Lacks(tag, x) => put_lacks(scratch, output, tag, x, start, end, write),
         Listed::Differ(mark, count) => {
-            return put_differ(program, scratch, output, mark, count, start, end, write);
+            put_differ(program, scratch, output, mark, count, start, end, write)
         }
     }
-}
-
-pub(crate) fn has_name(scratch: &[u32], x: u32) -> bool
-    requires { (scratch_words ≤ length scratch.now) × (x < most_variables) }
-    ensures { (names : List ℕ) → NamesGiven scratch.now names → result ≡ member x names }
-{
-    if scratch[NAMES + x as usize] == 0 {
-        return false;
-    }
-    true
 }
 
 // Whether every variable of equation `i` has a name.
@@ -238,11 +188,7 @@ pub(crate) fn equation_named(program: &[u32], scratch: &[u32], mark: usize, i: u
         → result ≡ equation_in names b }
 {
     let x = equation_variable(scratch, i);
-    if has_name(scratch, x) {
-        let right = scratch[TRAIL + mark + i];
-        return all_named(program, scratch, right);
-    }
-    false
+    has_name(scratch, x) && all_named(program, scratch, scratch[TRAIL + mark + i])
 }
 
 // Of the first `count` equations.
@@ -251,11 +197,8 @@ pub(crate) fn equations_named(program: &[u32], scratch: &[u32], mark: usize, cou
     ensures { (cs : List (ℕ × Term)) (names : List ℕ) → EquationsIn program.now scratch.now mark count cs → NamesGiven scratch.now names
         → result ≡ bindings_in names cs }
 {
-    let mut i = 0;
-    while i < count {
-        if equation_named(program, scratch, mark, i) {
-            i += 1;
-        } else {
+    for i in 0..count {
+        if !equation_named(program, scratch, mark, i) {
             return false;
         }
     }
@@ -269,14 +212,7 @@ pub(crate) fn line_named(program: &[u32], scratch: &[u32], line: Listed) -> bool
         → result ≡ line_in names l }
 {
     match line {
-        Listed::Typed(_, x) => {
-            return has_name(scratch, x);
-        }
-        Listed::Lacks(_, x) => {
-            return has_name(scratch, x);
-        }
-        Listed::Differ(mark, count) => {
-            return equations_named(program, scratch, mark, count);
-        }
+        Listed::Typed(_, x) | Listed::Lacks(_, x) => has_name(scratch, x),
+        Listed::Differ(mark, count) => equations_named(program, scratch, mark, count),
     }
 }

@@ -1,6 +1,7 @@
 // The lines of one answer: which of them stay. A dropped or repeated line needs no room, not even for a moment.
 // How far an answer is written is one number, `at`: where its next line goes, beyond `end` once a line did not fit.
 ghost use Rattle.std.specs.Prelude.{◌≡◌, List, [], ◌∷◌, ℕ};
+ghost use Rattle.word.specs.Kind.{kind_number};
 ghost use Rattle.semantics.specs.Answer.{line_in, line_words, same_words, any_same, Line, typed_lines, lacks_each};
 ghost use Rattle.engine.specs.Term.{Puts};
 ghost use Rattle.engine.specs.Line.{LineAs};
@@ -8,8 +9,7 @@ ghost use Rattle.engine.specs.Lines.{Stretch, Rows, Writing, Extended, occurrenc
 
 use crate::terms::walk::{Shape, follow};
 use crate::writer::line::{Listed, line_named, put_line};
-use crate::writer::term::Put;
-use word::Word;
+use word::{Kind, Word};
 
 // Whether the line has the words from `place` up to `next`.
 pub(crate) fn same_line(
@@ -24,17 +24,7 @@ pub(crate) fn same_line(
     ensures { (output.new ≡ output.old) × ((l : Line) (names w : List ℕ) → LineAs program.now scratch.now line l
         → Puts scratch.now output.old place next names (line_in names l) → Stretch output.old place next w → result ≡ same_words (line_words names l) w) }
 {
-    match put_line(program, scratch, output, line, place, next, false) {
-        Put::Missed => {
-            return false;
-        }
-        Put::End(end) => {
-            if end == next {
-                return true;
-            }
-            return false;
-        }
-    }
+    put_line(program, scratch, output, line, place, next, false) == Some(next)
 }
 
 // Whether the line has the same words as an earlier one of this answer.
@@ -81,20 +71,13 @@ pub(crate) fn add_line(
     if end < at {
         return at;
     }
-    if line_named(program, scratch, line) {
-        if line_repeated(program, scratch, output, line, first, at) {
-            return at;
-        }
-        match put_line(program, scratch, output, line, at, end, true) {
-            Put::Missed => {
-                return end + 1;
-            }
-            Put::End(next) => {
-                return next;
-            }
-        }
+    if !line_named(program, scratch, line) {
+        return at;
     }
-    at
+    if line_repeated(program, scratch, output, line, first, at) {
+        return at;
+    }
+    put_line(program, scratch, output, line, at, end, true).unwrap_or(end + 1)
 }
 
 // A type on an open variable; on anything else it holds already.
@@ -102,35 +85,21 @@ pub(crate) fn add_typed(
     program: &[u32],
     scratch: &[u32],
     output: &mut [u32],
-    kind: u32,
+    kind: Kind,
     term: u32,
     first: usize,
     end: usize,
     at: usize,
 ) -> usize
-    requires { AddsTyped program.now scratch.now output.old kind term first end at }
-    ensures { (g : AddsTyped program.now scratch.now output.old kind term first end at)
+    requires { AddsTyped program.now scratch.now output.old (kind_number kind) term first end at }
+    ensures { (g : AddsTyped program.now scratch.now output.old (kind_number kind) term first end at)
         → Extended g.writing output.new result (typed_lines g.sort g.term) }
 {
-    match follow(program, scratch, term) {
-        Shape::Open(x) => {
-            return add_line(
-                program,
-                scratch,
-                output,
-                Listed::Typed(kind, x),
-                first,
-                end,
-                at,
-            );
-        }
-        Shape::Atom(_) => {
-            return at;
-        }
-        Shape::Pair(_, _) => {
-            return at;
-        }
+    if let Shape::Open(x) = follow(program, scratch, term) {
+        let line = Listed::Typed(kind, x);
+        return add_line(program, scratch, output, line, first, end, at);
     }
+    at
 }
 
 // An absence for each open variable where it stands: one that stands there again repeats its line.
@@ -153,15 +122,8 @@ pub(crate) fn add_absent(
     loop {
         match follow(program, scratch, from) {
             Shape::Open(x) => {
-                return add_line(
-                    program,
-                    scratch,
-                    output,
-                    Listed::Lacks(tag, x),
-                    first,
-                    end,
-                    place,
-                );
+                let line = Listed::Lacks(tag, x);
+                return add_line(program, scratch, output, line, first, end, place);
             }
             Shape::Atom(_) => {
                 return place;

@@ -6,32 +6,21 @@ ghost use Rattle.engine.specs.Walk.{Follows};
 ghost use Rattle.engine.specs.Look.{LookedThroughAs, Looks, rights, ThroughAs};
 
 use crate::layout::{PAIR_WORD, TRAIL};
-use crate::terms::scan::{Scanned, scan};
+use crate::steps::Stopped;
+use crate::terms::scan::scan;
 
-// A number is the steps left.
-#[derive(Clone, Copy)]
-pub enum LookedThrough {
-    Done(u32),
-    StepsOut,
-    WaitingOut(u32),
-}
-
-// The word sought is no leaf's, so the scan finds nothing and goes on to the end.
-pub(crate) fn look_through(program: &[u32], scratch: &[u32], term: u32, steps: u32) -> LookedThrough
+// With the steps left. The word sought is no leaf's, so the scan finds nothing and goes on to the end.
+pub(crate) fn look_through(
+    program: &[u32],
+    scratch: &[u32],
+    term: u32,
+    steps: u32,
+) -> Result<u32, Stopped>
     requires { (bs : Substitution) × (t : Term) × Follows program.now scratch.now bs term t }
     ensures { (bs : Substitution) (t : Term) → Follows program.now scratch.now bs term t → LookedThroughAs bs t steps result }
 {
-    match scan(&*program, &*scratch, PAIR_WORD, term, 0, steps) {
-        Scanned::Found(left) | Scanned::Clear(left) => {
-            return LookedThrough::Done(left);
-        }
-        Scanned::StepsOut => {
-            return LookedThrough::StepsOut;
-        }
-        Scanned::WaitingOut(left) => {
-            return LookedThrough::WaitingOut(left);
-        }
-    }
+    let (_, left) = scan(program, scratch, PAIR_WORD, term, 0, steps)?;
+    Ok(left)
 }
 
 // The right sides of a trial, kept from `mark` on.
@@ -41,25 +30,13 @@ pub(crate) fn look_equations(
     mark: usize,
     count: usize,
     steps: u32,
-) -> LookedThrough
+) -> Result<u32, Stopped>
     requires { (bs : Substitution) × (cs : List (ℕ × Term)) × Looks program.now scratch.now bs cs mark count }
     ensures { (bs : Substitution) (cs : List (ℕ × Term)) → Looks program.now scratch.now bs cs mark count → ThroughAs bs (rights cs) steps result }
 {
     let mut left = steps;
-    let mut i = 0;
-    while i < count {
-        match look_through(program, scratch, scratch[TRAIL + mark + i], left) {
-            LookedThrough::Done(rest) => {
-                left = rest;
-                i += 1;
-            }
-            LookedThrough::StepsOut => {
-                return LookedThrough::StepsOut;
-            }
-            LookedThrough::WaitingOut(rest) => {
-                return LookedThrough::WaitingOut(rest);
-            }
-        }
+    for i in 0..count {
+        left = look_through(program, scratch, scratch[TRAIL + mark + i], left)?;
     }
-    LookedThrough::Done(left)
+    Ok(left)
 }

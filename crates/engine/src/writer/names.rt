@@ -6,6 +6,7 @@ ghost use Rattle.std.specs.Prelude.{◌≡◌, List, [], ℕ, ◌≤◌, ◌<◌
 ghost use Rattle.rules.specs.Syntax.{Term, var};
 ghost use Rattle.rules.specs.Settings.{scratch_words};
 ghost use Rattle.semantics.specs.Answer.{appear, vars_in};
+ghost use Rattle.semantics.specs.Unify.{member};
 ghost use Rattle.engine.specs.Layout.{most_variables};
 ghost use Rattle.engine.specs.Walk.{Resolves};
 ghost use Rattle.engine.specs.Names.{Names, NamesGiven, Named};
@@ -63,6 +64,14 @@ pub(crate) fn clear_names(scratch: &mut [u32], top: u32)
     }
 }
 
+// Whether variable `x` has a name.
+pub(crate) fn has_name(scratch: &[u32], x: u32) -> bool
+    requires { (scratch_words ≤ length scratch.now) × (x < most_variables) }
+    ensures { (names : List ℕ) → NamesGiven scratch.now names → result ≡ member x names }
+{
+    scratch[NAMES + x as usize] != 0
+}
+
 // Whether every open variable of a term has a name.
 pub(crate) fn all_named(program: &[u32], scratch: &[u32], term: u32) -> bool
     requires { (t : Term) × (names : List ℕ) × Resolves program.now scratch.now term t × NamesGiven scratch.now names }
@@ -72,20 +81,16 @@ pub(crate) fn all_named(program: &[u32], scratch: &[u32], term: u32) -> bool
     loop {
         match follow(program, scratch, at) {
             Shape::Open(x) => {
-                if scratch[NAMES + x as usize] == 0 {
-                    return false;
-                }
-                return true;
+                return has_name(scratch, x);
             }
             Shape::Atom(_) => {
                 return true;
             }
             Shape::Pair(first, second) => {
-                if all_named(program, scratch, first) {
-                    at = second;
-                } else {
+                if !all_named(program, scratch, first) {
                     return false;
                 }
+                at = second;
             }
         }
     }

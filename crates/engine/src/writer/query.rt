@@ -11,11 +11,17 @@ ghost use Rattle.engine.specs.Term.{Room, Puts, Placed};
 ghost use Rattle.engine.specs.Look.{LookedThroughAs, ThroughAs};
 ghost use Rattle.engine.specs.Query.{Query, query_words};
 
-use crate::writer::look::{LookedThrough, look_through};
+use crate::steps::{NO_STEPS, Stopped};
+use crate::writer::look::look_through;
 use crate::writer::names::{name_term, name_variable};
-use crate::writer::term::{Put, put_term, put_variable};
+use crate::writer::term::{put_term, put_variable};
 
-pub(crate) fn look_parameter(program: &[u32], scratch: &[u32], x: u32, steps: u32) -> LookedThrough
+pub(crate) fn look_parameter(
+    program: &[u32],
+    scratch: &[u32],
+    x: u32,
+    steps: u32,
+) -> Result<u32, Stopped>
     requires { (x < most_variables) × ((bs : Substitution) × Binds program.now scratch.now bs) }
     ensures { (bs : Substitution) → Binds program.now scratch.now bs → LookedThroughAs bs (var x) steps result }
 {
@@ -24,9 +30,9 @@ pub(crate) fn look_parameter(program: &[u32], scratch: &[u32], x: u32, steps: u3
         return look_through(program, scratch, entry - 1, steps);
     }
     if steps == 0 {
-        return LookedThrough::StepsOut;
+        return Err(NO_STEPS);
     }
-    LookedThrough::Done(steps - 1)
+    Ok(steps - 1)
 }
 
 pub(crate) fn name_parameter(program: &[u32], scratch: &mut [u32], x: u32, top: u32) -> u32
@@ -48,7 +54,7 @@ pub(crate) fn put_parameter(
     x: u32,
     start: usize,
     end: usize,
-) -> Put
+) -> Option<usize>
     requires { (x < most_variables) × ((bs : Substitution) × (names : List ℕ) × Binds program.now scratch.now bs
         × Puts scratch.now output.old start end names (vars_in names (resolve bs (var x)))) }
     ensures { (bs : Substitution) (names : List ℕ) → Binds program.now scratch.now bs
@@ -68,27 +74,15 @@ pub(crate) fn look_parameters(
     scratch: &[u32],
     count: u32,
     steps: u32,
-) -> LookedThrough
+) -> Result<u32, Stopped>
     requires { (count ≤ most_variables) × ((bs : Substitution) × Binds program.now scratch.now bs) }
     ensures { (bs : Substitution) → Binds program.now scratch.now bs → ThroughAs bs (parameters 0 count) steps result }
 {
     let mut left = steps;
-    let mut x = 0;
-    while x < count {
-        match look_parameter(program, scratch, x, left) {
-            LookedThrough::Done(rest) => {
-                left = rest;
-                x += 1;
-            }
-            LookedThrough::StepsOut => {
-                return LookedThrough::StepsOut;
-            }
-            LookedThrough::WaitingOut(rest) => {
-                return LookedThrough::WaitingOut(rest);
-            }
-        }
+    for x in 0..count {
+        left = look_parameter(program, scratch, x, left)?;
     }
-    LookedThrough::Done(left)
+    Ok(left)
 }
 
 pub(crate) fn name_parameters(program: &[u32], scratch: &mut [u32], count: u32) -> u32
@@ -97,10 +91,8 @@ pub(crate) fn name_parameters(program: &[u32], scratch: &mut [u32], count: u32) 
         → Named scratch.old scratch.new result (names_of bs count) }
 {
     let mut top = 0;
-    let mut x = 0;
-    while x < count {
+    for x in 0..count {
         top = name_parameter(program, scratch, x, top);
-        x += 1;
     }
     top
 }
@@ -112,23 +104,14 @@ pub(crate) fn put_parameters(
     count: u32,
     start: usize,
     end: usize,
-) -> Put
+) -> Option<usize>
     requires { (start ≤ end) × Room output.old end × (count ≤ most_variables) × ((bs : Substitution) × (names : List ℕ) × Query program.now scratch.now count bs names) }
     ensures { (bs : Substitution) (names : List ℕ) → Query program.now scratch.now count bs names
         → Placed output.old output.new start end true (query_words bs names 0 count) result }
 {
     let mut at = start;
-    let mut x = 0;
-    while x < count {
-        match put_parameter(program, scratch, output, x, at, end) {
-            Put::End(next) => {
-                at = next;
-                x += 1;
-            }
-            Put::Missed => {
-                return Put::Missed;
-            }
-        }
+    for x in 0..count {
+        at = put_parameter(program, scratch, output, x, at, end)?;
     }
-    Put::End(at)
+    Some(at)
 }

@@ -1,6 +1,7 @@
 // Words of an answer. With `write` they are stored; without it they are compared with those that are there already, and nothing is stored.
-// A place is always below `end`, so that what does not fit is missed and never counted.
+// A place is always below `end`, so that what does not fit is missed and never counted. What is told is the place after the words, or nothing where they do not fit, or are not there.
 ghost use Rattle.std.specs.Prelude.{List, [], ◌∷◌, ℕ, ◌≤◌, ◌<◌, ◌+◌, length};
+ghost use Rattle.word.specs.Kind.{kind_number};
 ghost use Rattle.rules.specs.Syntax.{Term, var};
 ghost use Rattle.rules.specs.Written.{part, term_words};
 ghost use Rattle.semantics.specs.Answer.{index, reify, vars_in};
@@ -11,14 +12,7 @@ ghost use Rattle.engine.specs.Term.{Room, Puts, WordPut, Laid, Placed};
 
 use crate::layout::NAMES;
 use crate::terms::walk::{Shape, follow};
-use word::Word;
-
-// The place after the words, or that they do not fit, or are not there.
-#[derive(Clone, Copy)]
-pub enum Put {
-    End(usize),
-    Missed,
-}
+use word::{Kind, Word};
 
 pub(crate) fn put_word(output: &mut [u32], at: usize, bits: u32, write: bool) -> bool
     requires { at < length output.old }
@@ -28,44 +22,40 @@ pub(crate) fn put_word(output: &mut [u32], at: usize, bits: u32, write: bool) ->
         output[at] = bits;
         return true;
     }
-    if output[at] == bits {
-        return true;
-    }
-    false
-}
-
-pub(crate) fn put_last(output: &mut [u32], at: usize, end: usize, bits: u32, write: bool) -> Put
-    requires { (at < end) × (end ≤ length output.old) }
-    ensures { Placed output.old output.new at end write (bits ∷ []) result }
-{
-    if put_word(output, at, bits, write) {
-        return Put::End(at + 1);
-    }
-    Put::Missed
+    output[at] == bits
 }
 
 // One word, if there is room.
-pub(crate) fn put_one(output: &mut [u32], at: usize, end: usize, bits: u32, write: bool) -> Put
+pub(crate) fn put_one(
+    output: &mut [u32],
+    at: usize,
+    end: usize,
+    bits: u32,
+    write: bool,
+) -> Option<usize>
     requires { end ≤ length output.old }
     ensures { at ≤ end → Placed output.old output.new at end write (bits ∷ []) result }
 {
     if end <= at {
-        return Put::Missed;
+        return None;
     }
-    put_last(output, at, end, bits, write)
+    put_word(output, at, bits, write).then_some(at + 1)
 }
 
 // The word of a part that ends at `next`, once what it counts is put.
-pub(crate) fn put_head(output: &mut [u32], start: usize, next: usize, kind: u32, write: bool) -> Put
-    requires { (start < next) × Room output.old next × (kind < 16) }
+pub(crate) fn put_head(
+    output: &mut [u32],
+    start: usize,
+    next: usize,
+    kind: Kind,
+    write: bool,
+) -> Option<usize>
+    requires { (start < next) × Room output.old next }
     ensures { (o : List ℕ) (end : ℕ) (v : List ℕ) → Laid o output.old (start + 1) end write v next
-        → Placed o output.new start end write (part kind v) result }
+        → Placed o output.new start end write (part (kind_number kind) v) result }
 {
     let size = (next - start - 1) as u32;
-    if put_word(output, start, Word::new(kind, size).bits, write) {
-        return Put::End(next);
-    }
-    Put::Missed
+    put_word(output, start, Word::of_kind(kind, size).bits, write).then_some(next)
 }
 
 // A variable that has a name.
@@ -76,7 +66,7 @@ pub(crate) fn put_variable(
     at: usize,
     end: usize,
     write: bool,
-) -> Put
+) -> Option<usize>
     requires { (x < most_variables) × ((names : List ℕ) × Puts scratch.now output.old at end names (member x names)) }
     ensures { (names : List ℕ) → Puts scratch.now output.old at end names (member x names)
         → Placed output.old output.new at end write (term_words (var (index x names))) result }
@@ -86,7 +76,7 @@ pub(crate) fn put_variable(
         output,
         at,
         end,
-        Word::new(Word::VARIABLE, number).bits,
+        Word::of_kind(Kind::Variable, number).bits,
         write,
     )
 }
@@ -100,7 +90,7 @@ pub(crate) fn put_term(
     start: usize,
     end: usize,
     write: bool,
-) -> Put
+) -> Option<usize>
     requires { (t : Term) × (names : List ℕ) × Resolves program.now scratch.now term t × Puts scratch.now output.old start end names (vars_in names t) }
     ensures { (t : Term) (names : List ℕ) → Resolves program.now scratch.now term t
         → Puts scratch.now output.old start end names (vars_in names t)
@@ -109,38 +99,20 @@ pub(crate) fn put_term(
     let mut from = term;
     let mut at = start;
     loop {
-        if end <= at {
-            return Put::Missed;
-        }
         match follow(program, scratch, from) {
             Shape::Open(x) => {
-                let number = scratch[NAMES + x as usize] % 4096 - 1;
-                return put_last(
-                    output,
-                    at,
-                    end,
-                    Word::new(Word::VARIABLE, number).bits,
-                    write,
-                );
+                return put_variable(scratch, output, x, at, end, write);
             }
             Shape::Atom(bits) => {
-                return put_last(output, at, end, bits, write);
+                return put_one(output, at, end, bits, write);
             }
             Shape::Pair(first, second) => {
-                match put_term(program, scratch, output, first, at + 1, end, write) {
-                    Put::Missed => {
-                        return Put::Missed;
-                    }
-                    Put::End(next) => {
-                        let size = (next - at - 1) as u32;
-                        if put_word(output, at, Word::new(Word::PAIR, size).bits, write) {
-                            from = second;
-                            at = next;
-                        } else {
-                            return Put::Missed;
-                        }
-                    }
+                if end <= at {
+                    return None;
                 }
+                let next = put_term(program, scratch, output, first, at + 1, end, write)?;
+                at = put_head(output, at, next, Kind::Pair, write)?;
+                from = second;
             }
         }
     }

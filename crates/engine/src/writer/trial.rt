@@ -27,9 +27,7 @@ pub(crate) fn keep_equations(scratch: &mut [u32], mark: u32, trail: u32)
     requires { (ws : List ℕ) × (new : Substitution) × (bs : Substitution) × Trailed ws scratch.old new bs mark trail }
     ensures { (ws : List ℕ) (new bs : Substitution) → Trailed ws scratch.old new bs mark trail → AllKept ws scratch.old scratch.new new bs mark }
 {
-    let mut top = trail;
-    while mark < top {
-        top -= 1;
+    for top in (mark..trail).rev() {
         let at = TRAIL + top as usize;
         let x = scratch[at];
         scratch[at] = scratch[x as usize] - 1;

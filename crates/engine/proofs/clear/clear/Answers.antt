@@ -1,18 +1,20 @@
--- `clear` sets words to 0: to clear what is left always leads to the same.
-use mathlib.Core.Path.{refl, sym, ◌∙◌}
+-- `clear` sets words to 0.
+use Prim.Native.Nat.{◌-◌}
+use mathlib.Core.Path.{◌≡◌, ap, sym, ◌∙◌}
 use native.Mathlib.Omega.{arith}
-use lib.ListN.{length-set}
-use Rattle.engine.proofs.ClearLaws.{clear_step, clear_done}
+use borrow.Author.Rules.{rules}
+use borrow.Rule.Slice.PartMut.{put_mid}
+use lib.ListN.{replicate, length, take, drop, length-drop}
+use Rattle.engine.proofs.ClearLaws.{clear_filled, clear_done}
 use Rattle.engine.proofs.clear.clear.Goals as goal
 
-pub loop-at-init : goal.loop-at-init
-loop-at-init c = (refl, c.at_most-end.ensures, refl)
+pub returns-then-from-end : goal.returns-then-from-end
+returns-then-from-end c =
+    let ws = c.args.words.now in
+    let from = c.args.from in
+    let k = c.min-end.result - from in
+    let zeros : c.fill.new.self ≡ replicate (length (take k (drop from ws))) 0 = c.fill.ensures.after (search rules) in
+    ap (put_mid from k ws) zeros ∙ clear_filled ws from c.args.to k (omega (arith, c.min-end.ensures, length-drop from ws))
 
-pub loop-at-preserved : goal.loop-at-preserved
-loop-at-preserved c = let l = c.loop-at in (simp length-set l.invariant.0, l.invariant.1, clear_step l.words l.at _ (omega (arith, l.invariant.1)) (omega (arith, l.invariant.0, l.invariant.1)) ∙ l.invariant.2)
-
-pub shape_of-words : goal.shape_of-words
-shape_of-words c = c.loop-at.invariant.0
-
-pub returns : goal.returns
-returns c = let l = c.loop-at in sym (clear_done l.words l.at _ (omega (arith, l.invariant.0, l.invariant.1))) ∙ l.invariant.2
+pub returns-else-from-end : goal.returns-else-from-end
+returns-else-from-end c = sym (clear_done c.args.words.now c.args.from c.args.to (omega (arith, c.min-end.ensures)))

@@ -1,90 +1,95 @@
 -- `round` goes from answer to answer: a search from the state reached ends as the round does.
-use mathlib.Core.Path.{refl, ◌∙◌}
+use mathlib.Core.Path.{refl, ap, ◌∙◌}
 use mathlib.Core.List.{[]}
-use Rattle.engine.proofs.RoundLaws.{round_starts, round_stops, over_held, round_over, round_answers, round_gives, round_ends, round_goes}
+use Rattle.std.specs.Prelude.{Ok}
+use Rattle.std.proofs.lemmas.Result.{err_from_is_err_and}
+use Rattle.rules.specs.Syntax.{Program, Relation}
+use Rattle.semantics.specs.Round as definition
+use Rattle.engine.specs.Search.{Answers}
+use Rattle.engine.specs.Rounds.{Starting}
+use Rattle.engine.proofs.RoundLaws.{round_starts, round_stops, over_held, round_over, round_answers, round_gives, round_lost, last_given, round_done, round_goes}
 use Rattle.engine.proofs.round.round.Goals as goal
+use Rattle.engine.proofs.round.round.Goals.{In-Answer}
 
-pub relation-asked-requires : goal.relation-asked-requires
-relation-asked-requires c = let x = c.requires in (x.0, x.1, x.3.ready.clean.table, x.3.ready.query_is, x.3.ready.clean.long)
+-- a path that gives an answer
+answers : (c : In-Answer) {P : Program} {R : Relation} {a : definition.Tally} (i : Starting c.args.program.now c.args.scratch.now c.args.output.now P c.args.query R c.args.number c.args.tally a)
+    → (let h = c.loop-searched.invariant.2 P R a i in Answers P h.well_formed c.relation-asked.result.params c.args.number c.args.program.now c.search.new.scratch c.in-Answer.last c.in-Answer.cut h.state h.fuel)
+answers c {P} {R} {a} i =
+    let h = c.loop-searched.invariant.2 P R a i in
+    round_answers h _ _ (c.search.ensures P h.well_formed _ h.state h.fuel h.under h.enough) (c.in-Ok.is ∙ ap Ok c.in-Answer.is)
 
-pub loop-why-init : goal.loop-why-init
-loop-why-init c = (refl, refl, λ P R a h. round_starts h (c.relation-asked.ensures P R h.ready.clean.table h.ready.query_is))
+pub loop-searched-init : goal.loop-searched-init
+loop-searched-init c = (refl, refl, λ P R a h. round_starts h (c.relation-asked.ensures P R h.ready.clean.table h.ready.query_is))
 
 pub search-requires : goal.search-requires
-search-requires c = let q = c.requires in
-    let h = c.loop-why.invariant.2 q.0 q.1 q.2 q.3 in
+search-requires c =
+    let q = c.requires in
+    let h = c.loop-searched.invariant.2 q.0 q.1 q.2 q.3 in
     (q.0, h.well_formed, _, h.state, h.under)
 
-pub shape_of-scratch-in-Stops : goal.shape_of-scratch-in-Stops
-shape_of-scratch-in-Stops c = c.search.auto.scratch ∙ c.loop-why.invariant.0
+pub returns-in-Err : goal.returns-in-Err
+returns-in-Err c = λ P R a i.
+    let h = c.loop-searched.invariant.2 P R a i in
+    round_stops h _ _ (c.search.ensures P h.well_formed _ h.state h.fuel h.under h.enough) _ c.in-Err.is c.stop_round.ensures
 
-pub shape_of-output-in-Stops : goal.shape_of-output-in-Stops
-shape_of-output-in-Stops c = c.loop-why.invariant.1
-
-pub returns-in-Stops : goal.returns-in-Stops
-returns-in-Stops c = λ P R a i.
-    let h = c.loop-why.invariant.2 P R a i in
-    let told = c.search.ensures P h.well_formed _ h.state h.fuel h.under h.enough in
-    rw c.broken.ensures (round_stops h _ _ told _ c.in-Stops.is c.end_of.ensures)
-
-pub completed-requires : goal.completed-requires
-completed-requires c = let q = c.requires in
-    let h = c.loop-why.invariant.2 q.0 q.1 q.2 q.3 in
-    let told = c.search.ensures q.0 h.well_formed _ h.state h.fuel h.under h.enough in
-    let o = over_held h _ _ told c.in-Over.is in
+pub complete-requires : goal.complete-requires
+complete-requires c =
+    let q = c.requires in
+    let h = c.loop-searched.invariant.2 q.0 q.1 q.2 q.3 in
+    let o = over_held h _ _ (c.search.ensures q.0 h.well_formed _ h.state h.fuel h.under h.enough) (c.in-Ok.is ∙ ap Ok c.in-Over.is) in
     (q.0, _, o.0, [], o.1)
-
-pub shape_of-scratch-in-Over : goal.shape_of-scratch-in-Over
-shape_of-scratch-in-Over c = c.completed.auto.scratch ∙ c.search.auto.scratch ∙ c.loop-why.invariant.0
-
-pub shape_of-output-in-Over : goal.shape_of-output-in-Over
-shape_of-output-in-Over c = c.loop-why.invariant.1
 
 pub returns-in-Over : goal.returns-in-Over
 returns-in-Over c = λ P R a i.
-    let h = c.loop-why.invariant.2 P R a i in
+    let h = c.loop-searched.invariant.2 P R a i in
     let told = c.search.ensures P h.well_formed _ h.state h.fuel h.under h.enough in
-    let over = c.in-Over.is in
+    let over = c.in-Ok.is ∙ ap Ok c.in-Over.is in
     let o = over_held h _ _ told over in
-    rw c.completed.ensures.0 (round_over h _ _ told over (c.completed.ensures.1 P _ o.0 [] o.1))
+    rw c.complete.ensures.0 (round_over h _ _ told over (c.complete.ensures.1 P _ o.0 [] o.1))
 
 pub give-requires : goal.give-requires
-give-requires c = let q = c.requires in
-    let h = c.loop-why.invariant.2 q.0 q.1 q.2 q.3 in
-    let told = c.search.ensures q.0 h.well_formed _ h.state h.fuel h.under h.enough in
-    let x = round_answers h _ _ told c.in-Answer.is in
+give-requires c =
+    let q = c.requires in
+    let h = c.loop-searched.invariant.2 q.0 q.1 q.2 q.3 in
+    let x = answers (goal.at.give-requires c).In-Answer q.3 in
     (q.0, x.path, x.choices, _, round_gives h x)
 
-pub shape_of-scratch-in-Ends : goal.shape_of-scratch-in-Ends
-shape_of-scratch-in-Ends c = c.give.auto.scratch ∙ c.search.auto.scratch ∙ c.loop-why.invariant.0
+pub returns-in_err-given-in-Answer : goal.returns-in_err-given-in-Answer
+returns-in_err-given-in-Answer c = λ P R a i.
+    let h = c.loop-searched.invariant.2 P R a i in
+    let x = answers (goal.at.returns-in_err-given-in-Answer c).In-Answer i in
+    let p = err_from_is_err_and c.from_residual.result c.from_residual.ensures.1 in
+    rw (p.1, p.2) (round_lost h x _ _ _ (c.in_err-given-in-Answer.ensures P _ x.path x.choices _ (round_gives h x)))
 
-pub shape_of-output-in-Ends : goal.shape_of-output-in-Ends
-shape_of-output-in-Ends c = c.give.auto.output ∙ c.loop-why.invariant.1
+pub complete-requires-in-None : goal.complete-requires-in-None
+complete-requires-in-None c =
+    let q = c.requires in
+    let h = c.loop-searched.invariant.2 q.0 q.1 q.2 q.3 in
+    let x = answers (goal.at.complete-requires-in-None c).In-Answer q.3 in
+    let o = last_given h x _ _ _ (c.in_ok-given-in-Answer.ensures q.0 _ x.path x.choices _ (round_gives h x)) c.in-None.is in
+    (q.0, _, o.path, [], o.held)
 
-pub returns-in-Ends : goal.returns-in-Ends
-returns-in-Ends c = λ P R a i.
-    let h = c.loop-why.invariant.2 P R a i in
-    let told = c.search.ensures P h.well_formed _ h.state h.fuel h.under h.enough in
-    let x = round_answers h _ _ told c.in-Answer.is in
-    let given = c.give.ensures P _ x.path x.choices _ (round_gives h x) in
-    round_ends h x _ _ _ given c.in-Ends.is
+pub returns-in-None : goal.returns-in-None
+returns-in-None c = λ P R a i.
+    let h = c.loop-searched.invariant.2 P R a i in
+    let x = answers (goal.at.returns-in-None c).In-Answer i in
+    let given = c.in_ok-given-in-Answer.ensures P _ x.path x.choices _ (round_gives h x) in
+    let o = last_given h x _ _ _ given c.in-None.is in
+    rw c.complete-in-None.ensures.0 (round_done h x _ _ _ given c.in-None.is (c.complete-in-None.ensures.1 P _ o.path [] o.held))
 
-pub loop-why-smaller : goal.loop-why-smaller
-loop-why-smaller c = let q = c.requires in
-    let h = c.loop-why.invariant.2 q.0 q.1 q.2 q.3 in
-    let told = c.search.ensures q.0 h.well_formed _ h.state h.fuel h.under h.enough in
-    let x = round_answers h _ _ told c.in-Answer.is in
-    let given = c.give.ensures q.0 _ x.path x.choices _ (round_gives h x) in
-    (round_goes h x _ _ _ given c.in-Goes.is).1
+pub loop-searched-smaller : goal.loop-searched-smaller
+loop-searched-smaller c =
+    let q = c.requires in
+    let h = c.loop-searched.invariant.2 q.0 q.1 q.2 q.3 in
+    let x = answers (goal.at.loop-searched-smaller c).In-Answer q.3 in
+    (round_goes h x _ _ _ (c.in_ok-given-in-Answer.ensures q.0 _ x.path x.choices _ (round_gives h x)) c.in-Some.is).1
 
-pub loop-why-preserved : goal.loop-why-preserved
-loop-why-preserved c = (
-  c.give.auto.scratch ∙ c.search.auto.scratch ∙ c.loop-why.invariant.0,
-  c.give.auto.output ∙ c.loop-why.invariant.1,
+pub loop-searched-preserved : goal.loop-searched-preserved
+loop-searched-preserved c = (
+  c.give.auto.scratch ∙ c.search.auto.scratch ∙ c.loop-searched.invariant.0,
+  c.give.auto.output ∙ c.loop-searched.invariant.1,
   λ P R a i.
-      let h = c.loop-why.invariant.2 P R a i in
-      let told = c.search.ensures P h.well_formed _ h.state h.fuel h.under h.enough in
-      let x = round_answers h _ _ told c.in-Answer.is in
-      let given = c.give.ensures P _ x.path x.choices _ (round_gives h x) in
-      (round_goes h x _ _ _ given c.in-Goes.is).0,
+      let h = c.loop-searched.invariant.2 P R a i in
+      let x = answers (goal.at.loop-searched-preserved c).In-Answer i in
+      (round_goes h x _ _ _ (c.in_ok-given-in-Answer.ensures P _ x.path x.choices _ (round_gives h x)) c.in-Some.is).0,
 )

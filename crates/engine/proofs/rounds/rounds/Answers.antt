@@ -1,72 +1,48 @@
 -- `rounds` runs round after round, as the definition's `rounds` says.
 use mathlib.Core.Path.{refl, ◌∙◌}
 use native.Mathlib.Omega.{arith}
-use Rattle.engine.proofs.RoundsLaws.{start_going, starting, told_broken, told_completed, broken_fewer, completed_fewer, broken_result, finished_result, rounds_result, next_going}
+use Rattle.rules.specs.Syntax.{Program, Relation}
+use Rattle.engine.specs.Rounds.{RunReady, BrokenAs, CompletedAs}
+use Rattle.engine.proofs.RoundsLaws.{start_going, starting, round_now, told_broken, told_completed, broken_fewer, completed_fewer, broken_result, finished_result, rounds_result, next_going}
 use Rattle.engine.proofs.rounds.rounds.Goals as goal
+use Rattle.engine.proofs.rounds.rounds.Goals.{In-Err, In-Ok}
 
-pub loop-end-init : goal.loop-end-init
-loop-end-init c = (refl, refl, start_going _ _ _ _ _ _ _ refl refl (omega arith))
+-- what the round came to
+broken : (c : In-Err) {P : Program} {R : Relation} (q : RunReady c.args.program.now c.args.scratch.now P c.args.query R c.args.limit) → BrokenAs c.round.new.output (round_now c.loop-broken.invariant.2 q) c.in-Err.broken.end c.in-Err.broken.tally
+broken c {P} {R} q = let g = c.loop-broken.invariant.2 in told_broken g q _ _ _ (c.in-Err.ensures P R _ (starting g q))
+
+completed : (c : In-Ok) {P : Program} {R : Relation} (q : RunReady c.args.program.now c.args.scratch.now P c.args.query R c.args.limit)
+    → CompletedAs c.args.program.now c.round.new.scratch c.round.new.output P (round_now c.loop-broken.invariant.2 q) c.in-Ok.completed.tally c.in-Ok.completed.cuts
+completed c {P} {R} q = let g = c.loop-broken.invariant.2 in told_completed g q _ _ _ (c.in-Ok.ensures P R _ (starting g q))
+
+pub loop-broken-init : goal.loop-broken-init
+loop-broken-init c = (refl, refl, start_going _ _ _ _ _ _ _ refl refl (omega arith))
 
 pub round-requires : goal.round-requires
-round-requires c = let q = c.requires in (q.0, q.1, _, starting c.loop-end.invariant.2 q.2)
+round-requires c = let q = c.requires in (q.0, q.1, _, starting c.loop-broken.invariant.2 q.2)
 
 pub report-requires : goal.report-requires
-report-requires c = let q = c.requires in
-    let g = c.loop-end.invariant.2 in
-    let o = told_broken g q.2 _ _ (c.round.ensures q.0 q.1 _ (starting g q.2)) c.in-Broken.is in
-    broken_fewer g q.2 o
+report-requires c = let q = c.requires.2 in broken_fewer c.loop-broken.invariant.2 q (broken (goal.at.report-requires c).In-Err q)
 
-pub shape_of-scratch-in-Broken : goal.shape_of-scratch-in-Broken
-shape_of-scratch-in-Broken c = c.round.auto.scratch ∙ c.loop-end.invariant.0
+pub returns-in-Err : goal.returns-in-Err
+returns-in-Err c = λ P R q. broken_result c.loop-broken.invariant.2 q (broken (goal.at.returns-in-Err c).In-Err q) c.report.ensures
 
-pub shape_of-output-in-Broken : goal.shape_of-output-in-Broken
-shape_of-output-in-Broken c = c.round.auto.output ∙ c.loop-end.invariant.1
+pub report-requires-then-cut-eq0 : goal.report-requires-then-cut-eq0
+report-requires-then-cut-eq0 c = let q = c.requires.2 in completed_fewer c.loop-broken.invariant.2 q (completed (goal.at.report-requires-then-cut-eq0 c).In-Ok q)
 
-pub returns-in-Broken : goal.returns-in-Broken
-returns-in-Broken c = λ P R q.
-    let g = c.loop-end.invariant.2 in
-    let o = told_broken g q _ _ (c.round.ensures P R _ (starting g q)) c.in-Broken.is in
-    broken_result g q o c.report.ensures
-
-pub report-requires-then-cuts-eq0 : goal.report-requires-then-cuts-eq0
-report-requires-then-cuts-eq0 c = let q = c.requires in
-    let g = c.loop-end.invariant.2 in
-    let o = told_completed g q.2 _ _ (c.round.ensures q.0 q.1 _ (starting g q.2)) c.in-Completed.is in
-    completed_fewer g q.2 o
-
-pub shape_of-scratch-then-cuts-eq0 : goal.shape_of-scratch-then-cuts-eq0
-shape_of-scratch-then-cuts-eq0 c = c.round.auto.scratch ∙ c.loop-end.invariant.0
-
-pub shape_of-output-then-cuts-eq0 : goal.shape_of-output-then-cuts-eq0
-shape_of-output-then-cuts-eq0 c = c.round.auto.output ∙ c.loop-end.invariant.1
-
-pub returns-then-cuts-eq0 : goal.returns-then-cuts-eq0
-returns-then-cuts-eq0 c = λ P R q.
-    let g = c.loop-end.invariant.2 in
-    let o = told_completed g q _ _ (c.round.ensures P R _ (starting g q)) c.in-Completed.is in
-    finished_result g q o c.if-cuts-eq0.true c.report-then-cuts-eq0.ensures
+pub returns-then-cut-eq0 : goal.returns-then-cut-eq0
+returns-then-cut-eq0 c = λ P R q. finished_result c.loop-broken.invariant.2 q (completed (goal.at.returns-then-cut-eq0 c).In-Ok q) c.if-cut-eq0.true c.report-then-cut-eq0.ensures
 
 pub report-requires-then-limit-number : goal.report-requires-then-limit-number
-report-requires-then-limit-number c = let q = c.requires in
-    let g = c.loop-end.invariant.2 in
-    let o = told_completed g q.2 _ _ (c.round.ensures q.0 q.1 _ (starting g q.2)) c.in-Completed.is in
-    completed_fewer g q.2 o
-
-pub shape_of-scratch-then-limit-number : goal.shape_of-scratch-then-limit-number
-shape_of-scratch-then-limit-number c = c.round.auto.scratch ∙ c.loop-end.invariant.0
-
-pub shape_of-output-then-limit-number : goal.shape_of-output-then-limit-number
-shape_of-output-then-limit-number c = c.round.auto.output ∙ c.loop-end.invariant.1
+report-requires-then-limit-number c = let q = c.requires.2 in completed_fewer c.loop-broken.invariant.2 q (completed (goal.at.report-requires-then-limit-number c).In-Ok q)
 
 pub returns-then-limit-number : goal.returns-then-limit-number
 returns-then-limit-number c = λ P R q.
-    let g = c.loop-end.invariant.2 in
-    let o = told_completed g q _ _ (c.round.ensures P R _ (starting g q)) c.in-Completed.is in
-    rounds_result g q o c.if-cuts-eq0.false c.if-limit-number.true c.report-then-limit-number.ensures
+    rounds_result c.loop-broken.invariant.2 q (completed (goal.at.returns-then-limit-number c).In-Ok q) c.if-cut-eq0.false c.if-limit-number.true c.report-then-limit-number.ensures
 
-pub loop-end-preserved : goal.loop-end-preserved
-loop-end-preserved c = let g = c.loop-end.invariant.2 in (
-  c.round.auto.scratch ∙ c.loop-end.invariant.0,
-  c.round.auto.output ∙ c.loop-end.invariant.1,
-  next_going g (λ P R q. told_completed g q _ _ (c.round.ensures P R _ (starting g q)) c.in-Completed.is) c.if-cuts-eq0.false c.if-limit-number.false,
+pub loop-broken-preserved : goal.loop-broken-preserved
+loop-broken-preserved c = (
+  c.round.auto.scratch ∙ c.loop-broken.invariant.0,
+  c.round.auto.output ∙ c.loop-broken.invariant.1,
+  next_going c.loop-broken.invariant.2 (λ P R q. completed (goal.at.loop-broken-preserved c).In-Ok q) c.if-cut-eq0.false c.if-limit-number.false,
 )

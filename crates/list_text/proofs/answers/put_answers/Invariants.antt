@@ -9,8 +9,8 @@ use Rattle.list_text.specs.Listing.{line}
 use Rattle.list_text.proofs.TextLaws.{Left}
 use Rattle.list_text.proofs.answers.put_answers.Given as goal
 
-abbrev pub invariant-loop-end : goal.invariant-loop-end
-invariant-loop-end l = (l.i ≤ length l.page) × (l.next ≤ l.at + 13 * l.i) × Left (joined (map line (answers_on l.page))) l.at l.initial.out (joined (map line (answers_left l.page l.i))) l.next l.out × (length l.out ≡ length l.initial.out)
+abbrev pub invariant-loop-part : goal.invariant-loop-part
+invariant-loop-part l = (l.i ≤ length l.page) × (l.next ≤ l.at + 13 * l.i) × Left (joined (map line (answers_on l.page))) l.at l.initial.out (joined (map line (answers_left l.page l.i))) l.next l.out × (length l.out ≡ length l.initial.out)
 
-abbrev pub decreases-loop-end : goal.decreases-loop-end
-decreases-loop-end l = length l.page - l.i
+abbrev pub decreases-loop-part : goal.decreases-loop-part
+decreases-loop-part l = length l.page - l.i

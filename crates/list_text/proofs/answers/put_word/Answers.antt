@@ -10,10 +10,10 @@ use Rattle.list_text.proofs.TextLaws.{behind}
 use Rattle.list_text.proofs.answers.put_word.Goals as goal
 use Rattle.list_text.proofs.answers.put_word.Goals.{After-payload-payload}
 
-kind_is : (c : After-payload-payload) → c.kind-kind.result ≡ kind c.args.bits
-kind_is c = c.kind-kind.ensures ∙ ap kind c.from_bits-word.ensures
+kind_is : (c : After-payload-payload) → c.number-kind.result ≡ kind c.args.bits
+kind_is c = c.number-kind.ensures ∙ c.kind.ensures ∙ ap kind c.from_bits-word.ensures
 
-kind_short : (c : After-payload-payload) → length (decimal c.kind-kind.result) ≤ 2
+kind_short : (c : After-payload-payload) → length (decimal c.number-kind.result) ≤ 2
 kind_short c = decimal_short 1 _ (omega (arith, (kind_is c), c.ranges.bits))
 
 payload_is : (c : After-payload-payload) → c.payload-payload.result ≡ payload c.args.bits

@@ -1,6 +1,5 @@
 -- The digits before the last, then the last.
 use Prim.Native.Nat.{ℕ, ◌+◌, ◌/◌, ◌%◌, ◌<◌}
-use mathlib.Core.Path.{◌∙◌}
 use mathlib.Core.List.{[], ◌∷◌}
 use native.Mathlib.Omega.{arith}
 use lib.ListN.{length, length-append}
@@ -19,9 +18,6 @@ room_at t c = let n = c.args.n in
 pub put_byte-requires : goal.put_byte-requires
 put_byte-requires t c = let room = rw (one_digit c.args.n c.if-n-lt10.true) at c.requires in omega arith
 
-pub shape_of-out-then-n-lt10 : goal.shape_of-out-then-n-lt10
-shape_of-out-then-n-lt10 t c = c.put_byte.auto.out
-
 pub returns-then-n-lt10 : goal.returns-then-n-lt10
 returns-then-n-lt10 t c = rw (one_digit _ c.if-n-lt10.true) c.put_byte.ensures
 
@@ -32,9 +28,6 @@ put_number-last-requires t c =
 pub put_byte-requires-2 : goal.put_byte-requires-2
 put_byte-requires-2 t c =
     omega (arith, (room_at t (goal.at.put_byte-requires-2 t c).Else-n-lt10), c.put_number-last.ensures.is_next)
-
-pub shape_of-out : goal.shape_of-out
-shape_of-out t c = c.put_byte-2.auto.out ∙ c.put_number-last.auto.out
 
 pub returns : goal.returns
 returns t c = rw (more_digits _ c.if-n-lt10.false) (behind c.put_number-last.ensures c.put_byte-2.ensures)

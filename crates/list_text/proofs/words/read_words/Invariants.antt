@@ -1,12 +1,8 @@
 -- Word after word, as the definition has them.
-use Prim.Native.Nat.{◌-◌, ◌≤◌}
 use mathlib.Core.Path.{◌≡◌}
 use lib.ListN.{length, take}
 use Rattle.list_text.specs.Listing.{whole_words}
 use Rattle.list_text.proofs.words.read_words.Given as goal
 
 abbrev pub invariant-loop-i : goal.invariant-loop-i
-invariant-loop-i l = (l.i ≤ l.count) × (length l.words ≡ length l.initial.words) × (take l.i l.words ≡ take l.i (whole_words l.bytes))
-
-abbrev pub decreases-loop-i : goal.decreases-loop-i
-decreases-loop-i l = l.count - l.i
+invariant-loop-i l = (length l.words ≡ length l.initial.words) × (take l.i l.words ≡ take l.i (whole_words l.bytes))

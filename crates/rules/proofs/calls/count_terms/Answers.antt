@@ -3,14 +3,8 @@ use native.Mathlib.Omega.{arith}
 use Rattle.rules.proofs.Pass.{term_first, term_rest, terms_none}
 use Rattle.rules.proofs.calls.count_terms.Goals as goal
 
-pub loop-at-init : goal.loop-at-init
-loop-at-init c = (omega arith, λ ts h. (ts, h, omega arith))
-
 pub skip_term-at-requires : goal.skip_term-at-requires
 skip_term-at-requires c = term_first _ _ _ _ (c.loop-at.invariant.1 c.requires.0 c.requires.1).1 c.loop-at-test.true
-
-pub overflow_add-count : goal.overflow_add-count
-overflow_add-count c = omega (arith, c.loop-at.invariant.0, c.loop-at-test.true)
 
 pub loop-at-smaller : goal.loop-at-smaller
 loop-at-smaller c = omega (arith, c.loop-at-test.true, (term_rest _ _ _ _ _ (c.loop-at.invariant.1 c.requires.0 c.requires.1).1 c.loop-at-test.true c.skip_term-at.ensures).3)

@@ -11,11 +11,11 @@ pub record Going (ws : List ℕ) (vars start end at : ℕ) : Type 0 where
   pub forward : start ≤ at
   pub whole : (o : ReadOutcome) → GoalsTold ws vars at end o → GoalsTold ws vars start end o
 
-abbrev pub invariant-read_goals-loop-c : goal.invariant-read_goals-loop-c
-invariant-read_goals-loop-c l = Going l.program l.vars l.start l.end l.at
+abbrev pub invariant-read_goals-loop-at : goal.invariant-read_goals-loop-at
+invariant-read_goals-loop-at l = Going l.program l.vars l.start l.end l.at
 
-abbrev pub decreases-read_goals-loop-c : goal.decreases-read_goals-loop-c
-decreases-read_goals-loop-c l = l.end - l.at
+abbrev pub decreases-read_goals-loop-at : goal.decreases-read_goals-loop-at
+decreases-read_goals-loop-at l = l.end - l.at
 
 abbrev pub decreases-read_goal : goal.decreases-read_goal
 decreases-read_goal l = 2 * (l.end - l.at)

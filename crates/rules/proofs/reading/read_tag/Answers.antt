@@ -1,9 +1,7 @@
 -- `read_tag` reads a tag as `read_tag` says.
-use Rattle.rules.proofs.Readers.{tag_symbol, tag_number}
+use Rattle.std.proofs.Common.{rules, of_calls}
+use Rattle.rules.proofs.Readers.{tag_told}
 use Rattle.rules.proofs.reading.read_tag.Goals as goal
 
-pub returns-in-Done : goal.returns-in-Done
-returns-in-Done c = tag_symbol _ _ _ _ (rw c.in-Done.is at c.read_word.ensures)
-
-pub returns-in-Refused : goal.returns-in-Refused
-returns-in-Refused c = tag_number _ _ _ _ _ _ (rw c.in-Refused.is at c.read_word.ensures) c.read_word-in-Refused.ensures
+pub returns : goal.returns
+returns c = tag_told _ _ _ _ _ _ c.read_word.ensures c.or_else.ensures (λ e p. search (rules, of_calls))

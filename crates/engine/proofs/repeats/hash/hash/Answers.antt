@@ -1,26 +1,24 @@
 -- `hash`: the words that are left, hashed from where it is, come to the hash of all.
-use mathlib.Core.Path.{refl}
+use Prim.Native.Nat.{ℕ, ◌+◌, ◌*◌, ◌<◌, ◌≤◌}
+use mathlib.Core.Path.{◌≡◌, refl, sym, ap, ◌∙◌}
+use mathlib.Core.List.{List}
 use native.Mathlib.Omega.{arith}
-use Rattle.engine.proofs.HashLaws.{hashing_next, hashing_end}
+use native.Mathlib.Numerals.{add-one}
+use lib.ListN.{length, get_or, drop, drop_of_length-le}
+use lib.Seq.{drop-cons}
+use Rattle.engine.specs.Index.{fold_halves, hash_from}
 use Rattle.engine.proofs.repeats.hash.hash.Goals as goal
 
-pub loop-at-init : goal.loop-at-init
-loop-at-init c = (omega arith, λ v h. record { rest = v; here = h; is = refl })
+one_more : (hash : ℕ) (words : List ℕ) (i : ℕ) → i < length words → hash_from (fold_halves ((hash + get_or words i 0) * 708568507)) (drop (i + 1) words) ≡ hash_from hash (drop i words)
+unfolding hash_from
+one_more hash words i l = rw (add-one, drop-cons words i 0) refl
 
-pub overflow_cast-product : goal.overflow_cast-product
-overflow_cast-product c = omega (arith, c.shared_slice_known-1.given c.loop-at.at)
+none_left : (hash : ℕ) (words : List ℕ) (i : ℕ) → length words ≤ i → hash ≡ hash_from hash (drop i words)
+unfolding hash_from
+none_left hash words i l = ap (hash_from hash) (sym (drop_of_length-le words l))
 
-pub overflow_add-product : goal.overflow_add-product
-overflow_add-product c = omega (arith, c.shared_slice_known-1.given c.loop-at.at)
-
-pub overflow_mul-product : goal.overflow_mul-product
-overflow_mul-product c = omega (arith, c.shared_slice_known-1.given c.loop-at.at)
-
-pub overflow_add-hash : goal.overflow_add-hash
-overflow_add-hash c = omega (arith, c.shared_slice_known-1.given c.loop-at.at)
-
-pub loop-at-preserved : goal.loop-at-preserved
-loop-at-preserved c = (omega (arith, c.shared_slice_known-1.given c.loop-at.at), λ v h. hashing_next (c.loop-at.invariant.1 v h) c.loop-at-test.true)
+pub loop-word-preserved : goal.loop-word-preserved
+loop-word-preserved c = let l = c.loop-word in (omega (arith, c.type_inv.words l.word-index), one_more l.hash c.args.words.now l.word-index c.loop-word-test.true ∙ l.invariant.1)
 
 pub returns : goal.returns
-returns c = λ v h. hashing_end (c.loop-at.invariant.1 v h) c.loop-at-test.false
+returns c = let l = c.loop-word in none_left l.hash c.args.words.now l.word-index c.loop-word-test.false ∙ l.invariant.1

@@ -11,20 +11,11 @@ use Rattle.engine.proofs.repeats.repeated.repeated.Goals.{After-enter}
 told : (c : After-enter) → (ws : List (List ℕ)) (v : List ℕ) → (let a = c.args in Comparing a.output.now a.used a.next a.end a.index ws v → EnteredAs a.output.now c.enter.new.output (a.end - a.index) a.index ws v c.enter.result)
 told c = λ ws v g. c.enter.ensures ws v (comparing_seek g c.if-size-eq0.false c.if-end-behind.false)
 
-pub compare_all-requires : goal.compare_all-requires
-compare_all-requires c = let q = c.requires in (q.0, (q.1.0, q.1.1, comparing_all q.1.2 (untouched _ _ _)))
-
 pub returns-then-size-eq0 : goal.returns-then-size-eq0
 returns-then-size-eq0 c = λ ws v g. compared_from g (untouched _ _ _) (c.compare_all.ensures ws v (comparing_all g (untouched _ _ _)))
 
-pub compare_all-requires-then-end-behind : goal.compare_all-requires-then-end-behind
-compare_all-requires-then-end-behind c = let q = c.requires in (q.0, (q.1.0, q.1.1, comparing_all q.1.2 (untouched _ _ _)))
-
 pub returns-then-end-behind : goal.returns-then-end-behind
 returns-then-end-behind c = λ ws v g. compared_from g (untouched _ _ _) (c.compare_all-then-end-behind.ensures ws v (comparing_all g (untouched _ _ _)))
-
-pub enter-requires : goal.enter-requires
-enter-requires c = let q = c.requires.1 in (q.0, q.1, comparing_seek q.2 c.if-size-eq0.false c.if-end-behind.false)
 
 pub fitted-requires : goal.fitted-requires
 fitted-requires c =

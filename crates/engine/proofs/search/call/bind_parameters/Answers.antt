@@ -1,36 +1,33 @@
 -- `bind_parameters` binds the parameters one after the other: the invariant is that the arguments left lead to the same substitution.
-use mathlib.Core.Path.{refl}
+use Prim.Native.Nat.{◌+◌, ◌-◌}
 use native.Mathlib.Omega.{arith}
-use lib.ListN.{length-set}
-use Rattle.engine.proofs.ArgumentLaws.{pass_first, pass_step, pass_end}
+use Rattle.engine.specs.Call.{BindingParameters}
+use Rattle.engine.proofs.ArgumentLaws.{First, pass_first, pass_step, pass_end}
 use Rattle.engine.proofs.search.call.bind_parameters.Goals as goal
+use Rattle.engine.proofs.search.call.bind_parameters.Goals.{In-loop-i}
 
-pub loop-left-init : goal.loop-left-init
-loop-left-init c = (refl, λ base to whole h. h)
+-- the parameters that are left, as the caller has them
+passing : (c : In-loop-i) → (let q = c.requires in BindingParameters c.args.program.now c.args.scratch.now c.loop-i.scratch q.0 q.1 q.2 (c.args.first + c.loop-i.i) c.loop-i.bound c.loop-i.at (c.args.count - c.loop-i.i))
+passing c = let q = c.requires in c.loop-i.invariant q.0 q.1 q.2 q.3
+
+first : (c : In-loop-i) → (let q = c.requires in First c.args.program.now c.loop-i.scratch q.0 q.1 (c.args.first + c.loop-i.i) c.loop-i.bound c.loop-i.at (passing c).args)
+first c = pass_first (passing c) (omega (arith, c.loop-i-test.true))
 
 pub last_variable-term-requires : goal.last_variable-term-requires
-last_variable-term-requires c = let q = (pass_first _ _ _ _ _ _ _ _ _ _ (c.loop-left.invariant.1 c.requires.0 c.requires.1 c.requires.2 c.requires.3) c.loop-left-test.true) in (q.now_bound, _, q.follows)
+last_variable-term-requires c = let x = first (goal.at.last_variable-term-requires c).In-loop-i in (x.now_bound, _, x.follows)
 
 pub bind-bound-requires : goal.bind-bound-requires
-bind-bound-requires c = let q = (pass_first _ _ _ _ _ _ _ _ _ _ (c.loop-left.invariant.1 c.requires.0 c.requires.1 c.requires.2 c.requires.3) c.loop-left-test.true) in ((c.loop-left.invariant.1 c.requires.0 c.requires.1 c.requires.2 c.requires.3).long, q.is_new, q.room, (c.last_variable-term.ensures _ _ q.follows).below)
+bind-bound-requires c =
+    let l = (goal.at.bind-bound-requires c).In-loop-i in
+    let x = first l in
+    ((passing l).long, x.is_new, x.room, (c.last_variable-term.ensures _ _ x.follows).below)
 
 pub skip-at-requires : goal.skip-at-requires
-skip-at-requires c = let q = (pass_first _ _ _ _ _ _ _ _ _ _ (c.loop-left.invariant.1 c.requires.0 c.requires.1 c.requires.2 c.requires.3) c.loop-left-test.true) in (_, q.follows.stands)
+skip-at-requires c = let x = first (goal.at.skip-at-requires c).In-loop-i in (_, x.follows.stands)
 
-pub overflow_add-variable : goal.overflow_add-variable
-overflow_add-variable c = omega (arith, (pass_first _ _ _ _ _ _ _ _ _ _ (c.loop-left.invariant.1 c.requires.0 c.requires.1 c.requires.2 c.requires.3) c.loop-left-test.true).is_new)
-
-pub overflow_sub-left : goal.overflow_sub-left
-overflow_sub-left c = omega (arith, c.loop-left-test.true)
-
-pub loop-left-smaller : goal.loop-left-smaller
-loop-left-smaller c = omega (arith, c.loop-left-test.true)
-
-pub loop-left-preserved : goal.loop-left-preserved
-loop-left-preserved c = (rw c.bind-bound.ensures.1 (simp length-set c.loop-left.invariant.0), λ base to whole h. pass_step _ _ _ base to whole _ _ _ _ _ _ _ _ (c.loop-left.invariant.1 base to whole h) c.loop-left-test.true c.last_variable-term.ensures c.skip-at.ensures c.bind-bound.ensures.0 c.bind-bound.ensures.1)
-
-pub shape_of-scratch : goal.shape_of-scratch
-shape_of-scratch c = c.loop-left.invariant.0
+pub loop-i-preserved : goal.loop-i-preserved
+loop-i-preserved c =
+    λ base to whole h. pass_step (c.loop-i.invariant base to whole h) (omega arith) (omega (arith, c.loop-i-test.true)) c.last_variable-term.ensures c.skip-at.ensures c.bind-bound.ensures.0 c.bind-bound.ensures.1
 
 pub returns : goal.returns
-returns c = λ base to whole h. pass_end _ _ _ base to whole _ _ _ _ (c.loop-left.invariant.1 base to whole h) c.loop-left-test.false
+returns c = λ base to whole h. pass_end (c.loop-i.invariant base to whole h) (omega (arith, c.loop-i-test.false))

@@ -1,30 +1,18 @@
 -- `review_differ` unifies on trial, and undoes the trial's bindings whatever it came to.
-use Rattle.engine.proofs.ReviewSteps.{trial_joined, trial_failed, trial_stepped, trial_pathed, differ_fails, differ_holds, differ_clash, differ_steps, differ_path}
+use Rattle.std.proofs.lemmas.Result.{err_from_is_err_and}
+use Rattle.engine.proofs.ReviewSteps.{trial, differ_stops, differ_joined, differ_failed}
 use Rattle.engine.proofs.terms.review.review_differ.Goals as goal
 
 pub undo-requires : goal.undo-requires
-undo-requires c = let p = c.requires in let t = trial_joined c.args.left p.3 _ _ (c.unify.ensures p.0 p.1 p.2 p.3) c.in-Joined.is in (c.args.program.now, t.new, p.0, t.trailed)
+undo-requires c = let p = c.requires in let t = trial c.args.left p.3 _ _ (c.unify-trial.ensures p.0 p.1 p.2 p.3) in (c.args.program.now, t.new, p.0, t.trailed)
 
-pub returns-then-grown-trail : goal.returns-then-grown-trail
-returns-then-grown-trail c = λ bs u v m. differ_fails c.args.left m _ _ (c.unify.ensures bs u v m) _ _ c.undo.ensures c.in-Joined.is c.if-grown-trail.true
+pub returns-in_err-joined : goal.returns-in_err-joined
+returns-in_err-joined c =
+    let p = err_from_is_err_and c.from_residual.result c.from_residual.ensures.1 in
+    rw (p.1, p.2) (λ bs u v m. differ_stops c.args.left m _ _ (c.unify-trial.ensures bs u v m) _ c.undo.ensures _ c.in_err-joined.was)
 
-pub undo-requires-in-Failed : goal.undo-requires-in-Failed
-undo-requires-in-Failed c = let p = c.requires in let t = trial_failed c.args.left p.3 _ _ (c.unify.ensures p.0 p.1 p.2 p.3) c.in-Failed.is in (c.args.program.now, t.new, p.0, t.trailed)
+pub returns-then-joined : goal.returns-then-joined
+returns-then-joined c = λ bs u v m. differ_joined c.args.left m _ _ (c.unify-trial.ensures bs u v m) _ c.undo.ensures _ _ c.in_ok-joined.was c.if-joined.true
 
-pub undo-requires-in-StepsOut : goal.undo-requires-in-StepsOut
-undo-requires-in-StepsOut c = let p = c.requires in let t = trial_stepped c.args.left p.3 _ _ (c.unify.ensures p.0 p.1 p.2 p.3) c.in-StepsOut.is in (c.args.program.now, t.new, p.0, t.trailed)
-
-pub undo-requires-in-WaitingOut : goal.undo-requires-in-WaitingOut
-undo-requires-in-WaitingOut c = let p = c.requires in let t = trial_pathed c.args.left p.3 _ _ (c.unify.ensures p.0 p.1 p.2 p.3) c.in-WaitingOut.is in (c.args.program.now, t.new, p.0, t.trailed)
-
-pub returns-else-grown-trail : goal.returns-else-grown-trail
-returns-else-grown-trail c = λ bs u v m. differ_holds c.args.left m _ _ (c.unify.ensures bs u v m) _ _ c.undo.ensures c.in-Joined.is c.if-grown-trail.false
-
-pub returns-in-Failed : goal.returns-in-Failed
-returns-in-Failed c = λ bs u v m. differ_clash c.args.left m _ _ (c.unify.ensures bs u v m) _ _ c.undo-in-Failed.ensures c.in-Failed.is
-
-pub returns-in-StepsOut : goal.returns-in-StepsOut
-returns-in-StepsOut c = λ bs u v m. differ_steps c.args.left m _ _ (c.unify.ensures bs u v m) _ _ c.undo-in-StepsOut.ensures c.in-StepsOut.is
-
-pub returns-in-WaitingOut : goal.returns-in-WaitingOut
-returns-in-WaitingOut c = λ bs u v m. differ_path c.args.left m _ _ (c.unify.ensures bs u v m) _ _ c.undo-in-WaitingOut.ensures c.in-WaitingOut.is
+pub returns-else-joined : goal.returns-else-joined
+returns-else-joined c = λ bs u v m. differ_failed c.args.left m _ _ (c.unify-trial.ensures bs u v m) _ c.undo.ensures _ _ c.in_ok-joined.was c.if-joined.false

@@ -8,6 +8,3 @@ use Rattle.engine.proofs.terms.trail.undo.Given as goal
 
 abbrev pub invariant-loop-top : goal.invariant-loop-top
 invariant-loop-top l = (ws : List ℕ) (new bs : Substitution) → Trailed ws l.initial.scratch new bs l.mark l.trail → Undoing ws l.initial.scratch l.scratch bs l.mark l.top
-
-abbrev pub decreases-loop-top : goal.decreases-loop-top
-decreases-loop-top l = l.top

@@ -1,4 +1,4 @@
-use Prim.Native.Nat.{ℕ, ◌-◌}
+use Prim.Native.Nat.{ℕ}
 use mathlib.Core.List.{List}
 use Rattle.rules.specs.Syntax.{Term}
 use Rattle.semantics.specs.Answer.{bindings_in}
@@ -9,6 +9,3 @@ use Rattle.engine.proofs.writer.line.equations_named.Given as goal
 
 abbrev pub invariant-loop-i : goal.invariant-loop-i
 invariant-loop-i l = (cs : List (ℕ × Term)) (names : List ℕ) → EquationsIn l.program l.scratch l.mark l.count cs → NamesGiven l.scratch names → Checking l.program l.scratch l.mark l.count l.i names (bindings_in names cs)
-
-abbrev pub decreases-loop-i : goal.decreases-loop-i
-decreases-loop-i l = l.count - l.i

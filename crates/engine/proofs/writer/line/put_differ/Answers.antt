@@ -11,14 +11,12 @@ returns-then-count-eq1 c = λ b cs names h g. differ_one names b cs h.count_is c
 pub returns-then-end-start : goal.returns-then-end-start
 returns-then-end-start c = λ b cs names h g. differ_full names b cs h.count_is c.if-count-eq1.false c.if-end-start.true
 
-pub put_equations-requires-2 : goal.put_equations-requires-2
-put_equations-requires-2 c = let q = c.requires in (q.0 ∷ q.1, q.2, q.3, puts_at q.4 refl (omega (arith, c.if-end-start.false)) q.4.known)
-
-pub returns-in-Missed : goal.returns-in-Missed
-returns-in-Missed c = λ b cs names h g. differ_missed names b cs h.count_is c.if-count-eq1.false (c.put_equations-2.ensures (b ∷ cs) names h (puts_at g refl (omega (arith, c.if-end-start.false)) g.known)) c.in-Missed.is
+pub returns-in_err-next : goal.returns-in_err-next
+returns-in_err-next c = rw c.from_residual.ensures (λ b cs names h g.
+    differ_missed names b cs h.count_is c.if-count-eq1.false (c.put_equations-2.ensures (b ∷ cs) names h (puts_at g refl (omega (arith, c.if-end-start.false)) g.known)) c.in_err-next.was)
 
 pub put_head-requires : goal.put_head-requires
-put_head-requires c = let q = c.requires in let d = laid_of (c.put_equations-2.ensures (q.0 ∷ q.1) q.2 q.3 (puts_at q.4 refl (omega (arith, c.if-end-start.false)) q.4.known)) c.in-End.is in (omega (arith, d.is), laid_room q.4.room d, omega arith)
+put_head-requires c = let q = c.requires in let d = laid_of (c.put_equations-2.ensures (q.0 ∷ q.1) q.2 q.3 (puts_at q.4 refl (omega (arith, c.if-end-start.false)) q.4.known)) c.in_ok-next.was in (omega (arith, d.is), laid_room q.4.room d)
 
-pub returns-in-End : goal.returns-in-End
-returns-in-End c = λ b cs names h g. differ_put names b cs h.count_is c.if-count-eq1.false (c.put_head.ensures _ _ _ (laid_of (c.put_equations-2.ensures (b ∷ cs) names h (puts_at g refl (omega (arith, c.if-end-start.false)) g.known)) c.in-End.is))
+pub returns : goal.returns
+returns c = λ b cs names h g. differ_put names b cs h.count_is c.if-count-eq1.false (c.put_head.ensures _ _ _ (laid_of (c.put_equations-2.ensures (b ∷ cs) names h (puts_at g refl (omega (arith, c.if-end-start.false)) g.known)) c.in_ok-next.was))

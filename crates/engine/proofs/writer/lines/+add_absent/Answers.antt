@@ -1,7 +1,6 @@
 use Prim.Native.Nat.{ℕ}
-use mathlib.Core.Path.{sym, refl}
 use native.Mathlib.Omega.{arith}
-use Rattle.engine.proofs.LinesLaws.{AbsentFor, absent_start, absent_as, absent_add, absent_leaf, absent_pair, absent_first, absent_next, page_long}
+use Rattle.engine.proofs.LinesLaws.{AbsentFor, absent_start, absent_as, absent_add, absent_leaf, absent_pair, absent_first, absent_next}
 use Rattle.engine.proofs.writer.lines.+add_absent.Goals as goal
 use Rattle.engine.proofs.writer.lines.+add_absent.Goals.{At-loop-x}
 
@@ -20,16 +19,8 @@ pub add_line-requires : goal.add_line-requires
 add_line-requires t c =
     let h = now_at t (goal.at.add_line-requires t c).At-loop-x in (h.rest.writing, (_, absent_as h c.follow.ensures c.in-Open.is))
 
-pub shape_of-output-in-Open : goal.shape_of-output-in-Open
-shape_of-output-in-Open t c =
-    let h = now_at t (goal.at.shape_of-output-in-Open t c).At-loop-x in page_long c.requires.writing.page (absent_add h c.follow.ensures c.in-Open.is c.add_line.ensures) refl
-
 pub returns-in-Open : goal.returns-in-Open
 returns-in-Open t c = λ g. absent_add (c.loop-x.invariant.1 g) c.follow.ensures c.in-Open.is c.add_line.ensures
-
-pub shape_of-output-in-Atom : goal.shape_of-output-in-Atom
-shape_of-output-in-Atom t c =
-    let h = now_at t (goal.at.shape_of-output-in-Atom t c).At-loop-x in page_long c.requires.writing.page h.rest.writing.page (sym h.is_before)
 
 pub returns-in-Atom : goal.returns-in-Atom
 returns-in-Atom t c = λ g. absent_leaf (c.loop-x.invariant.1 g) c.follow.ensures c.in-Atom.is

@@ -1,4 +1,4 @@
-use Rattle.engine.proofs.LinesLaws.{typed_as, typed_add, typed_leaf, typed_pair}
+use Rattle.engine.proofs.LinesLaws.{typed_as, typed_add, typed_other}
 use Rattle.engine.proofs.writer.lines.add_typed.Goals as goal
 
 pub add_line-requires : goal.add_line-requires
@@ -7,8 +7,5 @@ add_line-requires c = let g = c.requires in (g.writing, (_, typed_as g c.follow.
 pub returns-in-Open : goal.returns-in-Open
 returns-in-Open c = λ g. typed_add g c.follow.ensures c.in-Open.is c.add_line.ensures
 
-pub returns-in-Atom : goal.returns-in-Atom
-returns-in-Atom c = λ g. typed_leaf g c.follow.ensures c.in-Atom.is
-
-pub returns-in-Pair : goal.returns-in-Pair
-returns-in-Pair c = λ g. typed_pair g c.follow.ensures c.in-Pair.is
+pub returns : goal.returns
+returns c = λ g. typed_other g c.follow.ensures c.in_default.not-Open

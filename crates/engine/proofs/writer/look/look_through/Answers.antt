@@ -1,15 +1,12 @@
 -- `look_through` is a scan that finds nothing.
-use Rattle.engine.proofs.LookLaws.{look_found, look_clear, look_steps, look_path}
+use Rattle.std.proofs.lemmas.Result.{err_from_is_err_and}
+use Rattle.engine.proofs.LookLaws.{look_done, look_stops}
 use Rattle.engine.proofs.writer.look.look_through.Goals as goal
 
-pub returns-in-StepsOut : goal.returns-in-StepsOut
-returns-in-StepsOut c = λ bs t f. look_steps bs t _ _ (c.scan.ensures bs t f) c.in-StepsOut.is
+pub returns-in_err-left : goal.returns-in_err-left
+returns-in_err-left c =
+    let p = err_from_is_err_and c.from_residual.result c.from_residual.ensures.1 in
+    rw (p.1, p.2) (λ bs t f. look_stops bs t _ _ (c.in_err-left.ensures bs t f))
 
-pub returns-in-WaitingOut : goal.returns-in-WaitingOut
-returns-in-WaitingOut c = λ bs t f. look_path bs t _ _ (c.scan.ensures bs t f) c.in-WaitingOut.is
-
-pub returns-in-Found : goal.returns-in-Found
-returns-in-Found c = λ bs t f. look_found bs t _ _ (c.scan.ensures bs t f) c.in-Found.left-1-is
-
-pub returns-in-Found-2 : goal.returns-in-Found-2
-returns-in-Found-2 c = λ bs t f. look_clear bs t _ _ (c.scan.ensures bs t f) c.in-Found.left-in-Clear-1-is
+pub returns : goal.returns
+returns c = λ bs t f. look_done bs t _ _ _ (c.in_ok-left.ensures bs t f)

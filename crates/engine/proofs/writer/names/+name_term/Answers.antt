@@ -1,16 +1,13 @@
 use Prim.Native.Nat.{ℕ}
 use native.Mathlib.Omega.{arith}
 use Rattle.semantics.specs.Answer.{appear}
-use Rattle.engine.proofs.NamingLaws.{Naming, naming_start, naming_low, naming_open, naming_leaf, naming_pair, naming_falls, naming_next}
+use Rattle.engine.proofs.NamingLaws.{Naming, naming_low, naming_open, naming_leaf, naming_pair, naming_falls, naming_next}
 use Rattle.engine.proofs.writer.names.+name_term.Goals as goal
 use Rattle.engine.proofs.writer.names.+name_term.Goals.{At-loop-x}
 
 -- what is named so far, for the term and the names that the caller knows of
 now_at : (t : ℕ) (c : At-loop-x t) → (let a = c.args in let p = c.requires in Naming a.program.now a.scratch.now c.loop-x.scratch c.loop-x.at c.loop-x.given (appear p.1 p.0))
 now_at t c = let p = c.requires in c.loop-x.invariant.1 p.0 p.1 p.2 p.3
-
-pub loop-x-init : goal.loop-x-init
-loop-x-init t c = (omega arith, λ u names h g. naming_start u names h g)
 
 pub follow-requires : goal.follow-requires
 follow-requires t c =
@@ -20,16 +17,8 @@ pub name_variable-requires : goal.name_variable-requires
 name_variable-requires t c =
     let g = now_at t (goal.at.name_variable-requires t c).At-loop-x in (g.here.follows.binds.long, naming_low g c.follow.ensures c.in-Open.is, (g.names, g.named.given))
 
-pub shape_of-scratch-in-Open : goal.shape_of-scratch-in-Open
-shape_of-scratch-in-Open t c =
-    (naming_open (now_at t (goal.at.shape_of-scratch-in-Open t c).At-loop-x) c.follow.ensures c.in-Open.is c.name_variable.ensures).long
-
 pub returns-in-Open : goal.returns-in-Open
 returns-in-Open t c = λ u names h g. naming_open (c.loop-x.invariant.1 u names h g) c.follow.ensures c.in-Open.is c.name_variable.ensures
-
-pub shape_of-scratch-in-Atom : goal.shape_of-scratch-in-Atom
-shape_of-scratch-in-Atom t c =
-    (now_at t (goal.at.shape_of-scratch-in-Atom t c).At-loop-x).named.long
 
 pub returns-in-Atom : goal.returns-in-Atom
 returns-in-Atom t c = λ u names h g. naming_leaf (c.loop-x.invariant.1 u names h g) c.follow.ensures c.in-Atom.is

@@ -1,5 +1,4 @@
 -- `look_parameters` takes the steps of all query terms.
-use Prim.Native.Nat.{◌-◌}
 use Rattle.semantics.specs.Substitution.{Substitution}
 use Rattle.engine.specs.Walk.{Binds}
 use Rattle.engine.proofs.QueryLaws.{LookingFrom}
@@ -7,6 +6,3 @@ use Rattle.engine.proofs.writer.query.look_parameters.Given as goal
 
 abbrev pub invariant-loop-x : goal.invariant-loop-x
 invariant-loop-x l = (bs : Substitution) → Binds l.program l.scratch bs → LookingFrom bs l.count l.steps l.x l.left
-
-abbrev pub decreases-loop-x : goal.decreases-loop-x
-decreases-loop-x l = l.count - l.x

@@ -1,5 +1,4 @@
 -- `name_parameters` names the variables of all query terms.
-use Prim.Native.Nat.{◌-◌}
 use mathlib.Core.List.{[]}
 use Rattle.semantics.specs.Substitution.{Substitution}
 use Rattle.engine.specs.Walk.{Binds}
@@ -9,6 +8,3 @@ use Rattle.engine.proofs.writer.query.name_parameters.Given as goal
 
 abbrev pub invariant-loop-x : goal.invariant-loop-x
 invariant-loop-x l = (bs : Substitution) → Binds l.program l.initial.scratch bs → Names l.initial.scratch 0 [] → NamingAll l.program l.initial.scratch l.scratch bs l.count l.x l.top
-
-abbrev pub decreases-loop-x : goal.decreases-loop-x
-decreases-loop-x l = l.count - l.x

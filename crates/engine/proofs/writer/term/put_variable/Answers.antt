@@ -6,4 +6,4 @@ pub overflow_sub-number : goal.overflow_sub-number
 overflow_sub-number c = let p = c.requires in omega (arith, variable_number p.0 p.1.1.given.named p.1.1.known)
 
 pub returns : goal.returns
-returns c = λ names g. variable_put c.requires.0 g.given.named g.known c.new.ensures (c.put_one.ensures g.from)
+returns c = λ names g. variable_put c.requires.0 g.given.named g.known c.of_kind.ensures (c.put_one.ensures g.from)

@@ -7,6 +7,3 @@ use Rattle.engine.proofs.writer.trial.keep_equations.Given as goal
 
 abbrev pub invariant-loop-top : goal.invariant-loop-top
 invariant-loop-top l = (ws : List ℕ) (new bs : Substitution) → Trailed ws l.initial.scratch new bs l.mark l.trail → Keeping ws l.initial.scratch l.scratch new bs l.mark l.top
-
-abbrev pub decreases-loop-top : goal.decreases-loop-top
-decreases-loop-top l = l.top

@@ -25,7 +25,7 @@ use Rattle.engine.specs.declared.report.Bound.TheVariants.{Waiting}
 use Rattle.engine.specs.declared.steps.Stopped.{Stopped}
 use Rattle.engine.specs.declared.terms.occurs.Once.{Once}
 use Rattle.engine.proofs.MarkLaws.{marks_more}
-use Rattle.engine.proofs.ScanSteps.{variable_sought}
+use Rattle.engine.proofs.ScanSteps.{says_alone, variable_sought}
 
 -- The definition's check at a pair: passed if it was entered, and entered if not
 
@@ -83,12 +83,5 @@ module _ {once : Once} (x : ℕ) (bs : Substitution) (es : List ℕ) (u : Term) 
 
 -- A check by itself
 
-pub check_alone : {once : Once} {x : ℕ} {bs : Substitution} {t : Term} {steps : ℕ} (r : Result (Bool × ℕ) Stopped) → SaysAs (occurs_checks x bs) once [] t 0 steps r → x < most_variables → OccursAs x bs t 0 steps r
-unfolding scan_says
-check_alone {x = x} {bs} r h low [] e = h.same (variable_sought x low) [] refl ∙ go r
-  where
-    go : (r : Result (Bool × ℕ) Stopped) → scan_says r [] (λ us u left. occurs_check x bs h.entered us u left) ≡ scan_says r [] (λ us u left. occurs_check x bs [] us u left)
-    go (Ok (true, l)) = refl
-    go (Ok (false, l)) = refl
-    go (Err e) = refl
-check_alone r h low (v ∷ vs) e = absurd (omega arith)
+pub check_alone : {once : Once} {x : ℕ} {bs : Substitution} {t : Term} {steps : ℕ} (r : Result (Bool × ℕ) Stopped) → SaysAs (occurs_checks x bs) once [] t 0 steps r → x < most_variables → OccursAs x bs t steps r
+check_alone {x = x} {bs} r h low = h.same (variable_sought x low) [] refl ∙ says_alone r _

@@ -23,7 +23,7 @@ use Rattle.engine.specs.Reference.{at, AtomIs, pos_of, base_of, Stands, KeepsAt}
 use Rattle.engine.specs.Memory.{BindingsIn, KeptIn}
 use Rattle.engine.specs.Walk.{PartRead, Binds, Follows, WalkedTo}
 use Rattle.engine.specs.Trail.{Trailed, Undone, Apart}
-use Rattle.engine.specs.Scan.{ScanAs, scan_says}
+use Rattle.engine.specs.Scan.{ScanAs}
 use Rattle.engine.specs.Unify.{TwoTerms, UnifiedAs}
 use Rattle.engine.specs.Review.{other_kind, ConstraintsHeld, Constrains, Reviews, ReviewedAs}
 use Rattle.engine.specs.Steps.{stops, no_steps, outcome}
@@ -194,15 +194,9 @@ clash_none {bs = bs} {cs = cs} {k = k} {x = x} {kept = kept} {i = i} g le = sym 
 
 -- An absento's review
 
-pub absento_says : {ws s : List ℕ} {w bits kind p : ℕ} (left : ℕ) → PartRead ws (w + 1) bits kind p → (r : Result (Bool × ℕ) Stopped) → ((bs : Substitution) (t : Term) → Follows ws s bs (w + 2) t → ScanAs bits bs t 0 left r)
+pub absento_says : {ws s : List ℕ} {w bits kind p : ℕ} (left : ℕ) → PartRead ws (w + 1) bits kind p → (r : Result (Bool × ℕ) Stopped) → ((bs : Substitution) (t : Term) → Follows ws s bs (w + 2) t → ScanAs bits bs t left r)
     → (bs : Substitution) (a : Atom) (t : Term) → Constrains ws s bs w (absento a t) → scan (is_atom a) bs [] t left ≡ outcome r
-unfolding scan_says
-absento_says {ws} {w = w} {bits} left node r told bs a t h = go r (told bs t (record { binds = h.held; stands = absento_term ws w a t h.keeps }) (is_atom a) [] (atom_sought bits a (absento_tag ws w a t h.keeps node)) refl)
-  where
-    go : (r : Result (Bool × ℕ) Stopped) → scan (is_atom a) bs [] t left ≡ scan_says r [] (λ us u l. scan (is_atom a) bs us u l) → scan (is_atom a) bs [] t left ≡ outcome r
-    go (Ok (true, rest)) e = e
-    go (Ok (false, rest)) e = e
-    go (Err stopped) e = e
+absento_says {ws} {w = w} {bits} left node r told bs a t h = told bs t (record { binds = h.held; stands = absento_term ws w a t h.keeps }) (is_atom a) (atom_sought bits a (absento_tag ws w a t h.keeps node))
 
 -- A differ's review: the trial is undone
 

@@ -87,7 +87,7 @@ fn review_absento(
         → unification.scan (unification.is_atom a) bs [] t left ≡ outcome result }
 {
     let tag = part_at(program, constraint + 1).bits;
-    scan(program, scratch, tag, constraint + 2, 0, left)
+    scan(program, scratch, tag, constraint + 2, left)
 }
 
 // A differ's review: the two terms are unified on trial and the bindings undone. It fails if the trial needs no binding.

@@ -4,10 +4,9 @@ use mathlib.Core.Path.{◌≡◌, refl, sym, ap, ◌∙◌}
 use mathlib.Core.Option.{Option as MathOption, none, some}
 use mathlib.Core.Bool.{Bool, true, false}
 use mathlib.Core.List.{List, [], ◌∷◌}
-use native.Mathlib.Omega.{arith}
 use lib.Dec.{ltb}
 use lib.ListN.{length}
-use Rattle.std.specs.Prelude.{Result, Ok, Err, Option, Some, None}
+use Rattle.std.specs.Prelude.{Result, Option, Some, None}
 use Rattle.rules.specs.Reading.{choose}
 use Rattle.rules.specs.Syntax.{Term, pair}
 use Rattle.semantics.specs.Substitution.{Substitution, walk}
@@ -18,7 +17,6 @@ use Rattle.engine.specs.Layout.{most_variables}
 use Rattle.engine.specs.Traverse.{Met, EnteredNow, EntersAs, SaysAs}
 use Rattle.engine.specs.Entering.{occurs_checks}
 use Rattle.engine.specs.Walk.{through_of}
-use Rattle.engine.specs.Scan.{scan_says}
 use Rattle.engine.specs.Occurs.{mark_words, Marks, MarkedNow, Noted, OccursAs}
 use Rattle.engine.specs.Steps.{stops, at_bound}
 use Rattle.engine.specs.declared.report.Bound.TheVariants.{Waiting}

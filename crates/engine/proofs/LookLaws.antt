@@ -17,7 +17,7 @@ use Rattle.semantics.proofs.ScanLaws.{ScanStep, hit, down, full, last, further, 
 use Rattle.engine.specs.Reference.{at}
 use Rattle.engine.specs.Walk.{Binds, Follows}
 use Rattle.std.specs.Prelude.{Result, Ok, Err}
-use Rattle.engine.specs.Scan.{TestAs, scan_says, ScanAs}
+use Rattle.engine.specs.Scan.{TestAs, ScanAs}
 use Rattle.engine.specs.Steps.{outcome_of}
 use Rattle.engine.specs.Trial.{EquationsKept}
 use Rattle.engine.specs.Look.{LookedThroughAs, rights, ThroughAs}
@@ -44,14 +44,14 @@ never_found bs (suc left) vs t l e = go (scan never bs vs t (suc left)) (scan_st
 
 -- what the scan's results come to
 module _ (bs : Substitution) (t : Term) (steps : ℕ) where
-  pub look_done : (found : Bool) (left : ℕ) → ScanAs (word 4 0) bs t 0 steps (Ok (found, left)) → LookedThroughAs bs t steps (Ok left)
-  unfolding LookedThroughAs scan_says
-  look_done true left h = absurd (never_found bs steps [] t left (h never [] never_sought refl))
-  look_done false left h = h never [] never_sought refl
+  pub look_done : (found : Bool) (left : ℕ) → ScanAs (word 4 0) bs t steps (Ok (found, left)) → LookedThroughAs bs t steps (Ok left)
+  unfolding LookedThroughAs
+  look_done true left h = absurd (never_found bs steps [] t left (h never never_sought))
+  look_done false left h = h never never_sought
 
-  pub look_stops : (s : Stopped) → ScanAs (word 4 0) bs t 0 steps (Err s) → LookedThroughAs bs t steps (Err s)
-  unfolding LookedThroughAs scan_says
-  look_stops s h = h never [] never_sought refl
+  pub look_stops : (s : Stopped) → ScanAs (word 4 0) bs t steps (Err s) → LookedThroughAs bs t steps (Err s)
+  unfolding LookedThroughAs
+  look_stops s h = h never never_sought
 
 -- several terms, of which some are left to look at
 pub record Looking (bs : Substitution) (ts : List Term) (steps : ℕ) (later : List Term) (left : ℕ) : Type 0 where

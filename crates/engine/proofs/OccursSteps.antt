@@ -4,10 +4,9 @@ use mathlib.Core.Path.{◌≡◌, refl, sym, ap, ◌∙◌}
 use mathlib.Core.Option.{Option as MathOption, none, some}
 use mathlib.Core.Bool.{Bool, true, false}
 use mathlib.Core.List.{List, [], ◌∷◌}
-use native.Mathlib.Omega.{arith}
 use lib.Dec.{ltb}
 use lib.ListN.{length}
-use Rattle.std.specs.Prelude.{Result, Ok, Err, Option, Some, None}
+use Rattle.std.specs.Prelude.{Result, Option, Some, None}
 use Rattle.rules.specs.Reading.{choose}
 use Rattle.rules.specs.Syntax.{Term, pair}
 use Rattle.semantics.specs.Substitution.{Substitution, walk}
@@ -18,14 +17,13 @@ use Rattle.engine.specs.Layout.{most_variables}
 use Rattle.engine.specs.Traverse.{Met, EnteredNow, EntersAs, SaysAs}
 use Rattle.engine.specs.Entering.{occurs_checks}
 use Rattle.engine.specs.Walk.{through_of}
-use Rattle.engine.specs.Scan.{scan_says}
 use Rattle.engine.specs.Occurs.{mark_words, Marks, MarkedNow, Noted, OccursAs}
 use Rattle.engine.specs.Steps.{stops, at_bound}
 use Rattle.engine.specs.declared.report.Bound.TheVariants.{Waiting}
 use Rattle.engine.specs.declared.steps.Stopped.{Stopped}
 use Rattle.engine.specs.declared.terms.occurs.Once.{Once}
 use Rattle.engine.proofs.MarkLaws.{marks_more}
-use Rattle.engine.proofs.ScanSteps.{variable_sought}
+use Rattle.engine.proofs.ScanSteps.{says_alone, variable_sought}
 
 -- The definition's check at a pair: passed if it was entered, and entered if not
 
@@ -83,12 +81,5 @@ module _ {once : Once} (x : ℕ) (bs : Substitution) (es : List ℕ) (u : Term) 
 
 -- A check by itself
 
-pub check_alone : {once : Once} {x : ℕ} {bs : Substitution} {t : Term} {steps : ℕ} (r : Result (Bool × ℕ) Stopped) → SaysAs (occurs_checks x bs) once [] t 0 steps r → x < most_variables → OccursAs x bs t 0 steps r
-unfolding scan_says
-check_alone {x = x} {bs} r h low [] e = h.same (variable_sought x low) [] refl ∙ go r
-  where
-    go : (r : Result (Bool × ℕ) Stopped) → scan_says r [] (λ us u left. occurs_check x bs h.entered us u left) ≡ scan_says r [] (λ us u left. occurs_check x bs [] us u left)
-    go (Ok (true, l)) = refl
-    go (Ok (false, l)) = refl
-    go (Err e) = refl
-check_alone r h low (v ∷ vs) e = absurd (omega arith)
+pub check_alone : {once : Once} {x : ℕ} {bs : Substitution} {t : Term} {steps : ℕ} (r : Result (Bool × ℕ) Stopped) → SaysAs (occurs_checks x bs) once [] t 0 steps r → x < most_variables → OccursAs x bs t steps r
+check_alone {x = x} {bs} r h low = h.same (variable_sought x low) [] refl ∙ says_alone r _

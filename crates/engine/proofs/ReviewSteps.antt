@@ -23,9 +23,9 @@ use Rattle.engine.specs.Reference.{at, AtomIs, pos_of, base_of, Stands, KeepsAt}
 use Rattle.engine.specs.Memory.{BindingsIn, KeptIn}
 use Rattle.engine.specs.Walk.{PartRead, Binds, Follows, WalkedTo}
 use Rattle.engine.specs.Trail.{Trailed, Undone, Apart}
-use Rattle.engine.specs.Scan.{ScanAs, scan_says}
+use Rattle.engine.specs.Scan.{ScanAs}
 use Rattle.engine.specs.Unify.{TwoTerms, UnifiedAs}
-use Rattle.engine.specs.Review.{other_kind, ConstraintsHeld, Constrains, Reviews, ReviewedAs}
+use Rattle.engine.specs.Review.{atom_kind, other_kind, ConstraintsHeld, Constrains, Reviews, ReviewedAs}
 use Rattle.engine.specs.Steps.{stops, no_steps, outcome}
 use Rattle.engine.specs.declared.steps.Stopped.{Stopped}
 use Rattle.engine.specs.declared.terms.unify.Unified.{Unified}
@@ -76,11 +76,6 @@ pub record TypedAt (ws : List ℕ) (w : ℕ) (c : Constraint) (kind : ℕ) : Typ
   pub is_kind : kind ≡ sort_kind sort
   pub stands : Stands ws (w + 1) term
 
-pub record SortAt (ws : List ℕ) (w : ℕ) (c : Constraint) (sort : Sort) : Type 0 where
-  pub term : Term
-  pub is : c ≡ typed sort term
-  pub stands : Stands ws (w + 1) term
-
 pub record AbsentoAt (ws : List ℕ) (w : ℕ) (c : Constraint) : Type 0 where
   pub tag : Atom
   pub term : Term
@@ -103,18 +98,14 @@ module _ {ws : List ℕ} {w bits p : ℕ} {kind : Kind} (node : PartRead ws w bi
   typed_at (typed k t) h n m = record { sort = k; term = t; is = refl; is_kind = node.is_kind ∙ h.reads.0; stands = typed_term ws w k t h }
   typed_at (absento a t) h n m = absurd (kind_number_other kind Absento m (node.is_kind ∙ h.reads.0))
 
-  -- by its sort
-  pub symbolo_at : (c : Constraint) → KeepsAt ws w c → kind ≡ Symbolo → SortAt ws w c symbols
-  symbolo_at (differ u v) h e = absurd (omega (arith, ap kind_number e, node.is_kind, h.reads.0))
-  symbolo_at (typed symbols t) h e = record { term = t; is = refl; stands = typed_term ws w symbols t h }
-  symbolo_at (typed numbers t) h e = absurd (omega (arith, ap kind_number e, node.is_kind, h.reads.0))
-  symbolo_at (absento a t) h e = absurd (omega (arith, ap kind_number e, node.is_kind, h.reads.0))
+-- what a type allows, by its kind
+pub kinds_of_symbolo : {kind : Kind} → kind ≡ Symbolo → (k : Sort) → kind_number kind ≡ sort_kind k → (1 ≡ atom_kind k) × (8 ≡ other_kind k)
+kinds_of_symbolo i symbols e = (refl, refl)
+kinds_of_symbolo i numbers e = absurd (omega (arith, ap kind_number i))
 
-  pub numbero_at : (c : Constraint) → KeepsAt ws w c → ¬ (kind ≡ Differ) → ¬ (kind ≡ Absento) → ¬ (kind ≡ Symbolo) → SortAt ws w c numbers
-  numbero_at (differ u v) h n m l = absurd (kind_number_other kind Differ n (node.is_kind ∙ h.reads.0))
-  numbero_at (typed symbols t) h n m l = absurd (kind_number_other kind Symbolo l (node.is_kind ∙ h.reads.0))
-  numbero_at (typed numbers t) h n m l = record { term = t; is = refl; stands = typed_term ws w numbers t h }
-  numbero_at (absento a t) h n m l = absurd (kind_number_other kind Absento m (node.is_kind ∙ h.reads.0))
+pub kinds_of_numbero : {kind : Kind} → ¬ (kind ≡ Symbolo) → (k : Sort) → kind_number kind ≡ sort_kind k → (2 ≡ atom_kind k) × (7 ≡ other_kind k)
+kinds_of_numbero {kind} n symbols e = absurd (kind_number_other kind Symbolo n e)
+kinds_of_numbero n numbers e = (refl, refl)
 
 -- The search for the other type
 
@@ -194,15 +185,9 @@ clash_none {bs = bs} {cs = cs} {k = k} {x = x} {kept = kept} {i = i} g le = sym 
 
 -- An absento's review
 
-pub absento_says : {ws s : List ℕ} {w bits kind p : ℕ} (left : ℕ) → PartRead ws (w + 1) bits kind p → (r : Result (Bool × ℕ) Stopped) → ((bs : Substitution) (t : Term) → Follows ws s bs (w + 2) t → ScanAs bits bs t 0 left r)
+pub absento_says : {ws s : List ℕ} {w bits kind p : ℕ} (left : ℕ) → PartRead ws (w + 1) bits kind p → (r : Result (Bool × ℕ) Stopped) → ((bs : Substitution) (t : Term) → Follows ws s bs (w + 2) t → ScanAs bits bs t left r)
     → (bs : Substitution) (a : Atom) (t : Term) → Constrains ws s bs w (absento a t) → scan (is_atom a) bs [] t left ≡ outcome r
-unfolding scan_says
-absento_says {ws} {w = w} {bits} left node r told bs a t h = go r (told bs t (record { binds = h.held; stands = absento_term ws w a t h.keeps }) (is_atom a) [] (atom_sought bits a (absento_tag ws w a t h.keeps node)) refl)
-  where
-    go : (r : Result (Bool × ℕ) Stopped) → scan (is_atom a) bs [] t left ≡ scan_says r [] (λ us u l. scan (is_atom a) bs us u l) → scan (is_atom a) bs [] t left ≡ outcome r
-    go (Ok (true, rest)) e = e
-    go (Ok (false, rest)) e = e
-    go (Err stopped) e = e
+absento_says {ws} {w = w} {bits} left node r told bs a t h = told bs t (record { binds = h.held; stands = absento_term ws w a t h.keeps }) (is_atom a) (atom_sought bits a (absento_tag ws w a t h.keeps node))
 
 -- A differ's review: the trial is undone
 

@@ -2,25 +2,27 @@
 use Prim.Native.Nat.{ℕ, suc, ◌+◌, ◌<◌}
 use mathlib.Core.Path.{◌≡◌, refl, sym, ap, ◌∙◌}
 use mathlib.Core.Bool.{Bool, true, false}
-use mathlib.Core.List.{List, ◌∷◌}
+use mathlib.Core.List.{List, [], ◌∷◌}
 use native.Mathlib.Omega.{arith}
 use lib.Dec.{eqb, ltb}
 use lib.ListN.{length}
 use borrow.Author.Tests.{eq-eqb, ne_eqb, eqb-true, eqb-false}
-use Rattle.std.specs.Prelude.{Option}
+use Rattle.std.specs.Prelude.{Option, Result, Ok, Err}
 use Rattle.rules.specs.Reading.{choose}
 use Rattle.rules.specs.Syntax.{Atom, Term, var, atom, pair}
 use Rattle.semantics.specs.Substitution.{Substitution, walk}
+use Rattle.semantics.specs.Steps.{Outcome}
 use Rattle.semantics.specs.Unify.{scan, is_var, is_atom}
 use Rattle.semantics.proofs.SubstitutionLaws.{followed_follow}
 use Rattle.semantics.proofs.ScanLaws.{Leaf}
 use Rattle.engine.specs.Reference.{at, AtomIs, pos_of, base_of, Stands}
 use Rattle.engine.specs.Walk.{PartRead}
-use Rattle.engine.specs.Scan.{LeafWord, TestAs}
+use Rattle.engine.specs.Scan.{LeafWord, TestAs, scan_says}
 use Rattle.engine.specs.Traverse.{Met, EnteredNow}
 use Rattle.engine.specs.Entering.{scans}
-use Rattle.engine.specs.Steps.{stops, at_bound}
+use Rattle.engine.specs.Steps.{stops, at_bound, outcome}
 use Rattle.engine.specs.declared.report.Bound.TheVariants.{Waiting}
+use Rattle.engine.specs.declared.steps.Stopped.{Stopped}
 use Rattle.engine.specs.declared.terms.scan.Every.{Every}
 use Rattle.engine.proofs.ReferenceLaws.{atom_low, atom_test, parts}
 
@@ -104,3 +106,10 @@ variable_sought x lt = record { on_var = λ y l. swapped x y; on_atom = λ a w i
 
 pub atom_sought : (w : ℕ) (a : Atom) → AtomIs w a → TestAs w (is_atom a)
 atom_sought w a i = record { on_var = λ x l. let k = atom_low w a i in sym (ne_eqb x w (λ z. omega (arith, k.0))); on_atom = λ b v j. atom_test w v a b i j ∙ swapped w v; on_pair = λ s t. refl }
+
+-- with no node that waits, it says the outcome
+pub says_alone : (r : Result (Bool × ℕ) Stopped) (go : List Term → Term → ℕ → Outcome Bool) → scan_says r [] go ≡ outcome r
+unfolding scan_says
+says_alone (Ok (true, left)) go = refl
+says_alone (Ok (false, left)) go = refl
+says_alone (Err stopped) go = refl

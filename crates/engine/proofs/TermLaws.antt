@@ -145,10 +145,6 @@ pub missing_of : {o o' : List ℕ} {start end : ℕ} {write : Bool} {v : List �
 missing_of (all_laid h) q = clash (cc)
 missing_of (some_missing h) q = h
 
-pub placed_long : {o o' : List ℕ} {start end : ℕ} {write : Bool} {v : List ℕ} {r : Option ℕ} → Placed o o' start end write v r → length o' ≡ length o
-placed_long (all_laid h) = h.touched.long
-placed_long (some_missing h) = h.touched.long
-
 -- a term: what is put already, and what is left
 pub record Putting (ws s o₀ o : List ℕ) (w start place end : ℕ) (write : Bool) (names goal : List ℕ) : Type 0 where
   pub term : Term

@@ -145,9 +145,6 @@ pub record Undoing (ws s s' : List ℕ) (bs : Substitution) (mark top : ℕ) : T
   pub long : length s' ≡ length s
   pub above : (i : ℕ) → 2048 ≤ i → at s' i ≡ at s i
 
-pub undo_start : {ws s : List ℕ} {new bs : Substitution} {mark trail : ℕ} → Trailed ws s new bs mark trail → Undoing ws s s bs mark trail
-undo_start {new = new} t = record { new = new; trailed = t; long = refl; above = λ i lo. refl }
-
 pub undo_top : {ws s s' : List ℕ} {bs : Substitution} {mark top : ℕ} → Undoing ws s s' bs mark top → mark < top → (at s' (2048 + (top - 1)) < 2048) × (top ≤ 2048)
 undo_top {ws} {s} {s'} {bs} {mark} {top} u lt = go u.new u.trailed
   where

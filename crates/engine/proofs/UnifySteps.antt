@@ -30,9 +30,8 @@ use Rattle.engine.specs.Reference.{AtomIs, base_of, Stands}
 use Rattle.engine.specs.Memory.{trail_at, BindingsIn, bound}
 use Rattle.engine.specs.Walk.{PartRead, IsNode, Follows, WalkedTo}
 use Rattle.engine.specs.Occurs.{OccursAs}
-use Rattle.engine.specs.Scan.{scan_says}
 use Rattle.engine.specs.Unify.{BindsTo, PartsTo, LookedAs, TwoTerms, PairGoes, PairUnifiedAs}
-use Rattle.engine.specs.Steps.{stops}
+use Rattle.engine.specs.Steps.{outcome, stops}
 use Rattle.engine.specs.declared.steps.Stopped.{Stopped}
 use Rattle.engine.specs.declared.terms.walk.Walked.{Walked}
 use Rattle.engine.specs.declared.terms.unify.Looked as code
@@ -201,26 +200,26 @@ module _ {ws s : List ℕ} {bs : Substitution} {a : ℕ} {u : Term} {b : ℕ} {v
 
       -- what the occurs check said
       abbrev pub Checks : Result (Bool × ℕ) Stopped → Type 0
-      Checks r = (bs : Substitution) (t : Term) → Follows ws s bs w t → OccursAs x bs t 0 (steps - 1) r
+      Checks r = (bs : Substitution) (t : Term) → Follows ws s bs w t → OccursAs x bs t (steps - 1) r
 
-      checked : (r : Result (Bool × ℕ) Stopped) → Checks r → occurs_check x bs [] [] bound_term.term (steps - 1) ≡ scan_says r [] (λ us u l. occurs_check x bs [] us u l)
-      checked r checks = checks bs bound_term.term bound_follows [] refl
+      checked : (r : Result (Bool × ℕ) Stopped) → Checks r → occurs_check x bs [] [] bound_term.term (steps - 1) ≡ outcome r
+      checked r checks = checks bs bound_term.term bound_follows
 
       pub pair_stops : (st : Stopped) → Checks (Err st) → PairUnifiedAs ws s s bs u v steps (Err st)
-      unfolding PairUnifiedAs scan_says
+      unfolding PairUnifiedAs
       pair_stops st checks =
           let e : occurs_check x bs [] [] bound_term.term (steps - 1) ≡ stops st = checked (Err st) checks in
           record { untouched = refl; same = λ fuel vs. look_gives (binds x bound_term.term) bound_term.is fuel vs ∙ rw e }
 
       module _ (found : Bool) (rest : ℕ) (checks : Checks (Ok (found, rest))) where
         pub pair_occurs : found ≡ true → PairUnifiedAs ws s s bs u v steps (Ok (paired.Fails rest))
-        unfolding PairUnifiedAs scan_says
+        unfolding PairUnifiedAs
         pair_occurs y =
             let e : occurs_check x bs [] [] bound_term.term (steps - 1) ≡ done true rest = rw y at (checked (Ok (found, rest)) checks) in
             record { untouched = refl; same = λ fuel vs. look_gives (binds x bound_term.term) bound_term.is fuel vs ∙ rw e }
 
         pub pair_binds : {n : ℕ} {s' : List ℕ} → found ≡ false → n ≡ trail + 1 → s' ≡ bound s x w trail → PairUnifiedAs ws s s' bs u v steps (Ok (paired.Goes n rest))
-        unfolding PairUnifiedAs scan_says
+        unfolding PairUnifiedAs
         pair_binds {n} {s'} y n-is s-is =
             let t : Term = bound_term.term in
             let e : occurs_check x bs [] [] t (steps - 1) ≡ done false rest = rw y at (checked (Ok (found, rest)) checks) in

@@ -42,9 +42,6 @@ rejoined w = omega arith
 same_pos : (pos base : ℕ) → pos_of (refer pos base) ≡ pos_of pos
 same_pos pos base = omega arith
 
-pub walking_starts : (ws s : List ℕ) (term : ℕ) → Walking ws s term (pos_of term) (base_of term) None
-walking_starts ws s term = record { low = omega arith; left = λ bs t f. (t, subst (λ w. Follows ws s bs w t) (rejoined term) f, refl, not_yet refl refl) }
-
 module _ {ws s : List ℕ} {term pos base : ℕ} {through : Option ℕ} (h : Walking ws s term pos base through) where
   module _ (pre : Something ws s term) where
     follows_here : Follows ws s pre.0 (refer pos base) (h.left pre.0 pre.1 pre.2).0

@@ -1,5 +1,5 @@
 -- What the occurs check promises.
-use Rattle.std.specs.Prelude.{ℕ, ◌+◌, ◌/◌, ◌%◌, ◌^◌, ◌<◌, ◌≡◌, Bool, true, false, List, [], eqb, length, set, Result, Option, Some, None}
+use Rattle.std.specs.Prelude.{ℕ, ◌+◌, ◌/◌, ◌%◌, ◌^◌, ◌<◌, ◌≡◌, Bool, true, false, List, [], eqb, set, Result, Option, Some, None}
 use Rattle.std.proofs.Math.Option.{Option as MathOption}
 use Rattle.rules.specs.Syntax.{Term}
 use Rattle.semantics.specs.Substitution.{Substitution}
@@ -7,7 +7,7 @@ use Rattle.semantics.specs.Unify.{member, occurs_check}
 use Rattle.engine.specs.Layout.{most_variables}
 use Rattle.engine.specs.Reference.{at}
 use Rattle.engine.specs.Walk.{through_of}
-use Rattle.engine.specs.Scan.{scan_says}
+use Rattle.engine.specs.Steps.{outcome}
 use Rattle.engine.specs.declared.steps.Stopped.{Stopped}
 
 -- Marks: variable x has bit x modulo 32 of word x / 32.
@@ -40,6 +40,6 @@ pub record Led (through : Option ℕ) (z : MathOption ℕ) : Type 0 where
   pub is : through ≡ through_of z
   pub low : (x : ℕ) → through ≡ Some x → x < most_variables
 
--- `occurs`: begun with nothing entered, and nothing entered by the end, as far as that matters: a check by itself has no nodes that wait
-abbrev pub OccursAs : ℕ → Substitution → Term → ℕ → ℕ → Result (Bool × ℕ) Stopped → Type 0
-OccursAs x bs t n steps r = (vs : List Term) → length vs ≡ n → occurs_check x bs [] vs t steps ≡ scan_says r vs (λ us u left. occurs_check x bs [] us u left)
+-- `occurs`: begun with nothing entered, and with no node that waits
+abbrev pub OccursAs : ℕ → Substitution → Term → ℕ → Result (Bool × ℕ) Stopped → Type 0
+OccursAs x bs t steps r = occurs_check x bs [] [] t steps ≡ outcome r

@@ -1,12 +1,12 @@
 -- What `leaf_word` and `scan` promise.
-use Rattle.std.specs.Prelude.{ℕ, ◌+◌, ◌<◌, ◌≡◌, Bool, true, false, List, eqb, length, Result, Ok, Err}
+use Rattle.std.specs.Prelude.{ℕ, ◌+◌, ◌<◌, ◌≡◌, Bool, true, false, List, [], eqb, Result, Ok, Err}
 use Rattle.rules.specs.Syntax.{Atom, Term, var, atom, pair}
 use Rattle.semantics.specs.Substitution.{Substitution}
 use Rattle.semantics.specs.Steps.{Outcome, done}
 use Rattle.semantics.specs.Unify.{scan, scan_next}
 use Rattle.engine.specs.Layout.{most_variables}
 use Rattle.engine.specs.Reference.{AtomIs, base_of}
-use Rattle.engine.specs.Steps.{stops}
+use Rattle.engine.specs.Steps.{outcome, stops}
 use Rattle.engine.specs.declared.steps.Stopped.{Stopped}
 
 -- the word by which a leaf is sought, from what stands at its reference
@@ -26,6 +26,6 @@ scan_says (Ok (true, left)) vs go = done true left
 scan_says (Ok (false, left)) vs go = scan_next vs left (λ us u. go us u left)
 scan_says (Err s) vs go = stops s
 
--- the scan of t, whatever the nodes that wait, as many as the code counts, and whatever test agrees with the word sought
-abbrev pub ScanAs : ℕ → Substitution → Term → ℕ → ℕ → Result (Bool × ℕ) Stopped → Type 0
-ScanAs sought bs t n steps r = (test : Term → Bool) (vs : List Term) → TestAs sought test → length vs ≡ n → scan test bs vs t steps ≡ scan_says r vs (λ us u left. scan test bs us u left)
+-- the scan of t, with no node that waits, whatever test agrees with the word sought
+abbrev pub ScanAs : ℕ → Substitution → Term → ℕ → Result (Bool × ℕ) Stopped → Type 0
+ScanAs sought bs t steps r = (test : Term → Bool) → TestAs sought test → scan test bs [] t steps ≡ outcome r

@@ -7,7 +7,7 @@ use native.Mathlib.Nat.{pow-suc}
 use native.Mathlib.Omega.{arith}
 use lib.Dec.{ltb}
 use lib.ListN.{length, length-append}
-use mir.Syntax.{w32, w64}
+use mir.Syntax.{w32}
 use mir.Val.{Fits}
 use borrow.Author.Tests.{ltb-true, ltb-false, lt-ltb, le-ltb}
 use Rattle.rules.specs.Reading.{choose}
@@ -49,6 +49,3 @@ decimal_short (suc k) n h = by_test (ltb n 10) refl (decimal_short k (n / 10) (o
 -- of a number that fits 32 bits, or 64
 pub short_32 : {n : ℕ} → Fits w32 n → length (decimal n) ≤ 10
 short_32 {n} h = decimal_short 9 n (omega arith)
-
-pub short_64 : {n : ℕ} → Fits w64 n → length (decimal n) ≤ 20
-short_64 {n} h = decimal_short 19 n (omega arith)

@@ -1,12 +1,11 @@
 -- Text behind text, laid over lent bytes from a place on, as far as they reach.
-use Prim.Native.Nat.{ℕ, suc, ◌+◌, ◌≤◌, ◌<◌}
-use mathlib.Core.Path.{◌≡◌, refl, sym, ap, ◌∙◌}
+use Prim.Native.Nat.{ℕ, suc, ◌+◌}
+use mathlib.Core.Path.{◌≡◌, refl, ap, ◌∙◌}
 use mathlib.Core.List.{List, [], ◌∷◌, ◌++◌, append-nil}
 use native.Mathlib.Nat.{add-zero, add-suc, suc-add}
-use native.Mathlib.Numerals.{add-one}
 use native.Mathlib.Omega.{arith}
-use lib.ListN.{length, length-append, get_or, take, drop, set}
-use lib.Seq.{sets, drop-cons, set_out}
+use lib.ListN.{length, length-append, take, drop, set}
+use lib.Seq.{sets}
 use Rattle.list_text.specs.Writing.{Wrote}
 
 sets_append : (xs ys l : List ℕ) (i : ℕ) → sets (sets l i xs) (i + length xs) ys ≡ sets l i (xs ++ ys)
@@ -53,14 +52,3 @@ last part l w = done (step part (rw (append-nil part) l) w)
 -- one text behind another
 pub behind : {xs ys out mid after : List ℕ} {at m next : ℕ} → Wrote xs at out m mid → Wrote ys m mid next after → Wrote (xs ++ ys) at out next after
 behind {xs} {ys} {out} {at = at} w v = last ys (step xs (begin (xs ++ ys) at out) w) v
-
--- one byte, if it reaches
-pub stored : (byte at : ℕ) (out : List ℕ) → Wrote (byte ∷ []) at out (at + 1) (set out at byte)
-stored byte at out = record { is_next = refl; is_after = refl }
-
-pub not_stored : (byte at : ℕ) (out : List ℕ) → length out ≤ at → Wrote (byte ∷ []) at out (at + 1) out
-not_stored byte at out h = record { is_next = refl; is_after = sym (set_out out at byte h) }
-
--- the next byte of a text
-pub next_byte : {text out₀ out after : List ℕ} {at₀ at next : ℕ} (i : ℕ) → Left text at₀ out₀ (drop i text) at out → i < length text → Wrote (get_or text i 0 ∷ []) at out next after → Left text at₀ out₀ (drop (i + 1) text) next after
-next_byte {text} i l h w = step (get_or text i 0 ∷ []) (rw (add-one i, ← drop-cons text i 0 h) l) w

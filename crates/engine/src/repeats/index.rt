@@ -53,6 +53,7 @@ pub(crate) fn enter(
             output[table + slot] = (start + 1) as u32;
             return Entered::New;
         }
+        // Shared first: the part of it is taken from a slice that is lent to read.
         let words = &output[..];
         if same(words, entry - 1, &words[start..next]) {
             return Entered::Repeated;

@@ -92,7 +92,7 @@ pub(crate) fn occurs(
     steps: u32,
 ) -> Result<(bool, u32), Stopped>
     requires { (sought < most_variables) × ((bs : Substitution) × (t : Term) × Follows program.now scratch.now bs term t) }
-    ensures { (bs : Substitution) (t : Term) → Follows program.now scratch.now bs term t → OccursAs sought bs t 0 steps result }
+    ensures { (bs : Substitution) (t : Term) → Follows program.now scratch.now bs term t → OccursAs sought bs t steps result }
 {
     if steps == 0 {
         return Err(NO_STEPS);

@@ -8,7 +8,8 @@ ghost use Rattle.semantics.specs.Review as definition;
 ghost use Rattle.engine.specs.Unify.{TwoTerms};
 ghost use Rattle.word.specs.Kind.{kind_number};
 ghost use Rattle.engine.specs.Steps.{outcome};
-ghost use Rattle.engine.specs.Review.{other_kind, ConstraintsHeld, Constrains, Reviews, Typing, ReviewedAs};
+ghost use Rattle.rules.specs.Written.{sort_kind};
+ghost use Rattle.engine.specs.Review.{atom_kind, other_kind, ConstraintsHeld, Constrains, Reviews, Typing, ReviewedAs};
 
 use crate::layout::CONSTRAINTS;
 use crate::steps::{NO_STEPS, Stopped};
@@ -53,6 +54,16 @@ fn clashes(
     false
 }
 
+// The kind of the atoms that a type allows, and that of the other type.
+fn kinds_of_type(kind: Kind) -> (Kind, Kind)
+    ensures { (k : Sort) → kind_number kind ≡ sort_kind k → (kind_number result.0 ≡ atom_kind k) × (kind_number result.1 ≡ other_kind k) }
+{
+    match kind {
+        Kind::Symbolo => (Kind::Symbol, Kind::Numbero),
+        _ => (Kind::Number, Kind::Symbolo),
+    }
+}
+
 // Does a type fail? On an atom of another kind, on a pair, and on an open variable that the other type reaches.
 fn type_fails(
     program: &[u32],
@@ -87,7 +98,7 @@ fn review_absento(
         → unification.scan (unification.is_atom a) bs [] t left ≡ outcome result }
 {
     let tag = part_at(program, constraint + 1).bits;
-    scan(program, scratch, tag, constraint + 2, 0, left)
+    scan(program, scratch, tag, constraint + 2, left)
 }
 
 // A differ's review: the two terms are unified on trial and the bindings undone. It fails if the trial needs no binding.
@@ -134,28 +145,9 @@ pub(crate) fn review(
             review_differ(program, scratch, first, second, trail, left)
         }
         Kind::Absento => review_absento(program, scratch, constraint, left),
-        Kind::Symbolo => {
-            let fails = type_fails(
-                program,
-                scratch,
-                first,
-                Kind::Symbol,
-                Kind::Numbero,
-                trail,
-                kept,
-            );
-            Ok((fails, left))
-        }
         _ => {
-            let fails = type_fails(
-                program,
-                scratch,
-                first,
-                Kind::Number,
-                Kind::Symbolo,
-                trail,
-                kept,
-            );
+            let (atom, other) = kinds_of_type(kind);
+            let fails = type_fails(program, scratch, first, atom, other, trail, kept);
             Ok((fails, left))
         }
     }

@@ -21,17 +21,16 @@ impl Entering for Every {
     }
 }
 
-// Is the node with the word `sought` in the term? With the steps left. A word of kind pair is never met. `waiting` nodes wait already.
+// Is the node with the word `sought` in the term? With the steps left. A word of kind pair is never met.
 pub(crate) fn scan(
     program: &[u32],
     scratch: &[u32],
     sought: u32,
     term: u32,
-    waiting: u32,
     steps: u32,
 ) -> Result<(bool, u32), Stopped>
     requires { (bs : Substitution) × (t : Term) × Follows program.now scratch.now bs term t }
-    ensures { (bs : Substitution) (t : Term) → Follows program.now scratch.now bs term t → ScanAs sought bs t waiting steps result }
+    ensures { (bs : Substitution) (t : Term) → Follows program.now scratch.now bs term t → ScanAs sought bs t steps result }
 {
-    traverse(&mut Every, program, scratch, sought, term, waiting, steps)
+    traverse(&mut Every, program, scratch, sought, term, 0, steps)
 }

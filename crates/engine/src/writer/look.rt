@@ -19,7 +19,7 @@ pub(crate) fn look_through(
     requires { (bs : Substitution) × (t : Term) × Follows program.now scratch.now bs term t }
     ensures { (bs : Substitution) (t : Term) → Follows program.now scratch.now bs term t → LookedThroughAs bs t steps result }
 {
-    let (_, left) = scan(program, scratch, PAIR_WORD, term, 0, steps)?;
+    let (_, left) = scan(program, scratch, PAIR_WORD, term, steps)?;
     Ok(left)
 }
 

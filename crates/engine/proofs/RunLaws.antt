@@ -2,7 +2,7 @@
 use Prim.Native.Nat.{ℕ, ◌-◌, ◌<◌, ◌≤◌}
 use mathlib.Core.Path.{◌≡◌, refl, sym, ap, ◌∙◌, subst}
 use mathlib.Core.Option.{some}
-use mathlib.Core.Bool.{true}
+use mathlib.Core.Bool.{true, false}
 use mathlib.Core.List.{List, [], ◌++◌}
 use native.Mathlib.Omega.{arith}
 use lib.ListN.{length, take, drop, replicate, get_elem?, length-replicate, get_or-replicate}
@@ -25,7 +25,7 @@ use Rattle.semantics.proofs.ZeroedLaws.{zeroed_all}
 use Rattle.semantics.proofs.Lighter.{first_words_used}
 use Rattle.engine.specs.declared.report.Report as code
 use Rattle.engine.specs.declared.report.Refusal.{Refusal}
-use Rattle.engine.specs.declared.report.Refusal.TheVariants.{Program as Refused}
+use Rattle.engine.specs.declared.report.Refusal.TheVariants.{Settings, Program as Refused}
 use Rattle.engine.specs.Report as says
 use Rattle.engine.specs.Report.{refusal_number, refusal_place, RunPromise, RunAs}
 use Rattle.engine.specs.Run.{cleared, Admitted}
@@ -64,6 +64,10 @@ module _ (words : List ℕ) (round_limit step_limit : ℕ) (output scratch : Lis
   kept_refusal e is =
       let z : run words round_limit step_limit output scratch ≡ leave (refusal (refusal_number e) (refusal_place e)) output scratch = ap (λ x. leave x output scratch) is in
       kept_said (Err e) output scratch (rw z (record { is_end = refl; is_counts = refl; is_output = refl; is_scratch = refl }))
+
+  pub settings_refused : settings_good round_limit (length scratch) ≡ false → RunPromise words round_limit step_limit output scratch (Err Settings) output scratch
+  unfolding comes_to
+  settings_refused h = kept_refusal Settings (rw h)
 
   pub program_refused : (e : rules.Refusal) → settings_good round_limit (length scratch) ≡ true → meaning (Err e) ≡ said (read words) → RunPromise words round_limit step_limit output scratch (Err (Refused e)) output scratch
   unfolding comes_to

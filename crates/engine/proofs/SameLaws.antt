@@ -5,12 +5,8 @@ use mathlib.Core.Bool.{Bool, true, false, ◌||◌, false≢true}
 use mathlib.Core.List.{List, [], ◌∷◌, ◌++◌}
 use mathlib.Core.Logic.{◌⊎◌, inl, inr, ⊎_elim}
 use native.Mathlib.Omega.{arith}
-use lib.Dec.{eqb}
 use lib.ListN.{length, take, drop, length-append, length-drop}
 use lib.Seq.{drop-cons, length-take-le}
-use Rattle.std.specs.Cmp.Lexicographic.{pointwise}
-use Rattle.std.proofs.lemmas.Bool.Decides.{Decides-eqb}
-use Rattle.std.proofs.lemmas.Slice.Eq.{slice_eq-Decides}
 use Rattle.word.specs.Word.{payload, payload_word}
 use Rattle.rules.specs.Lists.{joined}
 use Rattle.rules.specs.Written.{part}
@@ -32,17 +28,26 @@ spells_taken o place (suc n) h =
     let e : suc place ≡ place + 1 = omega arith in
     rw (drop-cons o place 0 l) (refl, rw e (spells_taken o (place + 1) n (omega arith)))
 
--- .. so that a comparison with them tells which words stand there
-pub standing_taken : (o : List ℕ) (place : ℕ) (v : List ℕ) (r : Bool) → place + length v ≤ length o → r ≡ pointwise eqb (take (length v) (drop place o)) v → Standing o place v r
-standing_taken o place v r h e =
-    let there : List ℕ = take (length v) (drop place o) in
-    let stands : Spells o place there = spells_taken o place (length v) h in
-    let long : length there ≡ length v = length-take-le (length v) (drop place o) (omega (arith, length-drop place o)) in
-    let same = slice_eq-Decides Decides-eqb there v r e in
-    record {
-      yes = λ q. subst (Spells o place) (same.0 q) stands;
-      no = λ q s. absurd (false≢true (sym q ∙ same.1 (spells_one o place there v stands s long)));
-    }
+-- words that stand at a place, one by one
+spelled : (o : List ℕ) (place : ℕ) (v : List ℕ) → ((k : ℕ) → k < length v → at o (place + k) ≡ at v k) → Spells o place v
+unfolding Spells
+spelled o place [] h = tt
+spelled o place (x ∷ v) h =
+    let e : place + 0 ≡ place = omega arith in
+    (subst (λ p. at o p ≡ x) e (h 0 (omega arith)), spelled o (place + 1) v (λ k l. let f : place + suc k ≡ place + 1 + k = omega arith in subst (λ p. at o p ≡ at v k) f (h (suc k) (omega arith))))
+
+spells_each : (o : List ℕ) (place : ℕ) (v : List ℕ) → Spells o place v → (k : ℕ) → k < length v → at o (place + k) ≡ at v k
+unfolding Spells
+spells_each o place [] s k l = absurd (omega arith)
+spells_each o place (x ∷ v) s zero l = let e : place ≡ place + 0 = omega arith in subst (λ p. at o p ≡ x) e s.0
+spells_each o place (x ∷ v) s (suc k) l = let f : place + 1 + k ≡ place + suc k = omega arith in subst (λ p. at o p ≡ at v k) f (spells_each o (place + 1) v s.1 k (omega arith))
+
+-- .. so that a comparison of each tells whether they stand there
+pub standing_each : (o : List ℕ) (place : ℕ) (v : List ℕ) (n : ℕ) → length v ≤ n → ((k : ℕ) → k < n → at o (place + k) ≡ at v k) → Standing o place v true
+standing_each o place v n l h = record { yes = λ _. spelled o place v (λ k m. h k (omega arith)); no = λ q. absurd (false≢true (sym q)) }
+
+pub standing_differs : (o : List ℕ) (place : ℕ) (v : List ℕ) (k : ℕ) → k < length v → ¬ (at o (place + k) ≡ at v k) → Standing o place v false
+standing_differs o place v k l d = record { yes = λ q. absurd (false≢true q); no = λ _ s. d (spells_each o place v s k l) }
 
 -- an answer's words, as they are taken from where they stand
 pub stretch_taken : {o : List ℕ} {start next : ℕ} {v : List ℕ} → Stretch o start next v → next ≤ length o → take (next - start) (drop start o) ≡ v

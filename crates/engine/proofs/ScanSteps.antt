@@ -2,6 +2,7 @@
 use Prim.Native.Nat.{ℕ, suc, ◌+◌, ◌<◌}
 use mathlib.Core.Path.{◌≡◌, refl, sym, ap, ◌∙◌}
 use mathlib.Core.Bool.{Bool, true, false}
+use mathlib.Core.Logic.{◌⊎◌, inl, inr}
 use mathlib.Core.List.{List, [], ◌∷◌}
 use native.Mathlib.Omega.{arith}
 use lib.Dec.{eqb, ltb}
@@ -17,8 +18,8 @@ use Rattle.semantics.proofs.SubstitutionLaws.{followed_follow}
 use Rattle.semantics.proofs.ScanLaws.{Leaf}
 use Rattle.engine.specs.Reference.{at, AtomIs, pos_of, base_of, Stands}
 use Rattle.engine.specs.Walk.{PartRead}
-use Rattle.engine.specs.Scan.{LeafWord, TestAs, scan_says}
-use Rattle.engine.specs.Traverse.{Met, EnteredNow}
+use Rattle.engine.specs.Scan.{LeafWord, TestAs, scan_says, ScanAs}
+use Rattle.engine.specs.Traverse.{Met, EnteredNow, SaysAs}
 use Rattle.engine.specs.Entering.{scans}
 use Rattle.engine.specs.Steps.{stops, at_bound, outcome}
 use Rattle.engine.specs.declared.report.Bound.TheVariants.{Waiting}
@@ -113,3 +114,11 @@ unfolding scan_says
 says_alone (Ok (true, left)) go = refl
 says_alone (Ok (false, left)) go = refl
 says_alone (Err stopped) go = refl
+
+-- a scan by itself, which never gives up
+pub scan_alone : (every : Every) (sought : ℕ) (bs : Substitution) (t : Term) (steps : ℕ) (r : Result (Bool × ℕ) Stopped) → SaysAs (scans sought bs) every tt t 0 steps r → ScanAs sought bs t steps r
+scan_alone every sought bs t steps r h test is = h.same (test, is) [] refl ∙ says_alone r _
+
+pub scan_stopped : (every : Every) (sought : ℕ) (bs : Substitution) (t : Term) (steps : ℕ) (stopped : Stopped) → SaysAs (scans sought bs) every tt t 0 steps (Err stopped) ⊎ ⊥ → ScanAs sought bs t steps (Err stopped)
+scan_stopped every sought bs t steps stopped (inl h) = scan_alone every sought bs t steps (Err stopped) h
+scan_stopped every sought bs t steps stopped (inr h) = absurd h

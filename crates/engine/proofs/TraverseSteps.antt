@@ -121,6 +121,12 @@ module _ {S : Type 0} {sought : ℕ} {bs : Substitution} {T : Traversal S sought
           let o = leaf_at to.node (walk bs g.here) there (kind_number_other v.kind Pair m) l in
           record { entered = g.entered; holds = g.holds; same = λ i vs e. g.same i vs e ∙ step_leaf T i g.entered vs g.here left some_left (eqb r sought) o.is (o.tested (T.agrees i)) }
 
+      pub scan_hit : {r : ℕ} → ¬ (v.kind ≡ Pair) → LeafWord v.at v.bits (kind_number v.kind) v.payload r → r ≡ sought → SaysAs T s' es t n steps (Ok (true, left - 1))
+      scan_hit {r} m l z = rw (eq-eqb r sought z) at (scan_leaf m l)
+
+      pub scan_miss : {r : ℕ} → ¬ (v.kind ≡ Pair) → LeafWord v.at v.bits (kind_number v.kind) v.payload r → ¬ (r ≡ sought) → SaysAs T s' es t n steps (Ok (false, left - 1))
+      scan_miss {r} m l z = rw (ne_eqb r sought z) at (scan_leaf m l)
+
       module _ (is_pair : v.kind ≡ Pair) where
         pub pair_here : PairAt to.node (walk bs g.here)
         pair_here = pair_at to.node (walk bs g.here) there (ap kind_number is_pair)
@@ -129,7 +135,7 @@ module _ {S : Type 0} {sought : ℕ} {bs : Substitution} {T : Traversal S sought
         met = record { led = led_to g.follows pair_here.is (to.led bs g.here g.follows pair_here.left pair_here.right pair_here.is); left = pair_here.left; right = pair_here.right; is = pair_here.is }
 
         -- passed, or entered with room for its second part to wait, or without
-        module _ {s'' : S} {entry : Bool} (told : EntersAs T s'' g.here pair_here.left pair_here.right g.entered entry) where
+        module _ {s'' : S} {entry : Bool} (told : EntersAs T s'' g.here pair_here.left pair_here.right g.entered (Ok entry)) where
           pub scan_pass : entry ≡ false → SaysAs T s'' es t n steps (Ok (false, left - 1))
           scan_pass z = let o : PassedNow T s'' g.here g.entered = rw z at told in record { entered = o.entered; holds = o.holds; same = λ i vs e. g.same i vs e ∙ step_pass T i g.entered vs g.here left some_left o }
 
@@ -197,7 +203,7 @@ module _ {S : Type 0} {sought : ℕ} {bs : Substitution} {T : Traversal S sought
         first_miss z = first_clear first_leaf (ne_eqb r sought z)
 
       -- it is a pair: passed ..
-      module _ (is_pair : v.kind ≡ Pair) {s'' : S} {entry : Bool} (told : EntersAs T s'' g.first (pair_here first_starts some_left to is_pair).left (pair_here first_starts some_left to is_pair).right g.entered entry) where
+      module _ (is_pair : v.kind ≡ Pair) {s'' : S} {entry : Bool} (told : EntersAs T s'' g.first (pair_here first_starts some_left to is_pair).left (pair_here first_starts some_left to is_pair).right g.entered (Ok entry)) where
         pub first_passed : entry ≡ false → Scanning T ws s s'' es n steps t y (left - 1)
         first_passed z = first_clear (scan_pass first_starts some_left to is_pair told z) refl
 

@@ -1,14 +1,15 @@
 -- The traversals of a scan and of the occurs check, by the pairs that they enter.
-use Rattle.std.specs.Prelude.{ℕ, ◌≡◌, Bool, true, false, refl, List}
+use Rattle.std.specs.Prelude.{ℕ, ◌≡◌, Bool, true, false, refl, List, []}
 use Rattle.std.proofs.Common.{suc}
 use Rattle.rules.specs.Syntax.{Term, var, atom, pair}
 use Rattle.semantics.specs.Substitution.{Substitution, walk}
 use Rattle.semantics.specs.Steps.{done}
 use Rattle.semantics.specs.Unify.{is_var, occurs_check, scan, scan_next}
-use Rattle.engine.specs.Occurs.{Noted}
+use Rattle.engine.specs.Occurs.{Marks}
 use Rattle.engine.specs.Scan.{TestAs}
 use Rattle.engine.specs.Traverse.{Traversal}
 use Rattle.engine.specs.declared.terms.occurs.Once.{Once}
+use Rattle.engine.specs.declared.terms.occurs.Unmarked.{Unmarked}
 use Rattle.engine.specs.declared.terms.scan.Every.{Every}
 
 -- A scan, of every test that agrees with the word sought, enters each pair.
@@ -27,6 +28,7 @@ scans sought bs = record {
   Asked = (test : Term → Bool) × TestAs sought test;
   Entered = Unit {0};
   Holds = λ _ _. Unit {0};
+  GaveUp = λ _. ⊥;
   test = λ i. i.0;
   run = λ i _ vs u left. scan i.0 bs vs u left;
   agrees = λ i. i.1;
@@ -52,11 +54,27 @@ abbrev pub occurs_checks : (sought : ℕ) (bs : Substitution) → Traversal Once
 occurs_checks x bs = record {
   Asked = TestAs x (is_var x);
   Entered = List ℕ;
-  Holds = λ once es. Noted once.marks es;
+  Holds = λ once es. Marks once.marks es;
+  GaveUp = λ _. ⊥;
   test = λ _. is_var x;
   run = λ _ es vs u left. occurs_check x bs es vs u left;
   agrees = λ i. i;
   without_step = λ _ es vs u. refl;
   at_find = λ _ es vs u left. occurs_at_find x bs es vs u left (walk bs u) refl;
   at_leaf = λ _ es vs u left. occurs_at_leaf x bs es vs u left (walk bs u) refl;
+}
+
+-- Without marks nothing was entered: it gives up where there is a bound variable to enter.
+abbrev pub unmarked_checks : (sought : ℕ) (bs : Substitution) → Traversal Unmarked sought bs
+unmarked_checks x bs = record {
+  Asked = TestAs x (is_var x);
+  Entered = Unit {0};
+  Holds = λ _ _. Unit {0};
+  GaveUp = λ unmarked. unmarked.bound ≡ true;
+  test = λ _. is_var x;
+  run = λ _ _ vs u left. occurs_check x bs [] vs u left;
+  agrees = λ i. i;
+  without_step = λ _ _ vs u. refl;
+  at_find = λ _ _ vs u left. occurs_at_find x bs [] vs u left (walk bs u) refl;
+  at_leaf = λ _ _ vs u left. occurs_at_leaf x bs [] vs u left (walk bs u) refl;
 }

@@ -1,5 +1,5 @@
 -- What the occurs check promises.
-use Rattle.std.specs.Prelude.{ℕ, ◌+◌, ◌/◌, ◌%◌, ◌^◌, ◌<◌, ◌≡◌, Bool, true, false, List, [], eqb, set, Result, Option, Some, None}
+use Rattle.std.specs.Prelude.{ℕ, ◌+◌, ◌/◌, ◌%◌, ◌^◌, ◌<◌, ◌≡◌, Bool, true, false, List, [], eqb, set, Result, Option, Some}
 use Rattle.std.proofs.Math.Option.{Option as MathOption}
 use Rattle.rules.specs.Syntax.{Term}
 use Rattle.semantics.specs.Substitution.{Substitution}
@@ -29,11 +29,6 @@ pub record Marks (ms es : List ℕ) : Type 0 where
 abbrev pub MarkedNow : List ℕ → List ℕ → ℕ → Bool → Type 0
 MarkedNow ms ms' x true = (marked ms x ≡ false) × (ms' ≡ with_mark ms x)
 MarkedNow ms ms' x false = (marked ms x ≡ true) × (ms' ≡ ms)
-
--- there are no words to mark where none was entered
-abbrev pub Noted : Option (List ℕ) → List ℕ → Type 0
-Noted None es = es ≡ []
-Noted (Some ms) es = Marks ms es
 
 -- the way of a term to a pair, by what `walk` tells of it
 pub record Led (through : Option ℕ) (z : MathOption ℕ) : Type 0 where

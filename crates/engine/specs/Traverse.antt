@@ -1,5 +1,5 @@
 -- What a traversal of a followed term promises, of whatever it is asked.
-use Rattle.std.specs.Prelude.{ℕ, suc, ◌≡◌, Bool, true, false, List, ◌∷◌, length, ltb, Result, Option}
+use Rattle.std.specs.Prelude.{ℕ, suc, ◌≡◌, ◌⊎◌, Bool, true, false, List, ◌∷◌, length, ltb, Result, Ok, Err, Option}
 use Rattle.rules.specs.Reading.{choose}
 use Rattle.rules.specs.Syntax.{Term, pair}
 use Rattle.semantics.specs.Substitution.{Substitution, walk}
@@ -11,11 +11,12 @@ use Rattle.engine.specs.Steps.{stops, no_steps, at_bound}
 use Rattle.engine.specs.declared.report.Bound.TheVariants.{Waiting}
 use Rattle.engine.specs.declared.steps.Stopped.{Stopped}
 
--- A traversal of the definitions: `run`, by what is asked and what was entered, and what it comes to at a node of each kind. `Holds` ties what was entered to the code's state.
+-- A traversal of the definitions: `run`, by what is asked and what was entered, and what it comes to at a node of each kind. `Holds` ties what was entered to the code's state, by which `GaveUp` tells that the traversal gave up.
 pub record Traversal (S : Type 0) (sought : ℕ) (bs : Substitution) : Type 1 where
   pub Asked : Type 0
   pub Entered : Type 0
   pub Holds : S → Entered → Type 0
+  pub GaveUp : S → Type 0
   pub test : Asked → Term → Bool
   pub run : Asked → Entered → List Term → Term → ℕ → Outcome Bool
   pub agrees : (i : Asked) → TestAs sought (test i)
@@ -45,12 +46,18 @@ module _ {S : Type 0} {sought : ℕ} {bs : Substitution} (T : Traversal S sought
     pub same : (i : T.Asked) (vs : List Term) (left : ℕ) → T.run i es vs u (suc left) ≡ scan_next vs left (λ us v. T.run i entered us v left)
 
   -- what `enters` says
-  abbrev pub EntersAs : Term → Term → Term → T.Entered → Bool → Type 0
-  EntersAs u a b es true = EnteredNow u a b es
-  EntersAs u a b es false = PassedNow u es
+  abbrev pub EntersAs : Term → Term → Term → T.Entered → Result Bool Stopped → Type 0
+  EntersAs u a b es (Ok true) = EnteredNow u a b es
+  EntersAs u a b es (Ok false) = PassedNow u es
+  EntersAs u a b es (Err stopped) = T.GaveUp s'
 
   -- what it says of t, whatever the nodes that wait, as many as the code counts
   pub record SaysAs (es : T.Entered) (t : Term) (n steps : ℕ) (r : Result (Bool × ℕ) Stopped) : Type 0 where
     pub entered : T.Entered
     pub holds : T.Holds s' entered
     pub same : (i : T.Asked) (vs : List Term) → length vs ≡ n → T.run i es vs t steps ≡ scan_says r vs (T.run i entered)
+
+  -- the same, or that it gave up
+  abbrev pub TraversedAs : T.Entered → Term → ℕ → ℕ → Result (Bool × ℕ) Stopped → Type 0
+  TraversedAs es t n steps (Ok told) = SaysAs es t n steps (Ok told)
+  TraversedAs es t n steps (Err stopped) = SaysAs es t n steps (Err stopped) ⊎ T.GaveUp s'

@@ -10,8 +10,8 @@ use lib.ListN.{length}
 use borrow.Author.Tests.{lt-ltb, le-ltb, le-leb, lt-leb, eq-eqb, ne_eqb, ltb-true, eqb-true}
 use Rattle.std.specs.Prelude.{Result, Ok, Err, IsErrAnd, MatchResult}
 use Rattle.rules.specs.declared.Refusal.{Refusal}
-use Rattle.rules.specs.Syntax.{symbol, number, pair, absento, constrain, call, more}
-use Rattle.rules.specs.Reading.{Reading, found, next, fill, kind_at, payload_at, read_word, read_leaf, read_term, read_one, read_two, read_terms, read_tag, read_absento, read_call, goal_kind, goal_parts, read_goal, read_goals, read_body, read_variables, read_relation, read_relations, two_terms, one_term, of_goals}
+use Rattle.rules.specs.Syntax.{symbol, number, Term, var, atom, pair, empty, absento, constrain, call, more}
+use Rattle.rules.specs.Reading.{Reading, found, next, require, fill, kind_at, payload_at, read_word, read_leaf, read_term, read_one, read_two, read_terms, read_tag, read_absento, read_call, goal_kind, goal_parts, read_goal, read_goals, read_body, read_variables, read_relation, read_relations, two_terms, one_term, of_goals}
 use Rattle.rules.specs.Inner.{ReadOutcome, ends, stops, told, outcome, filled_told, Settles, PartAt}
 use Rattle.rules.proofs.Combine.{ended, next_stops, told_map, require_found, fill_settles}
 use Rattle.rules.proofs.Spelled.{term_some, goal_some}
@@ -65,6 +65,14 @@ word_read k ws at end n e =
     record { before_end = ltb-true at end q₁.0; to = sym z; is_kind = eqb-true _ _ q₂.0; reads = simp (q₁.0, q₂.0) (ap (found (payload_at ws at)) z) }
 
 -- leaves
+pub leaf_variable : (k p vars at : ℕ) (o : ReadOutcome) → k ≡ 0 → o ≡ told (require {A = Term} (ltb p vars) 5 at (λ _. found (var p) (at + 1))) → o ≡ told (read_leaf k p vars at)
+unfolding read_leaf
+leaf_variable k p vars at o e h = rw e h
+
+pub leaf_empty : (k p vars at : ℕ) (o : ReadOutcome) → k ≡ 3 → o ≡ told (require {A = Term} (eqb p 0) 3 at (λ _. found (atom empty) (at + 1))) → o ≡ told (read_leaf k p vars at)
+unfolding read_leaf
+leaf_empty k p vars at o e h = rw e h
+
 pub leaf_atom : (k p vars at : ℕ) → k < 4 → (k ≡ 0 → ⊥) → (k ≡ 3 → ⊥) → ends (at + 1) ≡ told (read_leaf k p vars at)
 unfolding read_leaf
 leaf_atom zero p vars at l z e = absurd (z refl)
@@ -168,13 +176,13 @@ terms_next ws vars at end n l h o r = settle (λ f. read_terms f ws vars at end)
     simp (lt-ltb at end l) (next_ends (read_term g ws vars at end) _ n o (h g (omega arith)) (λ t _. next_map (read_terms g ws vars n end) (λ ts. t ∷ ts) o (r g (omega (arith, a.past, a.within))))))
 
 -- absento and call
-tag_symbol : (ws : List ℕ) (at end n : ℕ) → ends n ≡ told (read_word 1 ws at end) → ends n ≡ told (read_tag ws at end)
+pub tag_symbol : (ws : List ℕ) (at end n : ℕ) → ends n ≡ told (read_word 1 ws at end) → ends n ≡ told (read_tag ws at end)
 unfolding read_tag
 tag_symbol ws at end n h =
     let r = word_read 1 ws at end n h in
     rw (eq-eqb (kind_at ws at) 1 r.is_kind) (next_map (read_word 1 ws at end) symbol (ends n) h)
 
-tag_number : (ws : List ℕ) (at end c q : ℕ) (o : ReadOutcome) → stops c q ≡ told (read_word 1 ws at end) → o ≡ told (read_word 2 ws at end) → o ≡ told (read_tag ws at end)
+pub tag_number : (ws : List ℕ) (at end c q : ℕ) (o : ReadOutcome) → stops c q ≡ told (read_word 1 ws at end) → o ≡ told (read_word 2 ws at end) → o ≡ told (read_tag ws at end)
 unfolding read_tag read_word
 tag_number ws at end c q o h e = go (eqb (kind_at ws at) 1) refl (ltb at end) refl
   where

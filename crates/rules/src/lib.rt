@@ -61,6 +61,8 @@ pub fn check(program: &[u32]) -> Result<(), Refusal>
     if program.is_empty() || MOST_WORDS < program.len() {
         return Err(Condition::WordCount.at(0));
     }
-    reading::read_relations(program)?;
-    calls::check_calls(program)
+    match reading::read_relations(program) {
+        Err(refusal) => Err(refusal),
+        Ok(_) => calls::check_calls(program),
+    }
 }

@@ -1,5 +1,6 @@
 -- Words, after document 01, "Words": the top four bits of a 32-bit word are its kind, the low 28 its payload.
-use Rattle.std.specs.Prelude.{◌≡◌, ℕ, ◌+◌, ◌*◌, ◌/◌, ◌%◌, ◌<◌}
+use Rattle.std.specs.Prelude.{◌≡◌, ℕ, ◌+◌, ◌*◌, ◌/◌, ◌%◌, ◌<◌, List, ◌∷◌, ◌++◌}
+use Rattle.std.specs.Fmt.{decimal}
 use Rattle.std.proofs.Common.{arith}
 
 -- "the top four bits are the kind"
@@ -13,6 +14,10 @@ payload w = w % 268435456
 -- "k:p means kind k with payload p"
 abbrev pub word : ℕ → ℕ → ℕ
 word k p = k * 268435456 + p
+
+-- "k:p means kind k with payload p, both decimal": the codes of its characters, of which 58 is the colon
+abbrev pub word_printed : ℕ → List ℕ
+word_printed w = decimal (kind w) ++ (58 ∷ decimal (payload w))
 
 -- "words from standard input, four bytes each, low byte first"
 abbrev pub from_bytes : ℕ → ℕ → ℕ → ℕ → ℕ

@@ -3,9 +3,9 @@
 
 mod kind;
 
-ghost use Rattle.std.specs.Prelude.{◌≡◌, ◌%◌};
+ghost use Rattle.std.specs.Prelude.{◌≡◌, ◌%◌, Some};
 ghost use Rattle.word.specs.Kind.{kind_number};
-ghost use Rattle.word.specs.Word.{from_bytes, kind, payload, word};
+ghost use Rattle.word.specs.Word.{from_bytes, kind, payload, word, word_printed};
 
 pub use crate::kind::Kind;
 use std::fmt;
@@ -92,6 +92,8 @@ impl Word {
 
 // As document 01 writes a word: its kind's number and its payload.
 impl fmt::Display for Word {
+    ghost output = { λ w. Some (word_printed w.bits) };
+
     fn fmt<W: fmt::Write>(&self, f: &mut fmt::Formatter<W>) -> fmt::Result {
         write!(f, "{}:{}", self.kind().number(), self.payload())
     }

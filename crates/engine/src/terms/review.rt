@@ -55,6 +55,7 @@ fn clashes(
 }
 
 // The kind of the atoms that a type allows, and that of the other type.
+#[inline(always)]
 fn kinds_of_type(kind: Kind) -> (Kind, Kind)
     ensures { (k : Sort) → kind_number kind ≡ sort_kind k → (kind_number result.0 ≡ atom_kind k) × (kind_number result.1 ≡ other_kind k) }
 {
@@ -65,6 +66,7 @@ fn kinds_of_type(kind: Kind) -> (Kind, Kind)
 }
 
 // Does a type fail? On an atom of another kind, on a pair, and on an open variable that the other type reaches.
+#[inline(always)]
 fn type_fails(
     program: &[u32],
     scratch: &[u32],
@@ -87,6 +89,7 @@ fn type_fails(
 }
 
 // An absento's review: fails if the tag is in the term.
+#[inline(always)]
 fn review_absento(
     program: &[u32],
     scratch: &[u32],
@@ -121,6 +124,7 @@ fn review_differ(
 }
 
 // Does the constraint fail? With the steps left: a step, and those of its trial or nodes.
+#[inline(always)]
 pub(crate) fn review(
     program: &[u32],
     scratch: &mut [u32],

@@ -6,7 +6,7 @@ ghost use Rattle.semantics.specs.Substitution.{Substitution};
 ghost use Rattle.engine.specs.Reference.{base_of};
 ghost use Rattle.engine.specs.Walk.{Follows};
 ghost use Rattle.engine.specs.Scan.{LeafWord};
-ghost use Rattle.engine.specs.Traverse.{Traversal, Met, EntersAs, SaysAs};
+ghost use Rattle.engine.specs.Traverse.{Traversal, Met, EntersAs, TraversedAs};
 
 use crate::layout::MOST_NODES;
 use crate::report::Bound;
@@ -29,8 +29,8 @@ pub(crate) fn leaf_word(node: Walked) -> u32
 pub(crate) trait Entering {
     ghost traversal: { (sought : ℕ) → (bs : Substitution) → Traversal Self sought bs };
 
-    // Is a pair entered, of which the last bound variable on the way is told? If so, it is entered now.
-    fn enters(&mut self, through: Option<u32>) -> bool
+    // Is a pair entered, of which the last bound variable on the way is told? If so, it is entered now. A traversal that gives up there says so by a stop, and in its own state.
+    fn enters(&mut self, through: Option<u32>) -> Result<bool, Stopped>
         requires { (bs : Substitution) × (u : Term) × Met bs through u }
         ensures { (sought : ℕ) (bs : Substitution) (u : Term) (m : Met bs through u) (es : (traversal sought bs).Entered)
             → (traversal sought bs).Holds self.old es → EntersAs (traversal sought bs) self.new u m.left m.right es result };
@@ -49,7 +49,7 @@ pub(crate) fn traverse<E: Entering>(
 ) -> Result<(bool, u32), Stopped>
     requires { (bs : Substitution) × (t : Term) × (es : (E.traversal sought bs).Entered) × Follows program.now scratch.now bs term t × (E.traversal sought bs).Holds entering.old es }
     ensures { (bs : Substitution) (t : Term) (es : (E.traversal sought bs).Entered) → Follows program.now scratch.now bs term t
-        → (E.traversal sought bs).Holds entering.old es → SaysAs (E.traversal sought bs) entering.new es t waiting steps result }
+        → (E.traversal sought bs).Holds entering.old es → TraversedAs (E.traversal sought bs) entering.new es t waiting steps result }
 {
     let mut at = term;
     let mut left = steps;
@@ -59,9 +59,13 @@ pub(crate) fn traverse<E: Entering>(
         }
         let node = walk(program, scratch, at);
         if node.kind != Kind::Pair {
-            return Ok((leaf_word(node) == sought, left - 1));
+            if leaf_word(node) == sought {
+                return Ok((true, left - 1));
+            }
+            return Ok((false, left - 1));
         }
-        if !entering.enters(node.through) {
+        let enters_node = entering.enters(node.through)?;
+        if !enters_node {
             return Ok((false, left - 1));
         }
         if MOST_NODES <= waiting {
@@ -80,7 +84,8 @@ pub(crate) fn traverse<E: Entering>(
             }
             continue;
         }
-        if !entering.enters(first.through) {
+        let enters_first = entering.enters(first.through)?;
+        if !enters_first {
             left -= 1;
             continue;
         }

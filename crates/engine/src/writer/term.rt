@@ -99,6 +99,10 @@ pub(crate) fn put_term(
     let mut from = term;
     let mut at = start;
     loop {
+        // Nothing is followed that has no room: a line is compared with each earlier one, within its length.
+        if end <= at {
+            return None;
+        }
         match follow(program, scratch, from) {
             Shape::Open(x) => {
                 return put_variable(scratch, output, x, at, end, write);
@@ -107,9 +111,6 @@ pub(crate) fn put_term(
                 return put_one(output, at, end, bits, write);
             }
             Shape::Pair(first, second) => {
-                if end <= at {
-                    return None;
-                }
                 let next = put_term(program, scratch, output, first, at + 1, end, write)?;
                 at = put_head(output, at, next, Kind::Pair, write)?;
                 from = second;

@@ -1,15 +1,10 @@
 -- `same` compares the words that stand there.
-use Prim.Native.Nat.{◌+◌, ◌-◌}
-use mathlib.Core.Path.{◌≡◌, ap, ◌∙◌}
 use native.Mathlib.Omega.{arith}
-use lib.Dec.{eqb}
-use lib.ListN.{length, take, drop}
-use Rattle.std.specs.Cmp.Lexicographic.{pointwise}
-use Rattle.engine.proofs.SameLaws.{standing_taken}
+use Rattle.engine.proofs.SameLaws.{standing_each, standing_differs}
 use Rattle.engine.proofs.repeats.same.same.Goals as goal
 
+pub returns-then-words-place : goal.returns-then-words-place
+returns-then-words-place c = let a = c.args in standing_differs a.words.now a.place a.answer.now c.loop-i.i (omega (arith, c.loop-i-test.true)) c.if-words-place.true
+
 pub returns : goal.returns
-returns c =
-    let a = c.args in
-    let n : a.place + length a.answer.now - a.place ≡ length a.answer.now = omega arith in
-    standing_taken a.words.now a.place a.answer.now c.eq.result c.requires (c.eq.ensures ∙ ap (λ k. pointwise eqb (take k (drop a.place a.words.now)) a.answer.now) n)
+returns c = let a = c.args in standing_each a.words.now a.place a.answer.now c.loop-i.i (omega (arith, c.loop-i-test.false)) c.loop-i.invariant

@@ -25,6 +25,9 @@ bounds-scratch-variable c = omega (arith, walking_variable c.loop-part.invariant
 pub returns-then-entry-eq0 : goal.returns-then-entry-eq0
 returns-then-entry-eq0 c = walking_open c.loop-part.invariant _ c.part_at-part.ensures (search rules) c.if-entry-eq0.true
 
+pub overflow_sub-position : goal.overflow_sub-position
+overflow_sub-position c = omega (arith, c.if-entry-eq0.false)
+
 pub loop-part-smaller : goal.loop-part-smaller
 loop-part-smaller c = walking_falls c.loop-part.invariant _ c.part_at-part.ensures (search rules) c.if-entry-eq0.false c.requires
 

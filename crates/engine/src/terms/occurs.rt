@@ -105,10 +105,10 @@ fn check_marking(
     Ok((found, left))
 }
 
-// Does the variable occur in the term? With the steps left. It goes along second parts by itself, and into first parts that are pairs, as far as that needs no marks: a long term is gone on
+// Does the variable occur in the term? It goes along second parts by itself, and into first parts that are pairs, as far as that needs no marks: a long term is gone on
 // with from where they are made, and not from its beginning again.
 #[inline(always)]
-pub(crate) fn occurs(
+fn check_pairs(
     program: &[u32],
     scratch: &[u32],
     sought: u32,
@@ -163,4 +163,27 @@ pub(crate) fn occurs(
         left = after;
         at = second;
     }
+}
+
+// Does the variable occur in the term? With the steps left. Most terms that are bound are leaves: they are looked at before the loop, whose registers unification has for itself then.
+#[inline(always)]
+pub(crate) fn occurs(
+    program: &[u32],
+    scratch: &[u32],
+    sought: u32,
+    term: u32,
+    steps: u32,
+) -> Result<(bool, u32), Stopped>
+    requires { (sought < most_variables) × ((bs : Substitution) × (t : Term) × Follows program.now scratch.now bs term t) }
+    ensures { (bs : Substitution) (t : Term) → Follows program.now scratch.now bs term t → OccursAs sought bs t steps result }
+{
+    if steps == 0 {
+        return Err(NO_STEPS);
+    }
+    let node = walk(program, scratch, term);
+    if node.kind != Kind::Pair {
+        return Ok((leaf_word(node) == sought, steps - 1));
+    }
+    let (found, left) = check_pairs(program, scratch, sought, term, steps)?;
+    Ok((found, left))
 }
